@@ -1,0 +1,172 @@
+-- Searches over indices: does a test hold everywhere, somewhere, where first, where last.
+-- "Lowest such slot" and "highest such slot" of document 01 are least and afterLast.
+use mathlib.Core.Path.{_≡_, refl, sym, ap, _∙_, subst}
+use mathlib.Core.Bool.{Bool, true, false, cond, _&&_, _||_, or-false, false≢true, true≢false}
+use mathlib.Core.Logic.{_↔_, _⊎_, ⊎-elim}
+use mathlib.Core.Logic._⊎_.{inl, inr}
+use Prim.Native.Nat.{ℕ, zero, suc, _+_, _-_, _≤_, _<_}
+use native.Mathlib.Omega.{arith}
+use native.Mathlib.Decide.{ℕ-discrete, decLt}
+
+-- the test holds at each index below n
+unfoldable pub all : (ℕ → Bool) → ℕ → Bool
+all p zero = true
+all p (suc n) = all p n && p n
+
+-- the test holds at some index below n
+unfoldable pub any : (ℕ → Bool) → ℕ → Bool
+any p zero = false
+any p (suc n) = any p n || p n
+
+-- of the k indices from i on, the first at which the test holds; i + k where there is none
+unfoldable pub least : (ℕ → Bool) → ℕ → ℕ → ℕ
+least p zero i = i
+least p (suc k) i = cond (p i) i (least p k (suc i))
+
+-- one past the last index below n at which the test holds; 0 where there is none
+unfoldable pub afterLast : (ℕ → Bool) → ℕ → ℕ
+afterLast p zero = zero
+afterLast p (suc n) = cond (p n) (suc n) (afterLast p n)
+
+-- a Bool is one of the two, with the equation at hand
+pub decided : (b : Bool) → (b ≡ true) ⊎ (b ≡ false)
+decided true = inl refl
+decided false = inr refl
+
+pub and-both : (a b : Bool) → a ≡ true → b ≡ true → a && b ≡ true
+and-both true b p q = q
+and-both false b p q = absurd (false≢true p)
+
+pub and-left : (a b : Bool) → a && b ≡ true → a ≡ true
+and-left true b p = refl
+and-left false b p = p
+
+pub and-right : (a b : Bool) → a && b ≡ true → b ≡ true
+and-right true b p = p
+and-right false b p = absurd (false≢true p)
+
+-- what holds below n, and at n, holds below suc n
+pub below-suc : (P : ℕ → Type 0) (n : ℕ) → ((j : ℕ) → j < n → P j) → P n → (j : ℕ) → j < suc n → P j
+below-suc P n below here j h = pick (ℕ-discrete j n)
+  where
+    pick : Dec (j ≡ n) → P j
+    pick (yes e) = subst P (sym e) here
+    pick (no e) = below j (omega arith)
+
+-- all, as a statement about each index
+pub all-law : (p : ℕ → Bool) (n : ℕ) → (all p n ≡ true) ↔ ((j : ℕ) → j < n → p j ≡ true)
+unfolding all
+all-law p zero = (λ e j h. absurd (omega arith), λ h. refl)
+all-law p (suc n) = (
+  λ e. below-suc (λ (j : ℕ). p j ≡ true) n (all-law p n .0 (and-left (all p n) (p n) e)) (and-right (all p n) (p n) e),
+  λ h. and-both (all p n) (p n) (all-law p n .1 (λ j l. h j (omega arith))) (h n (omega arith)),
+)
+
+-- any, as a statement about some index
+pub any-some : (p : ℕ → Bool) (n j : ℕ) → j < n → p j ≡ true → any p n ≡ true
+unfolding any
+any-some p zero j h e = absurd (omega arith)
+any-some p (suc n) j h e = pick (ℕ-discrete j n) (any p n) (λ l. any-some p n j l e)
+  where
+    pick : Dec (j ≡ n) → (a : Bool) → (j < n → a ≡ true) → a || p n ≡ true
+    pick d true f = refl
+    pick (yes i) false f = ap p (sym i) ∙ e
+    pick (no i) false f = absurd (false≢true (f (omega arith)))
+
+pub any-none : (p : ℕ → Bool) (n : ℕ) → ((j : ℕ) → j < n → p j ≡ false) → any p n ≡ false
+unfolding any
+any-none p zero h = refl
+any-none p (suc n) h = rw (any-none p n (λ j l. h j (omega arith))) (h n (omega arith))
+
+pub any-no : (p : ℕ → Bool) (n : ℕ) → any p n ≡ false → (j : ℕ) → j < n → p j ≡ false
+any-no p n e j h = ⊎-elim (λ t. absurd (true≢false (sym (any-some p n j h t) ∙ e))) (λ f. f) (decided (p j))
+
+-- the index that the law of any gives
+pub any-yes : (p : ℕ → Bool) (n : ℕ) → any p n ≡ true → (j : ℕ) × (j < n) × (p j ≡ true)
+unfolding any
+any-yes p zero e = absurd (false≢true e)
+any-yes p (suc n) e = pick (decided (p n)) (any-yes p n)
+  where
+    pick : (p n ≡ true) ⊎ (p n ≡ false) → (any p n ≡ true → (j : ℕ) × (j < n) × (p j ≡ true)) → (j : ℕ) × (j < suc n) × (p j ≡ true)
+    pick (inl t) f = (n, omega arith, t)
+    pick (inr t) f = let r = f (sym (or-false (any p n)) ∙ (ap (λ (b : Bool). any p n || b) (sym t) ∙ e)) in (r .0, omega (arith, r .1), r .2)
+
+-- m is the first index from i on, below e, at which the test holds, or e where there is none
+pub record Least (p : ℕ → Bool) (i e m : ℕ) : Type 0 where
+  pub low : i ≤ m
+  pub high : m ≤ e
+  pub before : (j : ℕ) → i ≤ j → j < m → p j ≡ false
+  pub hit : m < e → p m ≡ true
+
+pub least-law : (p : ℕ → Bool) (k i : ℕ) → Least p i (i + k) (least p k i)
+unfolding least
+least-law p zero i = record { low = omega arith; high = omega arith; before = λ j l r. absurd (omega arith); hit = λ l. absurd (omega arith) }
+least-law p (suc k) i = pick (decided (p i)) (least-law p k (suc i))
+  where
+    pick : (p i ≡ true) ⊎ (p i ≡ false) → Least p (suc i) (suc i + k) (least p k (suc i)) → Least p i (i + suc k) (cond (p i) i (least p k (suc i)))
+    pick (inl t) r = rw t record { low = omega arith; high = omega arith; before = λ j l u. absurd (omega arith); hit = λ l. t }
+    pick (inr t) r =
+        rw t record {
+          low = omega arith;
+          high = omega arith;
+          before = λ j l u. from j l u (ℕ-discrete j i);
+          hit = λ l. r .hit (omega arith);
+        }
+      where
+        from : (j : ℕ) → i ≤ j → j < least p k (suc i) → Dec (j ≡ i) → p j ≡ false
+        from j l u (yes e) = ap p e ∙ t
+        from j l u (no e) = r .before j (omega arith) u
+
+pub least-unique : {p : ℕ → Bool} {i e m n : ℕ} → Least p i e m → Least p i e n → m ≡ n
+least-unique {p} {i} {e} {m} {n} a b = pick (decLt m n) (decLt n m)
+  where
+    pick : Dec (m < n) → Dec (n < m) → m ≡ n
+    pick (yes l) d = absurd (true≢false (sym (a .hit (omega (arith, b .high))) ∙ b .before m (a .low) l))
+    pick (no l) (yes r) = absurd (true≢false (sym (b .hit (omega (arith, a .high))) ∙ a .before n (b .low) r))
+    pick (no l) (no r) = omega arith
+
+-- a search loop that counts up from 0 ends in one of two ways
+pub least-at : (p : ℕ → Bool) (n i : ℕ) → i < n → ((j : ℕ) → j < i → p j ≡ false) → p i ≡ true → least p n 0 ≡ i
+least-at p n i h f t =
+    least-unique (least-law p n 0) (record { low = omega arith; high = omega arith; before = λ j l r. f j r; hit = λ l. t })
+
+pub least-none : (p : ℕ → Bool) (n : ℕ) → ((j : ℕ) → j < n → p j ≡ false) → least p n 0 ≡ n
+least-none p n f =
+    least-unique (least-law p n 0)
+    (record { low = omega arith; high = omega arith; before = λ j l r. f j (omega arith); hit = λ l. absurd (omega arith) })
+
+-- m is one past the last index below n at which the test holds, or 0 where there is none
+pub record AfterLast (p : ℕ → Bool) (n m : ℕ) : Type 0 where
+  pub high : m ≤ n
+  pub after : (j : ℕ) → m ≤ j → j < n → p j ≡ false
+  pub hit : (j : ℕ) → suc j ≡ m → p j ≡ true
+
+pub after-last-law : (p : ℕ → Bool) (n : ℕ) → AfterLast p n (afterLast p n)
+unfolding afterLast
+after-last-law p zero = record { high = omega arith; after = λ j l r. absurd (omega arith); hit = λ j e. absurd (omega arith) }
+after-last-law p (suc n) = pick (decided (p n)) (after-last-law p n)
+  where
+    pick : (p n ≡ true) ⊎ (p n ≡ false) → AfterLast p n (afterLast p n) → AfterLast p (suc n) (cond (p n) (suc n) (afterLast p n))
+    pick (inl t) r = rw t record { high = omega arith; after = λ j l u. absurd (omega arith); hit = λ j e. let f : j ≡ n = omega arith in ap p f ∙ t }
+    pick (inr t) r =
+        rw t record {
+          high = omega (arith, r .high);
+          after = λ j l u. from j l u (ℕ-discrete j n);
+          hit = r .hit;
+        }
+      where
+        from : (j : ℕ) → afterLast p n ≤ j → j < suc n → Dec (j ≡ n) → p j ≡ false
+        from j l u (yes e) = ap p e ∙ t
+        from j l u (no e) = r .after j l (omega arith)
+
+pub after-last-unique : {p : ℕ → Bool} {n m l : ℕ} → AfterLast p n m → AfterLast p n l → m ≡ l
+after-last-unique {p} {n} {m} {l} a b = pick m l a b (decLt m l) (decLt l m)
+  where
+    later : (m l : ℕ) → AfterLast p n m → AfterLast p n l → m < l → ⊥
+    later m zero a b h = omega arith
+    later m (suc l) a b h = true≢false (sym (b .hit l refl) ∙ a .after l (omega arith) (omega (arith, b .high)))
+
+    pick : (m l : ℕ) → AfterLast p n m → AfterLast p n l → Dec (m < l) → Dec (l < m) → m ≡ l
+    pick m l a b (yes h) d = absurd (later m l a b h)
+    pick m l a b (no g) (yes h) = absurd (later l m b a h)
+    pick m l a b (no g) (no h) = omega arith
