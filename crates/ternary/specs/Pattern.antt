@@ -1,0 +1,114 @@
+-- Patterns of any number of words: match, overlap, value within mask. Document 01's sentences, and the tests that decide them.
+-- A value, a mask and a key are read word by word, word 0 the highest; w is the number of words.
+use mathlib.Core.Path.{_≡_, refl, sym, ap, _∙_}
+use mathlib.Core.Bool.{Bool, true}
+use mathlib.Core.Logic.{_↔_}
+use Prim.Native.Nat.{ℕ, _^_, _<_}
+use native.Mathlib.Decide.{ℕ-discrete}
+use Rattle.search.specs.Search.{all, all-law}
+use Rattle.ternary.specs.Bit.{bit}
+use Rattle.ternary.specs.Word.{agree, agree-law, inside, inside-law, both, both-law, common, common-left, common-right, common-fits}
+
+-- the words of a value, of a mask or of a key
+abbrev pub Words : Type 0
+Words = ℕ → ℕ
+
+-- document 01: a key matches when it equals the value at all bits cared for
+abbrev pub Matches : ℕ → Words → Words → Words → Type 0
+Matches w key value mask = (j : ℕ) → j < w → (i : ℕ) → bit (mask j) i ≡ 1 → bit (key j) i ≡ bit (value j) i
+
+-- bit i of word j is cared for by both with different values
+abbrev pub Clash : Words → Words → Words → Words → ℕ → ℕ → Type 0
+Clash value mask value′ mask′ j i = (bit (mask j) i ≡ 1) × (bit (mask′ j) i ≡ 1) × (bit (value j) i ≡ bit (value′ j) i → ⊥)
+
+-- document 01: two rules overlap when no bit position is cared for by both with different values
+abbrev pub Overlap : ℕ → Words → Words → Words → Words → Type 0
+Overlap w value mask value′ mask′ = (j : ℕ) → j < w → (i : ℕ) → Clash value mask value′ mask′ j i → ⊥
+
+-- document 01: a value bit outside the mask must be 0
+abbrev pub Within : ℕ → Words → Words → Type 0
+Within w value mask = (j : ℕ) → j < w → (i : ℕ) → bit (mask j) i ≡ 0 → bit (value j) i ≡ 0
+
+-- the tests, a word at a time
+unfoldable pub matches : ℕ → Words → Words → Words → Bool
+matches w key value mask = all (λ (j : ℕ). agree (key j) (value j) (mask j)) w
+
+unfoldable pub overlaps : ℕ → Words → Words → Words → Words → Bool
+overlaps w value mask value′ mask′ = all (λ (j : ℕ). agree (value j) (value′ j) (both (mask j) (mask′ j))) w
+
+unfoldable pub within : ℕ → Words → Words → Bool
+within w value mask = all (λ (j : ℕ). inside (value j) (mask j)) w
+
+-- a test over all words says what each word's test says
+each : (p : ℕ → Bool) (P : ℕ → Type 0) → ((j : ℕ) → (p j ≡ true) ↔ P j) → (w : ℕ) → (all p w ≡ true) ↔ ((j : ℕ) → j < w → P j)
+each p P law w = (λ e j h. law j .0 (all-law p w .0 e j h), λ f. all-law p w .1 (λ j h. law j .1 (f j h)))
+
+pub matches-law : (w : ℕ) (key value mask : Words) → (matches w key value mask ≡ true) ↔ Matches w key value mask
+unfolding matches
+matches-law w key value mask =
+    each (λ (j : ℕ). agree (key j) (value j) (mask j)) (λ (j : ℕ). (i : ℕ) → bit (mask j) i ≡ 1 → bit (key j) i ≡ bit (value j) i)
+    (λ j. agree-law (key j) (value j) (mask j)) w
+
+pub within-law : (w : ℕ) (value mask : Words) → (within w value mask ≡ true) ↔ Within w value mask
+unfolding within
+within-law w value mask =
+    each (λ (j : ℕ). inside (value j) (mask j)) (λ (j : ℕ). (i : ℕ) → bit (mask j) i ≡ 0 → bit (value j) i ≡ 0)
+    (λ j. inside-law (value j) (mask j)) w
+
+-- values that agree at the bits of both masks are values that clash at no bit
+no-clash : (value mask value′ mask′ : Words) (j : ℕ)
+    → (agree (value j) (value′ j) (both (mask j) (mask′ j)) ≡ true) ↔ ((i : ℕ) → Clash value mask value′ mask′ j i → ⊥)
+no-clash value mask value′ mask′ j =
+    let l = agree-law (value j) (value′ j) (both (mask j) (mask′ j)) in
+    (λ e i c. c .2 (l .0 e i (both-law (mask j) (mask′ j) i .1 (c .0, c .1))),
+     λ h. l .1 (λ i m. let p = both-law (mask j) (mask′ j) i .0 m in pick i p (h i) (ℕ-discrete (bit (value j) i) (bit (value′ j) i))))
+  where
+    pick : (i : ℕ) → (bit (mask j) i ≡ 1) × (bit (mask′ j) i ≡ 1) → (Clash value mask value′ mask′ j i → ⊥)
+        → Dec (bit (value j) i ≡ bit (value′ j) i) → bit (value j) i ≡ bit (value′ j) i
+    pick i p h (yes e) = e
+    pick i p h (no e) = absurd (h (p .0, p .1, e))
+
+pub overlaps-law : (w : ℕ) (value mask value′ mask′ : Words)
+    → (overlaps w value mask value′ mask′ ≡ true) ↔ Overlap w value mask value′ mask′
+unfolding overlaps
+overlaps-law w value mask value′ mask′ =
+    each (λ (j : ℕ). agree (value j) (value′ j) (both (mask j) (mask′ j))) (λ (j : ℕ). (i : ℕ) → Clash value mask value′ mask′ j i → ⊥)
+    (no-clash value mask value′ mask′) w
+
+-- a key that two overlapping patterns both match
+unfoldable pub commonKey : Words → Words → Words → Words → Words
+commonKey value mask value′ mask′ j = common (value j) (mask j) (value′ j) (mask′ j)
+
+pub common-matches : (w : ℕ) (value mask value′ mask′ : Words) → overlaps w value mask value′ mask′ ≡ true
+    → (matches w (commonKey value mask value′ mask′) value mask ≡ true) × (matches w (commonKey value mask value′ mask′) value′ mask′ ≡ true)
+unfolding matches overlaps commonKey
+common-matches w value mask value′ mask′ e =
+    let at = all-law (λ (j : ℕ). agree (value j) (value′ j) (both (mask j) (mask′ j))) w .0 e in
+    (all-law (λ (j : ℕ). agree (common (value j) (mask j) (value′ j) (mask′ j)) (value j) (mask j)) w .1
+        (λ j h. common-left (value j) (mask j) (value′ j) (mask′ j) (at j h)),
+     all-law (λ (j : ℕ). agree (common (value j) (mask j) (value′ j) (mask′ j)) (value′ j) (mask′ j)) w .1
+        (λ j h. common-right (value j) (mask j) (value′ j) (mask′ j) (at j h)))
+
+-- two patterns that one key matches overlap
+pub matched-overlap : (w : ℕ) (key value mask value′ mask′ : Words) → matches w key value mask ≡ true → matches w key value′ mask′ ≡ true
+    → overlaps w value mask value′ mask′ ≡ true
+matched-overlap w key value mask value′ mask′ e f =
+    let a = matches-law w key value mask .0 e in
+    let b = matches-law w key value′ mask′ .0 f in
+    overlaps-law w value mask value′ mask′ .1 (λ j h i c. c .2 (sym (a j h i (c .0)) ∙ b j h i (c .1)))
+
+-- two patterns overlap exactly when some key matches both
+pub overlap-key : (w : ℕ) (value mask value′ mask′ : Words)
+    → (overlaps w value mask value′ mask′ ≡ true)
+    ↔ ((key : Words) × (matches w key value mask ≡ true) × (matches w key value′ mask′ ≡ true))
+overlap-key w value mask value′ mask′ =
+    (λ e. let m = common-matches w value mask value′ mask′ e in (commonKey value mask value′ mask′, m .0, m .1),
+     λ k. matched-overlap w (k .0) value mask value′ mask′ (k .1) (k .2))
+
+-- that key's words have as many bits as the patterns' words
+pub common-key-fits : (k w : ℕ) (value mask value′ mask′ : Words)
+    → ((j : ℕ) → j < w → (value j < 2 ^ k) × (mask j < 2 ^ k) × (value′ j < 2 ^ k) × (mask′ j < 2 ^ k))
+    → (j : ℕ) → j < w → commonKey value mask value′ mask′ j < 2 ^ k
+unfolding commonKey
+common-key-fits k w value mask value′ mask′ f j h =
+    let r = f j h in common-fits k (value j) (mask j) (value′ j) (mask′ j) (r .0) (r .2) (r .1) (r .3)
