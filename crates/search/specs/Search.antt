@@ -45,6 +45,15 @@ pub and-right : (a b : Bool) → a && b ≡ true → b ≡ true
 and-right true b p = p
 and-right false b p = absurd (false≢true p)
 
+-- the code's `if a { return b; } false`, a test x for a and a test y for b
+pub and-more : {a b x y : Bool} → a ≡ x → a ≡ true → b ≡ y → b ≡ x && y
+and-more {x = true} {y} p t q = q
+and-more {x = false} {y} p t q = absurd (false≢true (sym p ∙ t))
+
+pub and-stop : {a x : Bool} (y : Bool) → a ≡ x → a ≡ false → false ≡ x && y
+and-stop {x = true} y p t = absurd (false≢true (sym t ∙ p))
+and-stop {x = false} y p t = refl
+
 -- what holds below n, and at n, holds below suc n
 pub below-suc : (P : ℕ → Type 0) (n : ℕ) → ((j : ℕ) → j < n → P j) → P n → (j : ℕ) → j < suc n → P j
 below-suc P n below here j h = pick (ℕ-discrete j n)
@@ -134,6 +143,16 @@ pub least-none : (p : ℕ → Bool) (n : ℕ) → ((j : ℕ) → j < n → p j �
 least-none p n f =
     least-unique (least-law p n 0)
     (record { low = omega arith; high = omega arith; before = λ j l r. f j (omega arith); hit = λ l. absurd (omega arith) })
+
+-- the invariant of a search loop that counts up: the test has held nowhere below i
+abbrev pub NoneBelow : (ℕ → Bool) → ℕ → ℕ → Type 0
+NoneBelow p n i = (i ≤ n) × ((k : ℕ) → k < i → p k ≡ false)
+
+pub none-start : (p : ℕ → Bool) (n : ℕ) → NoneBelow p n 0
+none-start p n = (omega arith, λ k h. absurd (omega arith))
+
+pub none-more : (p : ℕ → Bool) (n i : ℕ) → NoneBelow p n i → i < n → p i ≡ false → NoneBelow p n (i + 1)
+none-more p n i inv h f = (omega arith, λ k l. below-suc (λ (j : ℕ). p j ≡ false) i (inv .1) f k (omega arith))
 
 -- m is one past the last index below n at which the test holds, or 0 where there is none
 pub record AfterLast (p : ℕ → Bool) (n m : ℕ) : Type 0 where

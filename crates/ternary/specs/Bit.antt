@@ -27,9 +27,9 @@ differ-lt (suc x) (suc y) hx hy = differ-lt x y (omega arith) (omega arith)
 
 -- one law for the three operators: op works on digits by f, and passes a shift on
 module _
-  (op f : ℕ → ℕ → ℕ) (bounded : (x y : ℕ) → x < 2 → y < 2 → f x y < 2)
-  (step : (a b : ℕ) → op a b ≡ op (a / 2) (b / 2) * 2 + f (a % 2) (b % 2))
-  (shift : (a b k : ℕ) → op a b / 2 ^ k ≡ op (a / 2 ^ k) (b / 2 ^ k)) where
+    (op f : ℕ → ℕ → ℕ) (bounded : (x y : ℕ) → x < 2 → y < 2 → f x y < 2)
+    (step : (a b : ℕ) → op a b ≡ op (a / 2) (b / 2) * 2 + f (a % 2) (b % 2))
+    (shift : (a b k : ℕ) → op a b / 2 ^ k ≡ op (a / 2 ^ k) (b / 2 ^ k)) where
   bit-op : (a b i : ℕ) → bit (op a b) i ≡ f (bit a i) (bit b i)
   unfolding bit
   bit-op a b i =

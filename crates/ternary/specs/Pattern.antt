@@ -59,9 +59,10 @@ within-law w value mask =
 no-clash : (value mask value′ mask′ : Words) (j : ℕ)
     → (agree (value j) (value′ j) (both (mask j) (mask′ j)) ≡ true) ↔ ((i : ℕ) → Clash value mask value′ mask′ j i → ⊥)
 no-clash value mask value′ mask′ j =
-    let l = agree-law (value j) (value′ j) (both (mask j) (mask′ j)) in
-    (λ e i c. c .2 (l .0 e i (both-law (mask j) (mask′ j) i .1 (c .0, c .1))),
-     λ h. l .1 (λ i m. let p = both-law (mask j) (mask′ j) i .0 m in pick i p (h i) (ℕ-discrete (bit (value j) i) (bit (value′ j) i))))
+    let l = agree-law (value j) (value′ j) (both (mask j) (mask′ j)) in (
+      λ e i c. c .2 (l .0 e i (both-law (mask j) (mask′ j) i .1 (c .0, c .1))),
+      λ h. l .1 (λ i m. let p = both-law (mask j) (mask′ j) i .0 m in pick i p (h i) (ℕ-discrete (bit (value j) i) (bit (value′ j) i))),
+    )
   where
     pick : (i : ℕ) → (bit (mask j) i ≡ 1) × (bit (mask′ j) i ≡ 1) → (Clash value mask value′ mask′ j i → ⊥)
         → Dec (bit (value j) i ≡ bit (value′ j) i) → bit (value j) i ≡ bit (value′ j) i
@@ -83,11 +84,12 @@ pub common-matches : (w : ℕ) (value mask value′ mask′ : Words) → overlap
     → (matches w (commonKey value mask value′ mask′) value mask ≡ true) × (matches w (commonKey value mask value′ mask′) value′ mask′ ≡ true)
 unfolding matches overlaps commonKey
 common-matches w value mask value′ mask′ e =
-    let at = all-law (λ (j : ℕ). agree (value j) (value′ j) (both (mask j) (mask′ j))) w .0 e in
-    (all-law (λ (j : ℕ). agree (common (value j) (mask j) (value′ j) (mask′ j)) (value j) (mask j)) w .1
-        (λ j h. common-left (value j) (mask j) (value′ j) (mask′ j) (at j h)),
-     all-law (λ (j : ℕ). agree (common (value j) (mask j) (value′ j) (mask′ j)) (value′ j) (mask′ j)) w .1
-        (λ j h. common-right (value j) (mask j) (value′ j) (mask′ j) (at j h)))
+    let at = all-law (λ (j : ℕ). agree (value j) (value′ j) (both (mask j) (mask′ j))) w .0 e in (
+      all-law (λ (j : ℕ). agree (common (value j) (mask j) (value′ j) (mask′ j)) (value j) (mask j)) w .1
+          (λ j h. common-left (value j) (mask j) (value′ j) (mask′ j) (at j h)),
+      all-law (λ (j : ℕ). agree (common (value j) (mask j) (value′ j) (mask′ j)) (value′ j) (mask′ j)) w .1
+          (λ j h. common-right (value j) (mask j) (value′ j) (mask′ j) (at j h)),
+    )
 
 -- two patterns that one key matches overlap
 pub matched-overlap : (w : ℕ) (key value mask value′ mask′ : Words) → matches w key value mask ≡ true → matches w key value′ mask′ ≡ true
@@ -101,9 +103,10 @@ matched-overlap w key value mask value′ mask′ e f =
 pub overlap-key : (w : ℕ) (value mask value′ mask′ : Words)
     → (overlaps w value mask value′ mask′ ≡ true)
     ↔ ((key : Words) × (matches w key value mask ≡ true) × (matches w key value′ mask′ ≡ true))
-overlap-key w value mask value′ mask′ =
-    (λ e. let m = common-matches w value mask value′ mask′ e in (commonKey value mask value′ mask′, m .0, m .1),
-     λ k. matched-overlap w (k .0) value mask value′ mask′ (k .1) (k .2))
+overlap-key w value mask value′ mask′ = (
+  λ e. let m = common-matches w value mask value′ mask′ e in (commonKey value mask value′ mask′, m .0, m .1),
+  λ k. matched-overlap w (k .0) value mask value′ mask′ (k .1) (k .2),
+)
 
 -- that key's words have as many bits as the patterns' words
 pub common-key-fits : (k w : ℕ) (value mask value′ mask′ : Words)

@@ -44,9 +44,10 @@ agree-digit a b (suc m) h =
     (λ e f. differ-zero a b .0 (omega arith), λ f. let z : differ a b ≡ 0 = differ-zero a b .1 (f (omega arith)) in omega arith)
 
 inside-digit : (v m : ℕ) → v < 2 → m < 2 → (differ (min v m) v ≡ 0) ↔ (m ≡ 0 → v ≡ 0)
-inside-digit v m h k =
-    (λ e f. let same : min v m ≡ v = differ-zero (min v m) v .0 e in omega arith,
-     λ f. differ-zero (min v m) v .1 (pick (ℕ-discrete m 0) f))
+inside-digit v m h k = (
+  λ e f. let same : min v m ≡ v = differ-zero (min v m) v .0 e in omega arith,
+  λ f. differ-zero (min v m) v .1 (pick (ℕ-discrete m 0) f),
+)
   where
     pick : Dec (m ≡ 0) → (m ≡ 0 → v ≡ 0) → min v m ≡ v
     pick (yes e) f = let z : v ≡ 0 = f e in omega arith
@@ -55,24 +56,28 @@ inside-digit v m h k =
 -- agree: at each bit of m the two are equal
 pub agree-law : (a b m : ℕ) → (agree a b m ≡ true) ↔ ((i : ℕ) → bit m i ≡ 1 → bit a i ≡ bit b i)
 unfolding agree
-agree-law a b m =
-    (λ e i. agree-digit (bit a i) (bit b i) (bit m i) (bit-lt m i) .0 (sym (at i) ∙ test-law word .0 e i),
-     λ h. test-law word .1 (λ i. at i ∙ agree-digit (bit a i) (bit b i) (bit m i) (bit-lt m i) .1 (h i)))
+agree-law a b m = (
+  λ e i. agree-digit (bit a i) (bit b i) (bit m i) (bit-lt m i) .0 (sym (at i) ∙ test-law word .0 e i),
+  λ h. test-law word .1 (λ i. at i ∙ agree-digit (bit a i) (bit b i) (bit m i) (bit-lt m i) .1 (h i)),
+)
   where
     word : ℕ
     word = bitAnd (bitXor a b) m
+
     at : (i : ℕ) → bit (bitAnd (bitXor a b) m) i ≡ min (differ (bit a i) (bit b i)) (bit m i)
     at i = bit-and (bitXor a b) m i ∙ ap (λ (x : ℕ). min x (bit m i)) (bit-xor a b i)
 
 -- inside: at each bit outside m, v is 0
 pub inside-law : (v m : ℕ) → (inside v m ≡ true) ↔ ((i : ℕ) → bit m i ≡ 0 → bit v i ≡ 0)
 unfolding inside
-inside-law v m =
-    (λ e i. inside-digit (bit v i) (bit m i) (bit-lt v i) (bit-lt m i) .0 (sym (at i) ∙ test-law word .0 e i),
-     λ h. test-law word .1 (λ i. at i ∙ inside-digit (bit v i) (bit m i) (bit-lt v i) (bit-lt m i) .1 (h i)))
+inside-law v m = (
+  λ e i. inside-digit (bit v i) (bit m i) (bit-lt v i) (bit-lt m i) .0 (sym (at i) ∙ test-law word .0 e i),
+  λ h. test-law word .1 (λ i. at i ∙ inside-digit (bit v i) (bit m i) (bit-lt v i) (bit-lt m i) .1 (h i)),
+)
   where
     word : ℕ
     word = bitXor (bitAnd v m) v
+
     at : (i : ℕ) → bit (bitXor (bitAnd v m) v) i ≡ differ (min (bit v i) (bit m i)) (bit v i)
     at i = bit-xor (bitAnd v m) v i ∙ ap (λ (x : ℕ). differ x (bit v i)) (bit-and v m i)
 

@@ -1,0 +1,18 @@
+use Rattle.records.specs.Checks.{checkShape, shaped}
+use Rattle.records.proofs.checks.check_shape.Statement.{statement}
+use Rattle.records.proofs.checks.check_shape.Tie as tie
+use Rattle.records.proofs.checks.check_shape.Reads as reads
+use Rattle.records.proofs.checks.check_shape.Lts as lts
+
+-- src/checks.rt:19:9
+returns : tie.Need-returns
+unfolding checkShape shaped
+returns c = rw (c .if1 .taken)
+
+-- src/checks.rt:13:1
+returns-2 : tie.Need-returns-2
+unfolding checkShape shaped
+returns-2 c = rw (c .if1 .left)
+
+pub check-shape-spec : {M : Type 1} → statement M
+check-shape-spec = tie.close (tie.spec returns returns-2)

@@ -1,0 +1,92 @@
+-- Checks 1 to 4 of document 01, each with the lowest slot that fails it, and the first match of a key.
+-- A check is a row of the refusal table: it passes, or fails with its cause and spot.
+use mathlib.Core.Path.{_≡_}
+use mathlib.Core.Bool.{Bool, true, false, not, cond, _&&_}
+use mathlib.Core.List.{List}
+use Prim.Native.Nat.{ℕ, _+_, _*_, _/_, _%_, _<_}
+use lib.Dec.{eqb, ltb, leb}
+use lib.ListN.{length}
+use native.Mathlib.Omega.{arith}
+use borrow.Author.Tests.{lt-ltb, le-ltb}
+use Rattle.search.specs.Search.{any, least, least-at, least-none}
+use Rattle.ternary.specs.Pattern.{Words}
+use Rattle.records.specs.Record.{recordWords, slotWords, occupied, sound, slotMatches}
+use Rattle.records.specs.Order.{slots, sameId, misordered}
+use Rattle.records.specs.declared.Cause.{Cause}
+use Rattle.records.specs.declared.Cause.the-variants.{Shape, Record, Twice, Order, Rule, Known, Unknown, Tie, Full, Crossed, Short, Write, Line, Image}
+use Rattle.records.specs.declared.Check.{Check}
+use Rattle.records.specs.declared.Check.the-variants.{Pass, Fail}
+
+-- document 01's number of each cause
+abbrev pub causeNumber : Cause → ℕ
+causeNumber Shape = 1
+causeNumber Record = 2
+causeNumber Twice = 3
+causeNumber Order = 4
+causeNumber Rule = 5
+causeNumber Known = 6
+causeNumber Unknown = 7
+causeNumber Tie = 8
+causeNumber Full = 9
+causeNumber Crossed = 10
+causeNumber Short = 11
+causeNumber Write = 12
+causeNumber Line = 13
+causeNumber Image = 14
+
+-- the first check that fails decides
+abbrev pub orElse : Check → Check → Check
+orElse Pass next = next
+orElse (Fail cause spot) next = Fail cause spot
+
+-- fails at the lowest slot, of n, where the test holds
+unfoldable pub lowest : Cause → (ℕ → Bool) → ℕ → Check
+lowest cause p n = cond (ltb (least p n 0) n) (Fail cause (least p n 0)) Pass
+
+-- a loop over the slots ends in one of two ways
+pub lowest-at : (cause : Cause) (p : ℕ → Bool) (n i : ℕ) → i < n → ((j : ℕ) → j < i → p j ≡ false) → p i ≡ true → Fail cause i ≡ lowest cause p n
+unfolding lowest
+lowest-at cause p n i h f t = let e = least-at p n i h f t in rw (e, lt-ltb i n h)
+
+pub lowest-none : (cause : Cause) (p : ℕ → Bool) (n : ℕ) → ((j : ℕ) → j < n → p j ≡ false) → Pass ≡ lowest cause p n
+unfolding lowest
+lowest-none cause p n f = let e = least-none p n f in rw (e, le-ltb n n (omega arith))
+
+-- 1: the table's words are not a record's words × (1 to 1,024)
+unfoldable pub shaped : ℕ → List ℕ → Bool
+shaped w t = eqb (length t % recordWords w) 0 && leb 1 (slots w t) && leb (slots w t) 1024
+
+unfoldable pub checkShape : ℕ → List ℕ → Check
+checkShape w t = cond (shaped w t) Pass (Fail Shape 0)
+
+-- 2: a slot neither empty nor a sound rule
+unfoldable pub unsoundAt : ℕ → List ℕ → ℕ → Bool
+unsoundAt w t i = not (sound w (slotWords w t i)) && occupied w (slotWords w t i)
+
+unfoldable pub checkRecords : ℕ → List ℕ → Check
+checkRecords w t = lowest Record (unsoundAt w t) (slots w t)
+
+-- 3: an id also in an earlier slot
+unfoldable pub twiceAt : ℕ → List ℕ → ℕ → Bool
+twiceAt w t j = any (λ (i : ℕ). sameId w (slotWords w t i) (slotWords w t j)) j
+
+unfoldable pub checkTwice : ℕ → List ℕ → Check
+checkTwice w t = lowest Twice (twiceAt w t) (slots w t)
+
+-- 4: an earlier overlapping rule has no higher priority
+unfoldable pub disorderAt : ℕ → List ℕ → ℕ → Bool
+disorderAt w t j = any (λ (i : ℕ). misordered w (slotWords w t i) (slotWords w t j)) j
+
+unfoldable pub checkOrder : ℕ → List ℕ → Check
+checkOrder w t = lowest Order (disorderAt w t) (slots w t)
+
+-- checks 1 and 2, which every call makes first; checks 1 to 4, which a sound table passes
+unfoldable pub slotChecks : ℕ → List ℕ → Check
+slotChecks w t = orElse (checkShape w t) (checkRecords w t)
+
+unfoldable pub tableChecks : ℕ → List ℕ → Check
+tableChecks w t = orElse (slotChecks w t) (orElse (checkTwice w t) (checkOrder w t))
+
+-- the lowest-numbered slot that matches a key; the number of slots where none does
+unfoldable pub firstMatch : ℕ → List ℕ → Words → ℕ
+firstMatch w t key = least (λ (i : ℕ). slotMatches w key (slotWords w t i)) (slots w t) 0

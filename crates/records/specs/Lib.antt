@@ -1,0 +1,6 @@
+-- What the words of a lent table mean: slot records, rules, order, the first match, and the checks that refuse a table.
+-- Record: one slot. Order: two records, and a table's order. Checks: checks 1 to 4 of document 01 and the first match.
+pub mod Record
+pub mod Order
+pub mod Checks
+pub mod Laws

@@ -1,0 +1,37 @@
+-- Two records side by side: overlap, precedence, one id in two slots, and which pair is out of order. A table's order.
+-- Copies of one id are not compared with each other, so that these definitions hold in the middle of a plan too.
+use mathlib.Core.Path.{_≡_}
+use mathlib.Core.Bool.{Bool, true, false, not, _&&_}
+use mathlib.Core.List.{List}
+use Prim.Native.Nat.{ℕ, _/_, _<_}
+use lib.Dec.{eqb, ltb, leb}
+use lib.ListN.{length}
+use Rattle.ternary.specs.Pattern.{Words, overlaps}
+use Rattle.records.specs.Record.{recordWords, slotWords, value, mask, ident, rank, occupied}
+
+-- how many slots a table has
+abbrev pub slots : ℕ → List ℕ → ℕ
+slots w t = length t / recordWords w
+
+abbrev pub overlapping : ℕ → Words → Words → Bool
+overlapping w a b = overlaps w (value a) (mask w a) (value b) (mask w b)
+
+-- document 01: the higher of an overlapping pair precedes the other, which depends on it
+unfoldable pub precedes : ℕ → Words → Words → Bool
+precedes w a b = (overlapping w a b && ltb (rank w b) (rank w a)) && (occupied w a && occupied w b)
+
+-- one id stands in both slots
+unfoldable pub sameId : ℕ → Words → Words → Bool
+sameId w a b = eqb (ident w a) (ident w b) && (occupied w a && occupied w b)
+
+-- two rules of different ids: copies of one id are not compared with each other
+unfoldable pub distinct : ℕ → Words → Words → Bool
+distinct w a b = not (eqb (ident w a) (ident w b)) && (occupied w a && occupied w b)
+
+-- a standing before b is out of order: two rules that overlap, and a's priority is not higher
+unfoldable pub misordered : ℕ → Words → Words → Bool
+misordered w a b = (overlapping w a b && leb (rank w a) (rank w b)) && distinct w a b
+
+-- document 01: of two overlapping rules the one in the lower-numbered slot must have the strictly higher priority
+abbrev pub InOrder : ℕ → List ℕ → Type 0
+InOrder w t = (x y : ℕ) → x < y → y < slots w t → misordered w (slotWords w t x) (slotWords w t y) ≡ false

@@ -1,0 +1,82 @@
+-- Slot records: which word is what, when a slot is empty, when a rule is sound, and a rule's record.
+-- w is the number of words of a value; document 01 has two, so that a record has six.
+use mathlib.Core.Path.{_≡_, refl, sym, ap, _∙_}
+use mathlib.Core.Bool.{Bool, true, false, not, _&&_}
+use mathlib.Core.List.{List, [], _∷_, _++_}
+use Prim.Native.Nat.{ℕ, zero, suc, _+_, _*_, _/_, _%_, _^_, _<_, _≤_}
+use lib.Dec.{eqb, leb}
+use lib.ListN.{length, getD}
+use Rattle.search.specs.Search.{all}
+use Rattle.ternary.specs.Pattern.{Words, matches, within}
+use Rattle.records.specs.declared.Rule.{Rule}
+
+-- the words of a list, by their index
+abbrev pub word : List ℕ → Words
+word l j = getD l j 0
+
+-- the first n words, as a list
+unfoldable pub listed : ℕ → Words → List ℕ
+listed zero f = []
+listed (suc n) f = listed n f ++ (f n ∷ [])
+
+-- how many words a slot record has
+abbrev pub recordWords : ℕ → ℕ
+recordWords w = 2 * w + 2
+
+-- the record in slot i of a table, read in the table itself
+abbrev pub slotWords : ℕ → List ℕ → ℕ → Words
+slotWords w t i j = getD t (i * recordWords w + j) 0
+
+-- the parts of a record: value words, mask words, id × 2^32 + action, priority (called rank: the number that order compares)
+abbrev pub value : Words → Words
+value x j = x j
+
+abbrev pub mask : ℕ → Words → Words
+mask w x j = x (w + j)
+
+abbrev pub ident : ℕ → Words → ℕ
+ident w x = x (2 * w) / 4294967296
+
+abbrev pub action : ℕ → Words → ℕ
+action w x = x (2 * w) % 4294967296
+
+abbrev pub rank : ℕ → Words → ℕ
+rank w x = x (2 * w + 1)
+
+-- document 01: six zero words are an empty slot
+unfoldable pub empty : ℕ → Words → Bool
+empty w x = all (λ (j : ℕ). eqb (x j) 0) (recordWords w)
+
+abbrev pub occupied : ℕ → Words → Bool
+occupied w x = not (empty w x)
+
+-- document 01: id not 0, priority 0 to 65,535, each value bit outside the mask 0
+unfoldable pub soundParts : ℕ → ℕ → ℕ → Words → Words → Bool
+soundParts w id rank value mask = not (eqb id 0) && leb rank 65535 && within w value mask
+
+abbrev pub sound : ℕ → Words → Bool
+sound w x = soundParts w (ident w x) (rank w x) (value x) (mask w x)
+
+abbrev pub soundRule : ℕ → Rule → Bool
+soundRule w r = soundParts w (r .id) (r .priority) (word (r .value)) (word (r .mask))
+
+abbrev pub patternMatches : ℕ → Words → Words → Bool
+patternMatches w key x = matches w key (value x) (mask w x)
+
+-- exactly which keys a slot matches: an empty one none
+unfoldable pub slotMatches : ℕ → Words → Words → Bool
+slotMatches w key x = patternMatches w key x && occupied w x
+
+-- document 01's slot record of a rule
+unfoldable pub recordOf : ℕ → Rule → List ℕ
+recordOf w r = listed w (word (r .value)) ++ listed w (word (r .mask)) ++ (r .id * 4294967296 + r .action) ∷ r .priority ∷ []
+
+-- the rule of a record
+unfoldable pub ruleOf : ℕ → Words → Rule
+ruleOf w x = record {
+  id = ident w x;
+  priority = rank w x % 4294967296;
+  value = listed w (value x);
+  mask = listed w (mask w x);
+  action = action w x;
+}

@@ -1,0 +1,37 @@
+// The words of a lent table: slot records and rules, the checks that refuse a table, the first match of a key.
+// Words are read in the table itself; definitions are in specs/, for any number of words of a value.
+mod checks;
+mod slot;
+
+// A rule as the calls take it: value and mask as two words each, high word first.
+pub struct Rule {
+    pub id: u32,
+    pub priority: u32,
+    pub value: [u64; 2],
+    pub mask: [u64; 2],
+    pub action: u32,
+}
+
+// Why a call declines: the causes of document 01, in the order of their numbers.
+pub enum Cause {
+    Shape,
+    Record,
+    Twice,
+    Order,
+    Rule,
+    Known,
+    Unknown,
+    Tie,
+    Full,
+    Crossed,
+    Short,
+    Write,
+    Line,
+    Image,
+}
+
+// What a check of a table answers: it passes, or fails with its cause and spot.
+pub enum Check {
+    Pass,
+    Fail(Cause, u32),
+}
