@@ -7,18 +7,19 @@ use mathlib.Core.Logic._⊎_.{inl, inr}
 use mathlib.Core.List.{List}
 use Prim.Native.Nat.{ℕ, zero, suc, _+_, _*_, _/_, _%_, _≤_, _<_}
 use native.Mathlib.Nat.{div-add-mod', add-zero, mul-le-mul-right}
+use native.Mathlib.Decide.{decLe}
 use native.Mathlib.Omega.{arith}
 use lib.Arith.{digits-div, digits-mod}
 use lib.Dec.{eqb, ltb, leb}
 use lib.ListN.{length}
 use borrow.Author.Tests.{eqb-true, eqb-false, eq-eqb, ne-eqb, leb-true, le-leb, lt-ltb, le-ltb, ltb-true, ltb-false, leb-false, lt-leb, not-true}
-use Rattle.search.specs.Search.{least, Least, least-law, any, any-no, any-none, decided, and-left, and-right, and-both}
-use Rattle.ternary.specs.Pattern.{Words, Overlap, overlaps, overlaps-law, Matches, matches, matches-law, Within, within-law}
+use Rattle.search.specs.Search.{all-law, least, Least, least-law, any, any-no, any-none, decided, and-left, and-right, and-both}
+use Rattle.ternary.specs.Pattern.{Words, Overlap, overlaps, overlaps-law, Matches, matches, matches-law, Within, within, within-law}
 use Rattle.records.specs.Record.{recordWords, slotWords, value, mask, ident, rank, empty, occupied, sound, soundParts, slotMatches, patternMatches}
-use Rattle.records.specs.Order.{slots, overlapping, sameId, distinct, misordered, InOrder}
+use Rattle.records.specs.Order.{slots, overlapping, sameId, distinct, misordered, Ordered, InOrder}
 use Rattle.records.specs.Checks.{orElse, lowest, lowest-at, lowest-none, shaped, checkShape, slotChecks, tableChecks, unsoundAt, checkRecords, twiceAt, checkTwice, disorderAt, checkOrder}
 use Rattle.records.specs.declared.Cause.{Cause}
-use Rattle.records.specs.declared.Cause.the-variants.{Shape}
+use Rattle.records.specs.declared.Cause.the-variants.{Shape, Record, Twice, Order}
 use Rattle.records.specs.declared.Check.{Check}
 use Rattle.records.specs.declared.Check.the-variants.{Pass, Fail}
 
@@ -109,3 +110,108 @@ lowest-fail cause p n spot = (λ e. to (decided (ltb (least p n 0) n)) e, λ f. 
         let h = ltb-true (least p n 0) n s in
         (omega arith, ap p (sym at) ∙ l .hit (omega arith), λ i k. l .before i (omega arith) (omega arith))
     to (inr s) e = absurd (pass-fail (sym (sym (ap (λ (b : Bool). cond b (Fail cause (least p n 0)) Pass) s) ∙ e)))
+
+-- an empty slot: each of its words is zero
+pub empty-law : (w : ℕ) (x : Words) → (empty w x ≡ true) ↔ ((j : ℕ) → j < recordWords w → x j ≡ 0)
+unfolding empty
+empty-law w x =
+    let l = all-law (λ (j : ℕ). eqb (x j) 0) (recordWords w) in
+    (λ e j h. eqb-true (x j) 0 (l .0 e j h), λ f. l .1 (λ j h. eq-eqb (x j) 0 (f j h)))
+
+-- a sound rule: id not 0, priority at most 65,535, each value bit outside the mask 0
+pub sound-law : (w id rank : ℕ) (value mask : Words)
+    → (soundParts w id rank value mask ≡ true) ↔ ((id ≡ 0 → ⊥) × (rank ≤ 65535) × Within w value mask)
+unfolding soundParts
+sound-law w id rank value mask =
+    let tests = three (not (eqb id 0)) (leb rank 65535) (within w value mask) in
+    (λ e. let s = tests .0 e in (eqb-false id 0 (not-true (eqb id 0) (s .0)), leb-true rank 65535 (s .1), within-law w value mask .0 (s .2)),
+     λ s. tests .1 (ap not (ne-eqb id 0 (s .0)), le-leb rank 65535 (s .1), within-law w value mask .1 (s .2)))
+
+-- exactly which keys a slot matches: those that equal its value at all bits cared for, and none where it is empty
+pub slot-matches-law : (w : ℕ) (key x : Words)
+    → (slotMatches w key x ≡ true) ↔ ((occupied w x ≡ true) × Matches w key (value x) (mask w x))
+unfolding slotMatches
+slot-matches-law w key x =
+    let a = patternMatches w key x in
+    let l = matches-law w key (value x) (mask w x) in
+    (λ e. (and-right a (occupied w x) e, l .0 (and-left a (occupied w x) e)), λ s. and-both a (occupied w x) (l .1 (s .1)) (s .0))
+
+-- check 2 passes exactly when each slot is empty or a sound rule
+pub records-law : (w : ℕ) (t : List ℕ)
+    → (checkRecords w t ≡ Pass) ↔ ((i : ℕ) → i < slots w t → (empty w (slotWords w t i) ≡ true) ⊎ (sound w (slotWords w t i) ≡ true))
+unfolding checkRecords unsoundAt
+records-law w t =
+    let l = lowest-pass Record (unsoundAt w t) (slots w t) in
+    (λ e i h. to (sound w (slotWords w t i)) (empty w (slotWords w t i)) (l .0 e i h), λ f. l .1 (λ i h. from (sound w (slotWords w t i)) (empty w (slotWords w t i)) (f i h)))
+  where
+    to : (s e : Bool) → not s && not e ≡ false → (e ≡ true) ⊎ (s ≡ true)
+    to true e h = inr refl
+    to false true h = inl refl
+    to false false h = absurd (true≢false h)
+    from : (s e : Bool) → (e ≡ true) ⊎ (s ≡ true) → not s && not e ≡ false
+    from true e h = refl
+    from false true h = refl
+    from false false (inl h) = absurd (false≢true h)
+    from false false (inr h) = absurd (false≢true h)
+
+-- a check of each slot against the earlier ones passes exactly when no two slots fail the test
+earlier-law : (cause : Cause) (p : ℕ → ℕ → Bool) (n : ℕ)
+    → (lowest cause (λ (j : ℕ). any (λ (i : ℕ). p i j) j) n ≡ Pass) ↔ ((x y : ℕ) → x < y → y < n → p x y ≡ false)
+earlier-law cause p n =
+    let l = lowest-pass cause (λ (j : ℕ). any (λ (i : ℕ). p i j) j) n in
+    (λ e x y h k. any-no (λ (i : ℕ). p i y) y (l .0 e y k) x h, λ f. l .1 (λ y k. any-none (λ (i : ℕ). p i y) y (λ x h. f x y h k)))
+
+-- check 3 passes exactly when no id stands in two slots
+pub twice-law : (w : ℕ) (t : List ℕ)
+    → (checkTwice w t ≡ Pass) ↔ ((x y : ℕ) → x < y → y < slots w t → sameId w (slotWords w t x) (slotWords w t y) ≡ false)
+unfolding checkTwice twiceAt
+twice-law w t = earlier-law Twice (λ (x y : ℕ). sameId w (slotWords w t x) (slotWords w t y)) (slots w t)
+
+-- one id in two slots: both occupied, the ids equal
+pub same-id-law : (w : ℕ) (a b : Words) → (sameId w a b ≡ true) ↔ ((occupied w a ≡ true) × (occupied w b ≡ true) × (ident w a ≡ ident w b))
+unfolding sameId
+same-id-law w a b =
+    let i = eqb (ident w a) (ident w b) in
+    let o = occupied w a && occupied w b in
+    (λ e. let r = and-right i o e in (and-left (occupied w a) (occupied w b) r, and-right (occupied w a) (occupied w b) r, eqb-true _ _ (and-left i o e)),
+     λ s. and-both i o (eq-eqb _ _ (s .2)) (and-both (occupied w a) (occupied w b) (s .0) (s .1)))
+
+-- a pair out of order: two rules of different ids that overlap, the earlier with no higher priority
+pub misordered-law : (w : ℕ) (a b : Words)
+    → (misordered w a b ≡ true)
+    ↔ ((occupied w a ≡ true) × (occupied w b ≡ true) × (ident w a ≡ ident w b → ⊥)
+    × Overlap w (value a) (mask w a) (value b) (mask w b) × (rank w a ≤ rank w b))
+unfolding misordered distinct
+misordered-law w a b =
+    let over = overlapping w a b in
+    let low = leb (rank w a) (rank w b) in
+    let same = eqb (ident w a) (ident w b) in
+    let rules = occupied w a && occupied w b in
+    let law = overlaps-law w (value a) (mask w a) (value b) (mask w b) in
+    (λ e. let l = and-left (over && low) (not same && rules) e in
+     let r = and-right (over && low) (not same && rules) e in
+     let o = and-right (not same) rules r in
+     (and-left (occupied w a) (occupied w b) o, and-right (occupied w a) (occupied w b) o,
+      eqb-false (ident w a) (ident w b) (not-true same (and-left (not same) rules r)), law .0 (and-left over low l),
+      leb-true (rank w a) (rank w b) (and-right over low l)),
+     λ s. and-both (over && low) (not same && rules)
+     (and-both over low (law .1 (s .3)) (le-leb (rank w a) (rank w b) (s .4)))
+     (and-both (not same) rules (ap not (ne-eqb (ident w a) (ident w b) (s .2))) (and-both (occupied w a) (occupied w b) (s .0) (s .1))))
+
+pub ordered-law : (w : ℕ) (a b : Words) → (misordered w a b ≡ false) ↔ Ordered w a b
+ordered-law w a b =
+    let law = misordered-law w a b in
+    (λ e oa ob d o. higher (decLe (rank w a) (rank w b)) (λ l. true≢false (sym (law .1 (oa, ob, d, o, l)) ∙ e)),
+     λ f. ⊎-elim (λ e. absurd (let s = law .0 e in let h = f (s .0) (s .1) (s .2) (s .3) in omega (arith, s .4))) (λ e. e) (decided (misordered w a b)))
+  where
+    higher : Dec (rank w a ≤ rank w b) → (rank w a ≤ rank w b → ⊥) → rank w b < rank w a
+    higher (yes l) f = absurd (f l)
+    higher (no l) f = omega arith
+
+-- check 4 passes exactly when the table is in order
+pub order-law : (w : ℕ) (t : List ℕ) → (checkOrder w t ≡ Pass) ↔ InOrder w t
+unfolding checkOrder disorderAt
+order-law w t =
+    let l = earlier-law Order (λ (x y : ℕ). misordered w (slotWords w t x) (slotWords w t y)) (slots w t) in
+    (λ e x y h k. ordered-law w (slotWords w t x) (slotWords w t y) .0 (l .0 e x y h k),
+     λ f. l .1 (λ x y h k. ordered-law w (slotWords w t x) (slotWords w t y) .1 (f x y h k)))

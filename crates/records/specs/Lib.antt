@@ -4,3 +4,4 @@ pub mod Record
 pub mod Order
 pub mod Checks
 pub mod Laws
+pub mod Rules

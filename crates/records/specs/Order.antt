@@ -6,7 +6,7 @@ use mathlib.Core.List.{List}
 use Prim.Native.Nat.{ℕ, _/_, _<_}
 use lib.Dec.{eqb, ltb, leb}
 use lib.ListN.{length}
-use Rattle.ternary.specs.Pattern.{Words, overlaps}
+use Rattle.ternary.specs.Pattern.{Words, Overlap, overlaps}
 use Rattle.records.specs.Record.{recordWords, slotWords, value, mask, ident, rank, occupied}
 
 -- how many slots a table has
@@ -32,6 +32,13 @@ distinct w a b = not (eqb (ident w a) (ident w b)) && (occupied w a && occupied 
 unfoldable pub misordered : ℕ → Words → Words → Bool
 misordered w a b = (overlapping w a b && leb (rank w a) (rank w b)) && distinct w a b
 
--- document 01: of two overlapping rules the one in the lower-numbered slot must have the strictly higher priority
+-- a may stand before b
+abbrev pub Ordered : ℕ → Words → Words → Type 0
+Ordered w a b =
+    occupied w a ≡ true → occupied w b ≡ true → (ident w a ≡ ident w b → ⊥)
+    → Overlap w (value a) (mask w a) (value b) (mask w b) → rank w b < rank w a
+
+-- document 01: of two overlapping rules in the table the one in the lower-numbered slot must have the strictly higher priority;
+-- copies of one id are not compared with each other
 abbrev pub InOrder : ℕ → List ℕ → Type 0
-InOrder w t = (x y : ℕ) → x < y → y < slots w t → misordered w (slotWords w t x) (slotWords w t y) ≡ false
+InOrder w t = (x y : ℕ) → x < y → y < slots w t → Ordered w (slotWords w t x) (slotWords w t y)

@@ -1,6 +1,6 @@
 -- Searches over indices: does a test hold everywhere, somewhere, where first, where last.
 -- "Lowest such slot" and "highest such slot" of document 01 are least and afterLast.
-use mathlib.Core.Path.{_≡_, refl, sym, ap, _∙_, subst}
+use mathlib.Core.Path.{_≡_, refl, sym, ap, ap₂, _∙_, subst}
 use mathlib.Core.Bool.{Bool, true, false, cond, _&&_, _||_, or-false, false≢true, true≢false}
 use mathlib.Core.Logic.{_↔_, _⊎_, ⊎-elim}
 use mathlib.Core.Logic._⊎_.{inl, inr}
@@ -70,6 +70,17 @@ all-law p (suc n) = (
   λ e. below-suc (λ (j : ℕ). p j ≡ true) n (all-law p n .0 (and-left (all p n) (p n) e)) (and-right (all p n) (p n) e),
   λ h. and-both (all p n) (p n) (all-law p n .1 (λ j l. h j (omega arith))) (h n (omega arith)),
 )
+
+-- a search reads its test only at the indices that it passes
+pub all-cong : {p q : ℕ → Bool} (n : ℕ) → ((j : ℕ) → j < n → p j ≡ q j) → all p n ≡ all q n
+unfolding all
+all-cong zero h = refl
+all-cong (suc n) h = ap₂ _&&_ (all-cong n (λ j l. h j (omega arith))) (h n (omega arith))
+
+pub any-cong : {p q : ℕ → Bool} (n : ℕ) → ((j : ℕ) → j < n → p j ≡ q j) → any p n ≡ any q n
+unfolding any
+any-cong zero h = refl
+any-cong (suc n) h = ap₂ _||_ (any-cong n (λ j l. h j (omega arith))) (h n (omega arith))
 
 -- any, as a statement about some index
 pub any-some : (p : ℕ → Bool) (n j : ℕ) → j < n → p j ≡ true → any p n ≡ true

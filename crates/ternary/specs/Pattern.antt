@@ -5,7 +5,7 @@ use mathlib.Core.Bool.{Bool, true}
 use mathlib.Core.Logic.{_↔_}
 use Prim.Native.Nat.{ℕ, _^_, _<_}
 use native.Mathlib.Decide.{ℕ-discrete}
-use Rattle.search.specs.Search.{all, all-law}
+use Rattle.search.specs.Search.{all, all-law, all-cong}
 use Rattle.ternary.specs.Bit.{bit}
 use Rattle.ternary.specs.Word.{agree, agree-law, inside, inside-law, both, both-law, common, common-left, common-right, common-fits}
 
@@ -38,6 +38,24 @@ overlaps w value mask value′ mask′ = all (λ (j : ℕ). agree (value j) (val
 
 unfoldable pub within : ℕ → Words → Words → Bool
 within w value mask = all (λ (j : ℕ). inside (value j) (mask j)) w
+
+-- the tests read the words below w alone
+pub matches-cong : (w : ℕ) {key key′ value value′ mask mask′ : Words}
+    → ((j : ℕ) → j < w → key j ≡ key′ j) → ((j : ℕ) → j < w → value j ≡ value′ j) → ((j : ℕ) → j < w → mask j ≡ mask′ j)
+    → matches w key value mask ≡ matches w key′ value′ mask′
+unfolding matches
+matches-cong w hk hv hm = all-cong w (λ j h. let k = hk j h in let v = hv j h in let m = hm j h in cc)
+
+pub overlaps-cong : (w : ℕ) {v v′ m m′ x x′ n n′ : Words}
+    → ((j : ℕ) → j < w → v j ≡ v′ j) → ((j : ℕ) → j < w → m j ≡ m′ j) → ((j : ℕ) → j < w → x j ≡ x′ j) → ((j : ℕ) → j < w → n j ≡ n′ j)
+    → overlaps w v m x n ≡ overlaps w v′ m′ x′ n′
+unfolding overlaps
+overlaps-cong w hv hm hx hn = all-cong w (λ j h. let a = hv j h in let b = hm j h in let c = hx j h in let d = hn j h in cc)
+
+pub within-cong : (w : ℕ) {value value′ mask mask′ : Words}
+    → ((j : ℕ) → j < w → value j ≡ value′ j) → ((j : ℕ) → j < w → mask j ≡ mask′ j) → within w value mask ≡ within w value′ mask′
+unfolding within
+within-cong w hv hm = all-cong w (λ j h. let v = hv j h in let m = hm j h in cc)
 
 -- a test over all words says what each word's test says
 each : (p : ℕ → Bool) (P : ℕ → Type 0) → ((j : ℕ) → (p j ≡ true) ↔ P j) → (w : ℕ) → (all p w ≡ true) ↔ ((j : ℕ) → j < w → P j)
