@@ -123,9 +123,10 @@ pub sound-law : (w id rank : ℕ) (value mask : Words)
     → (soundParts w id rank value mask ≡ true) ↔ ((id ≡ 0 → ⊥) × (rank ≤ 65535) × Within w value mask)
 unfolding soundParts
 sound-law w id rank value mask =
-    let tests = three (not (eqb id 0)) (leb rank 65535) (within w value mask) in
-    (λ e. let s = tests .0 e in (eqb-false id 0 (not-true (eqb id 0) (s .0)), leb-true rank 65535 (s .1), within-law w value mask .0 (s .2)),
-     λ s. tests .1 (ap not (ne-eqb id 0 (s .0)), le-leb rank 65535 (s .1), within-law w value mask .1 (s .2)))
+    let tests = three (not (eqb id 0)) (leb rank 65535) (within w value mask) in (
+      λ e. let s = tests .0 e in (eqb-false id 0 (not-true (eqb id 0) (s .0)), leb-true rank 65535 (s .1), within-law w value mask .0 (s .2)),
+      λ s. tests .1 (ap not (ne-eqb id 0 (s .0)), le-leb rank 65535 (s .1), within-law w value mask .1 (s .2)),
+    )
 
 -- exactly which keys a slot matches: those that equal its value at all bits cared for, and none where it is empty
 pub slot-matches-law : (w : ℕ) (key x : Words)
@@ -148,6 +149,7 @@ records-law w t =
     to true e h = inr refl
     to false true h = inl refl
     to false false h = absurd (true≢false h)
+
     from : (s e : Bool) → (e ≡ true) ⊎ (s ≡ true) → not s && not e ≡ false
     from true e h = refl
     from false true h = refl
@@ -172,9 +174,10 @@ pub same-id-law : (w : ℕ) (a b : Words) → (sameId w a b ≡ true) ↔ ((occu
 unfolding sameId
 same-id-law w a b =
     let i = eqb (ident w a) (ident w b) in
-    let o = occupied w a && occupied w b in
-    (λ e. let r = and-right i o e in (and-left (occupied w a) (occupied w b) r, and-right (occupied w a) (occupied w b) r, eqb-true _ _ (and-left i o e)),
-     λ s. and-both i o (eq-eqb _ _ (s .2)) (and-both (occupied w a) (occupied w b) (s .0) (s .1)))
+    let o = occupied w a && occupied w b in (
+      λ e. let r = and-right i o e in (and-left (occupied w a) (occupied w b) r, and-right (occupied w a) (occupied w b) r, eqb-true _ _ (and-left i o e)),
+      λ s. and-both i o (eq-eqb _ _ (s .2)) (and-both (occupied w a) (occupied w b) (s .0) (s .1)),
+    )
 
 -- a pair out of order: two rules of different ids that overlap, the earlier with no higher priority
 pub misordered-law : (w : ℕ) (a b : Words)
@@ -187,22 +190,27 @@ misordered-law w a b =
     let low = leb (rank w a) (rank w b) in
     let same = eqb (ident w a) (ident w b) in
     let rules = occupied w a && occupied w b in
-    let law = overlaps-law w (value a) (mask w a) (value b) (mask w b) in
-    (λ e. let l = and-left (over && low) (not same && rules) e in
-     let r = and-right (over && low) (not same && rules) e in
-     let o = and-right (not same) rules r in
-     (and-left (occupied w a) (occupied w b) o, and-right (occupied w a) (occupied w b) o,
-      eqb-false (ident w a) (ident w b) (not-true same (and-left (not same) rules r)), law .0 (and-left over low l),
-      leb-true (rank w a) (rank w b) (and-right over low l)),
-     λ s. and-both (over && low) (not same && rules)
-     (and-both over low (law .1 (s .3)) (le-leb (rank w a) (rank w b) (s .4)))
-     (and-both (not same) rules (ap not (ne-eqb (ident w a) (ident w b) (s .2))) (and-both (occupied w a) (occupied w b) (s .0) (s .1))))
+    let law = overlaps-law w (value a) (mask w a) (value b) (mask w b) in (
+      λ e. let l = and-left (over && low) (not same && rules) e in
+          let r = and-right (over && low) (not same && rules) e in
+          let o = and-right (not same) rules r in (
+            and-left (occupied w a) (occupied w b) o,
+            and-right (occupied w a) (occupied w b) o,
+            eqb-false (ident w a) (ident w b) (not-true same (and-left (not same) rules r)),
+            law .0 (and-left over low l),
+            leb-true (rank w a) (rank w b) (and-right over low l),
+          ),
+      λ s. and-both (over && low) (not same && rules)
+          (and-both over low (law .1 (s .3)) (le-leb (rank w a) (rank w b) (s .4)))
+          (and-both (not same) rules (ap not (ne-eqb (ident w a) (ident w b) (s .2))) (and-both (occupied w a) (occupied w b) (s .0) (s .1))),
+    )
 
 pub ordered-law : (w : ℕ) (a b : Words) → (misordered w a b ≡ false) ↔ Ordered w a b
 ordered-law w a b =
-    let law = misordered-law w a b in
-    (λ e oa ob d o. higher (decLe (rank w a) (rank w b)) (λ l. true≢false (sym (law .1 (oa, ob, d, o, l)) ∙ e)),
-     λ f. ⊎-elim (λ e. absurd (let s = law .0 e in let h = f (s .0) (s .1) (s .2) (s .3) in omega (arith, s .4))) (λ e. e) (decided (misordered w a b)))
+    let law = misordered-law w a b in (
+      λ e oa ob d o. higher (decLe (rank w a) (rank w b)) (λ l. true≢false (sym (law .1 (oa, ob, d, o, l)) ∙ e)),
+      λ f. ⊎-elim (λ e. absurd (let s = law .0 e in let h = f (s .0) (s .1) (s .2) (s .3) in omega (arith, s .4))) (λ e. e) (decided (misordered w a b)),
+    )
   where
     higher : Dec (rank w a ≤ rank w b) → (rank w a ≤ rank w b → ⊥) → rank w b < rank w a
     higher (yes l) f = absurd (f l)
@@ -212,6 +220,7 @@ ordered-law w a b =
 pub order-law : (w : ℕ) (t : List ℕ) → (checkOrder w t ≡ Pass) ↔ InOrder w t
 unfolding checkOrder disorderAt
 order-law w t =
-    let l = earlier-law Order (λ (x y : ℕ). misordered w (slotWords w t x) (slotWords w t y)) (slots w t) in
-    (λ e x y h k. ordered-law w (slotWords w t x) (slotWords w t y) .0 (l .0 e x y h k),
-     λ f. l .1 (λ x y h k. ordered-law w (slotWords w t x) (slotWords w t y) .1 (f x y h k)))
+    let l = earlier-law Order (λ (x y : ℕ). misordered w (slotWords w t x) (slotWords w t y)) (slots w t) in (
+      λ e x y h k. ordered-law w (slotWords w t x) (slotWords w t y) .0 (l .0 e x y h k),
+      λ f. l .1 (λ x y h k. ordered-law w (slotWords w t x) (slotWords w t y) .1 (f x y h k)),
+    )
