@@ -2,7 +2,7 @@
 -- A check is a row of the refusal table: it passes, or fails with its cause and spot.
 use mathlib.Core.Path.{_≡_}
 use mathlib.Core.Bool.{Bool, true, false, not, cond, _&&_}
-use mathlib.Core.List.{List}
+use mathlib.Core.List.{List, [], _∷_}
 use Prim.Native.Nat.{ℕ, _+_, _*_, _/_, _%_, _<_}
 use lib.Dec.{eqb, ltb, leb}
 use lib.ListN.{length}
@@ -33,6 +33,26 @@ causeNumber Short = 11
 causeNumber Write = 12
 causeNumber Line = 13
 causeNumber Image = 14
+
+-- an answer as document 01 has it: a number, 0 for a success, and values: a success's data, or a refusal's spot
+pub record Told : Type 0 where
+  pub number : ℕ
+  pub values : List ℕ
+
+abbrev pub success : List ℕ → Told
+success values = record { number = 0; values = values }
+
+abbrev pub refusal : Cause → ℕ → Told
+refusal cause spot = record { number = causeNumber cause; values = spot ∷ [] }
+
+-- a refusal where a check fails, else the answer
+abbrev pub unless : Check → Told → Told
+unless Pass answer = answer
+unless (Fail cause spot) answer = refusal cause spot
+
+abbrev pub passes : Check → Bool
+passes Pass = true
+passes (Fail cause spot) = false
 
 -- the first check that fails decides
 abbrev pub orElse : Check → Check → Check

@@ -1,25 +1,25 @@
 -- What the checks say, in document 01's words: shape, records, ids and order, each exactly, and each spot the lowest.
 -- These are the sentences a reader goes by; callers cite them and not the text of the definitions.
-use mathlib.Core.Path.{_≡_, refl, sym, ap, ap₂, _∙_, subst}
+use mathlib.Core.Path.{_≡_, refl, sym, ap, _∙_, fun-ext}
 use mathlib.Core.Bool.{Bool, true, false, not, cond, _&&_, false≢true, true≢false}
 use mathlib.Core.Logic.{_↔_, _⊎_, ⊎-elim}
 use mathlib.Core.Logic._⊎_.{inl, inr}
-use mathlib.Core.List.{List}
-use Prim.Native.Nat.{ℕ, zero, suc, _+_, _*_, _/_, _%_, _≤_, _<_}
+use mathlib.Core.List.{List, [], _∷_}
+use Prim.Native.Nat.{ℕ, pred, _+_, _*_, _/_, _%_, _≤_, _<_}
 use native.Mathlib.Nat.{div-add-mod', add-zero, mul-le-mul-right}
 use native.Mathlib.Decide.{decLe}
 use native.Mathlib.Omega.{arith}
 use lib.Arith.{digits-div, digits-mod}
 use lib.Dec.{eqb, ltb, leb}
-use lib.ListN.{length}
+use lib.ListN.{length, getD}
 use borrow.Author.Tests.{eqb-true, eqb-false, eq-eqb, ne-eqb, leb-true, le-leb, lt-ltb, le-ltb, ltb-true, ltb-false, leb-false, lt-leb, not-true}
 use Rattle.search.specs.Search.{all-law, least, Least, least-law, any, any-no, any-none, decided, and-left, and-right, and-both}
-use Rattle.ternary.specs.Pattern.{Words, Overlap, overlaps, overlaps-law, Matches, matches, matches-law, Within, within, within-law}
+use Rattle.ternary.specs.Pattern.{Words, Overlap, overlaps, overlaps-law, Matches, matches, matches-law, matches-cong, Within, within, within-law}
 use Rattle.records.specs.Record.{recordWords, slotWords, value, mask, ident, rank, empty, occupied, sound, soundParts, slotMatches, patternMatches}
 use Rattle.records.specs.Order.{slots, overlapping, sameId, distinct, misordered, Ordered, InOrder}
-use Rattle.records.specs.Checks.{orElse, lowest, lowest-at, lowest-none, shaped, checkShape, slotChecks, tableChecks, unsoundAt, checkRecords, twiceAt, checkTwice, disorderAt, checkOrder}
+use Rattle.records.specs.Checks.{causeNumber, Told, refusal, unless, orElse, lowest, lowest-at, lowest-none, shaped, checkShape, slotChecks, tableChecks, unsoundAt, checkRecords, twiceAt, checkTwice, disorderAt, checkOrder, firstMatch}
 use Rattle.records.specs.declared.Cause.{Cause}
-use Rattle.records.specs.declared.Cause.the-variants.{Shape, Record, Twice, Order}
+use Rattle.records.specs.declared.Cause.the-variants.{Shape, Record, Twice, Order, Rule, Known, Unknown, Tie, Full, Crossed, Short, Write, Line, Image}
 use Rattle.records.specs.declared.Check.{Check}
 use Rattle.records.specs.declared.Check.the-variants.{Pass, Fail}
 
@@ -30,6 +30,13 @@ failed next e f = ap (λ (z : Check). orElse z next) (sym f ∙ e)
 pub passed : {x y : Check} {answer next : Check} → x ≡ y → x ≡ Pass → answer ≡ next → answer ≡ orElse y next
 passed {next = next} e f h = h ∙ ap (λ (z : Check). orElse z next) (sym f ∙ e)
 
+-- an answer behind a row of checks, as code returns it
+pub refused : {x y : Check} {cause : Cause} {spot : ℕ} (answer : Told) → x ≡ y → x ≡ Fail cause spot → refusal cause spot ≡ unless y answer
+refused answer e f = ap (λ (z : Check). unless z answer) (sym f ∙ e)
+
+pub answered : {x y : Check} {told answer : Told} → x ≡ y → x ≡ Pass → told ≡ answer → told ≡ unless y answer
+answered {answer = answer} e f h = h ∙ ap (λ (z : Check). unless z answer) (sym f ∙ e)
+
 pass-fail : {cause : Cause} {spot : ℕ} → Fail cause spot ≡ Pass → ⊥
 pass-fail e = let z : _≡_ {A = ℕ} 0 1 = cc in omega arith
 
@@ -37,6 +44,30 @@ pass-fail e = let z : _≡_ {A = ℕ} 0 1 = cc in omega arith
 pub or-else-pass : (x y : Check) → (orElse x y ≡ Pass) ↔ ((x ≡ Pass) × (y ≡ Pass))
 or-else-pass Pass y = (λ e. (refl, e), λ p. p .1)
 or-else-pass (Fail cause spot) y = (λ e. absurd (pass-fail e), λ p. absurd (pass-fail (p .0)))
+
+-- the cause of a number: each cause has one number, and each number one cause
+causeOf : ℕ → Cause
+causeOf n = getD (Shape ∷ Record ∷ Twice ∷ Order ∷ Rule ∷ Known ∷ Unknown ∷ Tie ∷ Full ∷ Crossed ∷ Short ∷ Write ∷ Line ∷ Image ∷ []) (pred n) Shape
+
+cause-back : (c : Cause) → causeOf (causeNumber c) ≡ c
+unfolding causeOf
+cause-back Shape = refl
+cause-back Record = refl
+cause-back Twice = refl
+cause-back Order = refl
+cause-back Rule = refl
+cause-back Known = refl
+cause-back Unknown = refl
+cause-back Tie = refl
+cause-back Full = refl
+cause-back Crossed = refl
+cause-back Short = refl
+cause-back Write = refl
+cause-back Line = refl
+cause-back Image = refl
+
+pub cause-number-once : (c d : Cause) → causeNumber c ≡ causeNumber d → c ≡ d
+cause-number-once c d e = sym (cause-back c) ∙ (ap causeOf e ∙ cause-back d)
 
 -- check 1: a record's words for each of 1 to 1,024 slots
 abbrev pub Shaped : ℕ → List ℕ → Type 0
@@ -136,6 +167,13 @@ slot-matches-law w key x =
     let a = patternMatches w key x in
     let l = matches-law w key (value x) (mask w x) in
     (λ e. (and-right a (occupied w x) e, l .0 (and-left a (occupied w x) e)), λ s. and-both a (occupied w x) (l .1 (s .1)) (s .0))
+
+-- the first match reads the key's first w words alone
+pub first-match-cong : (w : ℕ) (t : List ℕ) {key key′ : Words} → ((j : ℕ) → j < w → key j ≡ key′ j) → firstMatch w t key ≡ firstMatch w t key′
+unfolding firstMatch slotMatches
+first-match-cong w t h =
+    ap (λ (p : ℕ → Bool). least p (slots w t) 0)
+    (fun-ext (λ i. ap (λ (b : Bool). b && occupied w (slotWords w t i)) (matches-cong w h (λ j l. refl) (λ j l. refl))))
 
 -- check 2 passes exactly when each slot is empty or a sound rule
 pub records-law : (w : ℕ) (t : List ℕ)

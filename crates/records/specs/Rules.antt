@@ -34,6 +34,12 @@ pub listed-words : (n : ℕ) (l : List ℕ) → length l ≡ n → listed n (wor
 listed-words n l e =
     ext-getD 0 (listed n (word l)) l (length-listed n (word l) ∙ sym e) (λ i h. word-listed n (word l) i (let k = length-listed n (word l) in omega arith))
 
+-- the first two words of a list, as a list of two
+pub two-words : (l : List ℕ) (j : ℕ) → j < 2 → word (getD l 0 0 ∷ getD l 1 0 ∷ []) j ≡ word l j
+two-words l zero h = refl
+two-words l (suc zero) h = refl
+two-words l (suc (suc j)) h = absurd (omega arith)
+
 pub listed-cong : (n : ℕ) {f g : Words} → ((j : ℕ) → j < n → f j ≡ g j) → listed n f ≡ listed n g
 unfolding listed
 listed-cong zero h = refl

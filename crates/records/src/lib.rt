@@ -1,8 +1,8 @@
 // The words of a lent table: slot records and rules, the checks that refuse a table, the first match of a key.
 // Words are read in the table itself; definitions are in specs/, for any number of words of a value.
-mod checks;
-mod rules;
-mod slot;
+pub mod checks;
+pub mod rules;
+pub mod slot;
 
 // A rule as the calls take it: value and mask as two words each, high word first.
 pub struct Rule {

@@ -1,0 +1,95 @@
+-- Lookup: what a key is answered; and a slot's record as a part of the lent table.
+-- The contracts of lookup and slot_record are equations with these definitions, at two words of value.
+use mathlib.Core.Path.{_≡_, refl, ap, ap₂}
+use mathlib.Core.Bool.{Bool, true, false, cond, _&&_, false≢true}
+use mathlib.Core.Logic.{_↔_}
+use mathlib.Core.List.{List, [], _∷_}
+use Prim.Native.Nat.{ℕ, _+_, _*_, _<_}
+use native.Mathlib.Omega.{arith}
+use lib.Dec.{ltb}
+use lib.ListN.{length, take, drop, getD}
+use borrow.Author.Tests.{lt-ltb, ltb-true}
+use Rattle.search.specs.Search.{and-left, and-right, and-both}
+use Rattle.ternary.specs.Pattern.{Words}
+use Rattle.records.specs.Record.{recordWords, slotWords, ident, action, occupied}
+use Rattle.records.specs.Order.{slots}
+use Rattle.records.specs.Checks.{Told, success, refusal, unless, passes, slotChecks, firstMatch}
+use Rattle.records.specs.Laws.{cause-number-once}
+use Rattle.records.specs.declared.Check.{Check}
+use Rattle.records.specs.declared.Check.the-variants.{Pass, Fail}
+use Rattle.table.specs.declared.Hit.{Hit}
+use Rattle.table.specs.declared.LookupAnswer.{LookupAnswer}
+use Rattle.table.specs.declared.LookupAnswer.the-variants.{Found, Miss, Refused}
+
+-- document 01's number and values for each case of the answer
+abbrev pub lookupTold : LookupAnswer → Told
+lookupTold (Found hit) = success (hit .slot ∷ hit .id ∷ hit .action ∷ [])
+lookupTold Miss = success []
+lookupTold (Refused cause spot) = refusal cause spot
+
+-- slot, id and action of the rule in a slot
+unfoldable pub hitAt : ℕ → List ℕ → ℕ → Hit
+hitAt w t i = record { slot = i; id = ident w (slotWords w t i); action = action w (slotWords w t i) }
+
+-- the match in a slot; a miss where there is no such slot
+unfoldable pub matchTold : ℕ → List ℕ → ℕ → Told
+matchTold w t i = cond (ltb i (slots w t)) (lookupTold (Found (hitAt w t i))) (lookupTold Miss)
+
+-- document 01: lookup makes checks 1 and 2; the lowest-numbered matching slot wins
+unfoldable pub lookupAnswer : ℕ → List ℕ → Words → Told
+lookupAnswer w t key = unless (slotChecks w t) (matchTold w t (firstMatch w t key))
+
+-- a slot's record is shown if checks 1 and 2 pass and the slot is present and occupied
+unfoldable pub shown : ℕ → List ℕ → ℕ → Bool
+shown w t i = passes (slotChecks w t) && (ltb i (slots w t) && occupied w (slotWords w t i))
+
+-- the first word and the number of words of that part of the table; empty, at the table's start, where it is not shown
+unfoldable pub partStart : ℕ → List ℕ → ℕ → ℕ
+partStart w t i = cond (shown w t i) (i * recordWords w) 0
+
+unfoldable pub partLength : ℕ → List ℕ → ℕ → ℕ
+partLength w t i = cond (shown w t i) (recordWords w) 0
+
+abbrev pub recordPart : ℕ → List ℕ → ℕ → List ℕ
+recordPart w t i = take (partLength w t i) (drop (partStart w t i) t)
+
+pub passes-law : (c : Check) → passes c ≡ true → c ≡ Pass
+passes-law Pass e = refl
+passes-law (Fail cause spot) e = absurd (false≢true e)
+
+pub shown-law : (w : ℕ) (t : List ℕ) (i : ℕ)
+    → (shown w t i ≡ true) ↔ ((slotChecks w t ≡ Pass) × (i < slots w t) × (occupied w (slotWords w t i) ≡ true))
+unfolding shown
+shown-law w t i =
+    let a = passes (slotChecks w t) in
+    let b = ltb i (slots w t) in
+    let o = occupied w (slotWords w t i) in
+    (λ e. let r = and-right a (b && o) e in (passes-law (slotChecks w t) (and-left a (b && o) e), ltb-true i (slots w t) (and-left b o r), and-right b o r),
+     λ s. and-both a (b && o) (ap passes (s .0)) (and-both b o (lt-ltb i (slots w t) (s .1)) (s .2)))
+
+-- where that part lies
+pub part-shown : (w : ℕ) (t : List ℕ) (i : ℕ) → shown w t i ≡ true → (partStart w t i ≡ i * recordWords w) × (partLength w t i ≡ recordWords w)
+unfolding partStart partLength
+part-shown w t i e = (rw e, rw e)
+
+pub part-hidden : (w : ℕ) (t : List ℕ) (i : ℕ) → shown w t i ≡ false → (partStart w t i ≡ 0) × (partLength w t i ≡ 0)
+unfolding partStart partLength
+part-hidden w t i e = (rw e, rw e)
+
+counts : {a b : Told} → a ≡ b → (length (a .values) ≡ length (b .values) → ⊥) → ⊥
+counts e f = f (ap (λ (t : Told). length (t .values)) e)
+
+-- answers that tell the same are the same: the number and the values of a case lose nothing
+pub lookup-told-once : (a b : LookupAnswer) → lookupTold a ≡ lookupTold b → a ≡ b
+lookup-told-once (Found h) (Found g) e =
+    let at : (k : ℕ) → getD (lookupTold (Found h) .values) k 0 ≡ getD (lookupTold (Found g) .values) k 0 = λ k. ap (λ (t : Told). getD (t .values) k 0) e in
+    λ i. Found (record { slot = at 0 i; id = at 1 i; action = at 2 i })
+lookup-told-once (Found h) Miss e = absurd (counts e (λ n. omega arith))
+lookup-told-once (Found h) (Refused c s) e = absurd (counts e (λ n. omega arith))
+lookup-told-once Miss (Found g) e = absurd (counts e (λ n. omega arith))
+lookup-told-once Miss Miss e = refl
+lookup-told-once Miss (Refused c s) e = absurd (counts e (λ n. omega arith))
+lookup-told-once (Refused c s) (Found g) e = absurd (counts e (λ n. omega arith))
+lookup-told-once (Refused c s) Miss e = absurd (counts e (λ n. omega arith))
+lookup-told-once (Refused c s) (Refused d u) e =
+    ap₂ Refused (cause-number-once c d (ap (λ (t : Told). t .number) e)) (ap (λ (t : Told). getD (t .values) 0 0) e)
