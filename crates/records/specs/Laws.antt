@@ -6,7 +6,7 @@ use mathlib.Core.Logic.{_↔_, _⊎_, ⊎-elim}
 use mathlib.Core.Logic._⊎_.{inl, inr}
 use mathlib.Core.List.{List, [], _∷_}
 use Prim.Native.Nat.{ℕ, pred, _+_, _*_, _/_, _%_, _≤_, _<_}
-use native.Mathlib.Nat.{div-add-mod', add-zero, mul-le-mul-right}
+use native.Mathlib.Nat.{div-add-mod', add-zero, zero-add, mul-le-mul-right}
 use native.Mathlib.Decide.{decLe}
 use native.Mathlib.Omega.{arith}
 use lib.Arith.{digits-div, digits-mod}
@@ -65,6 +65,23 @@ cause-back Short = refl
 cause-back Write = refl
 cause-back Line = refl
 cause-back Image = refl
+
+-- no cause has the number of a success
+pub cause-not-zero : (c : Cause) → eqb (causeNumber c) 0 ≡ false
+cause-not-zero Shape = refl
+cause-not-zero Record = refl
+cause-not-zero Twice = refl
+cause-not-zero Order = refl
+cause-not-zero Rule = refl
+cause-not-zero Known = refl
+cause-not-zero Unknown = refl
+cause-not-zero Tie = refl
+cause-not-zero Full = refl
+cause-not-zero Crossed = refl
+cause-not-zero Short = refl
+cause-not-zero Write = refl
+cause-not-zero Line = refl
+cause-not-zero Image = refl
 
 pub cause-number-once : (c d : Cause) → causeNumber c ≡ causeNumber d → c ≡ d
 cause-number-once c d e = sym (cause-back c) ∙ (ap causeOf e ∙ cause-back d)
@@ -168,12 +185,24 @@ slot-matches-law w key x =
     let l = matches-law w key (value x) (mask w x) in
     (λ e. (and-right a (occupied w x) e, l .0 (and-left a (occupied w x) e)), λ s. and-both a (occupied w x) (l .1 (s .1)) (s .0))
 
+-- the first match is the lowest-numbered slot that matches, or the number of slots
+pub first-match-law : (w : ℕ) (t : List ℕ) (key : Words)
+    → Least (λ (i : ℕ). slotMatches w key (slotWords w t i)) 0 (slots w t) (firstMatch w t key)
+unfolding firstMatch
+first-match-law w t key = rw zero-add at (least-law (λ (i : ℕ). slotMatches w key (slotWords w t i)) (slots w t) 0)
+
 -- the first match reads the key's first w words alone
 pub first-match-cong : (w : ℕ) (t : List ℕ) {key key′ : Words} → ((j : ℕ) → j < w → key j ≡ key′ j) → firstMatch w t key ≡ firstMatch w t key′
 unfolding firstMatch slotMatches
 first-match-cong w t h =
     ap (λ (p : ℕ → Bool). least p (slots w t) 0)
     (fun-ext (λ i. ap (λ (b : Bool). b && occupied w (slotWords w t i)) (matches-cong w h (λ j l. refl) (λ j l. refl))))
+
+-- a slot's record lies within the table
+pub slot-within : (w : ℕ) (t : List ℕ) (i : ℕ) → i < slots w t → i * recordWords w + recordWords w ≤ length t
+slot-within w t i h =
+    let whole = div-add-mod' (length t) (recordWords w) in
+    omega (arith, mul-le-mul-right (recordWords w) h)
 
 -- check 2 passes exactly when each slot is empty or a sound rule
 pub records-law : (w : ℕ) (t : List ℕ)

@@ -1,6 +1,10 @@
 // The words of a lent table: slot records and rules, the checks that refuse a table, the first match of a key.
 // Words are read in the table itself; definitions are in specs/, for any number of words of a value.
 pub mod checks;
+
+ghost use mathlib.Core.Path.{_≡_};
+ghost use Rattle.records.specs.Checks.{causeNumber};
+
 pub mod rules;
 pub mod slot;
 
@@ -35,4 +39,26 @@ pub enum Cause {
 pub enum Check {
     Pass,
     Fail(Cause, u32),
+}
+
+// Document 01's number of a cause.
+pub fn cause_number(cause: Cause) -> u32
+    ensures { λ r. ⌜ r ≡ causeNumber cause ⌝ }
+{
+    match cause {
+        Cause::Shape => 1,
+        Cause::Record => 2,
+        Cause::Twice => 3,
+        Cause::Order => 4,
+        Cause::Rule => 5,
+        Cause::Known => 6,
+        Cause::Unknown => 7,
+        Cause::Tie => 8,
+        Cause::Full => 9,
+        Cause::Crossed => 10,
+        Cause::Short => 11,
+        Cause::Write => 12,
+        Cause::Line => 13,
+        Cause::Image => 14,
+    }
 }

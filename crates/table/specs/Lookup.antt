@@ -1,20 +1,21 @@
 -- Lookup: what a key is answered; and a slot's record as a part of the lent table.
 -- The contracts of lookup and slot_record are equations with these definitions, at two words of value.
-use mathlib.Core.Path.{_≡_, refl, ap, ap₂}
+use mathlib.Core.Path.{_≡_, refl, ap, ap₂, _∙_}
 use mathlib.Core.Bool.{Bool, true, false, cond, _&&_, false≢true}
-use mathlib.Core.Logic.{_↔_}
+use mathlib.Core.Logic.{_↔_, _⊎_, ⊎-elim}
+use mathlib.Core.Logic._⊎_.{inl, inr}
 use mathlib.Core.List.{List, [], _∷_}
 use Prim.Native.Nat.{ℕ, _+_, _*_, _<_}
 use native.Mathlib.Omega.{arith}
 use lib.Dec.{ltb}
-use lib.ListN.{length, take, drop, getD}
+use lib.ListN.{length, take, drop, getD, length-take, length-drop}
 use borrow.Author.Tests.{lt-ltb, ltb-true}
-use Rattle.search.specs.Search.{and-left, and-right, and-both}
+use Rattle.search.specs.Search.{decided, and-left, and-right, and-both}
 use Rattle.ternary.specs.Pattern.{Words}
 use Rattle.records.specs.Record.{recordWords, slotWords, ident, action, occupied}
 use Rattle.records.specs.Order.{slots}
 use Rattle.records.specs.Checks.{Told, success, refusal, unless, passes, slotChecks, firstMatch}
-use Rattle.records.specs.Laws.{cause-number-once}
+use Rattle.records.specs.Laws.{cause-number-once, slot-within}
 use Rattle.records.specs.declared.Check.{Check}
 use Rattle.records.specs.declared.Check.the-variants.{Pass, Fail}
 use Rattle.table.specs.declared.Hit.{Hit}
@@ -38,6 +39,10 @@ matchTold w t i = cond (ltb i (slots w t)) (lookupTold (Found (hitAt w t i))) (l
 -- document 01: lookup makes checks 1 and 2; the lowest-numbered matching slot wins
 unfoldable pub lookupAnswer : ℕ → List ℕ → Words → Told
 lookupAnswer w t key = unless (slotChecks w t) (matchTold w t (firstMatch w t key))
+
+-- document 01: a key's reply is id and action, or a miss; a hit's values without the slot
+abbrev pub reply : ℕ → List ℕ → Words → List ℕ
+reply w t key = drop 1 (matchTold w t (firstMatch w t key) .values)
 
 -- a slot's record is shown if checks 1 and 2 pass and the slot is present and occupied
 unfoldable pub shown : ℕ → List ℕ → ℕ → Bool
@@ -63,9 +68,10 @@ unfolding shown
 shown-law w t i =
     let a = passes (slotChecks w t) in
     let b = ltb i (slots w t) in
-    let o = occupied w (slotWords w t i) in
-    (λ e. let r = and-right a (b && o) e in (passes-law (slotChecks w t) (and-left a (b && o) e), ltb-true i (slots w t) (and-left b o r), and-right b o r),
-     λ s. and-both a (b && o) (ap passes (s .0)) (and-both b o (lt-ltb i (slots w t) (s .1)) (s .2)))
+    let o = occupied w (slotWords w t i) in (
+      λ e. let r = and-right a (b && o) e in (passes-law (slotChecks w t) (and-left a (b && o) e), ltb-true i (slots w t) (and-left b o r), and-right b o r),
+      λ s. and-both a (b && o) (ap passes (s .0)) (and-both b o (lt-ltb i (slots w t) (s .1)) (s .2)),
+    )
 
 -- where that part lies
 pub part-shown : (w : ℕ) (t : List ℕ) (i : ℕ) → shown w t i ≡ true → (partStart w t i ≡ i * recordWords w) × (partLength w t i ≡ recordWords w)
@@ -75,6 +81,24 @@ part-shown w t i e = (rw e, rw e)
 pub part-hidden : (w : ℕ) (t : List ℕ) (i : ℕ) → shown w t i ≡ false → (partStart w t i ≡ 0) × (partLength w t i ≡ 0)
 unfolding partStart partLength
 part-hidden w t i e = (rw e, rw e)
+
+pub part-count : (w : ℕ) (t : List ℕ) (i : ℕ) → length (recordPart w t i) ≡ partLength w t i
+part-count w t i = pick (decided (shown w t i))
+  where
+    pick : (shown w t i ≡ true) ⊎ (shown w t i ≡ false) → length (recordPart w t i) ≡ partLength w t i
+    pick (inl e) =
+        let p = part-shown w t i e in
+        let h = slot-within w t i (shown-law w t i .0 e .1) in
+        length-take (partLength w t i) (drop (partStart w t i) t) ∙ (let d = length-drop (partStart w t i) t in omega (arith, p .0, p .1))
+    pick (inr e) =
+        let p = part-hidden w t i e in length-take (partLength w t i) (drop (partStart w t i) t) ∙ (omega (arith, p .1))
+
+-- a part without words is hidden, and one with words is shown
+pub part-none : (w : ℕ) (t : List ℕ) (i : ℕ) → partLength w t i ≡ 0 → shown w t i ≡ false
+part-none w t i e = ⊎-elim (λ s. absurd (let p = part-shown w t i s in omega (arith, p .1))) (λ s. s) (decided (shown w t i))
+
+pub part-some : (w : ℕ) (t : List ℕ) (i : ℕ) → (partLength w t i ≡ 0 → ⊥) → shown w t i ≡ true
+part-some w t i f = ⊎-elim (λ s. s) (λ s. absurd (f (part-hidden w t i s .1))) (decided (shown w t i))
 
 counts : {a b : Told} → a ≡ b → (length (a .values) ≡ length (b .values) → ⊥) → ⊥
 counts e f = f (ap (λ (t : Told). length (t .values)) e)

@@ -1,10 +1,14 @@
 // Looking up a key in a lent table, and reading a slot's record as a part of it.
 // Both make checks 1 and 2 and change nothing.
-use crate::{Hit, LookupAnswer};
-use records::checks::{check_slots, first_match};
-use records::rules::{lower_half, upper_half};
-use records::slot::{slot_empty, slot_word};
+use crate::Hit;
+use crate::LookupAnswer;
 use records::Check;
+use records::checks::check_slots;
+use records::checks::first_match;
+use records::rules::lower_half;
+use records::rules::upper_half;
+use records::slot::slot_empty;
+use records::slot::slot_word;
 ghost use mathlib.Core.Path.{_≡_};
 ghost use Prim.Native.Nat.{_+_, _*_, _<_, _≤_, _/_};
 ghost use lib.ListN.{length};

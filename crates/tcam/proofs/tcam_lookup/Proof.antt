@@ -1,0 +1,66 @@
+use mathlib.Core.Path.{sym, ap, _∙_}
+use denote.Ref.{now}
+use mathlib.Core.List.{[]}
+use Rattle.table.specs.Lookup.{lookupTold}
+use Rattle.tcam.specs.Cells.{success-cells, refusal-cells}
+use borrow.Author.Needs.{needs}
+use Rattle.tcam.proofs.tcam_lookup.Statement.{statement}
+use Rattle.tcam.proofs.tcam_lookup.Tie as tie
+use Rattle.tcam.proofs.tcam_lookup.Reads as reads
+use Rattle.tcam.proofs.tcam_lookup.Lts as lts
+use Rattle.records.proofs.cause_number.Reads as cause-number-reads
+use Rattle.table.proofs.lookup.lookup.Reads as lookup-reads
+
+-- src/lib.rt:27:11
+lookup-requires : tie.Need-lookup-requires
+lookup-requires c κs = search needs
+
+-- src/lib.rt:28:29
+enum-known-hit : tie.Need-enum-known-hit
+enum-known-hit c = search needs
+
+-- src/lib.rt:35:13
+enum-told : tie.Need-enum-told
+enum-told c = search needs
+
+-- src/lib.rt:40:31
+enum-known-cause : tie.Need-enum-known-cause
+enum-known-cause c = search needs
+
+-- src/lib.rt:42:13
+cause-number-requires : tie.Need-cause-number-requires
+cause-number-requires c κs = search needs
+
+-- src/lib.rt:11:1
+returns : tie.Need-returns
+returns c =
+    let a = c .before .before .before .before .before .args in
+    success-cells _ (now (a .slot)) (now (a .id)) (now (a .action)) (now (a .spot))
+    (sym (ap lookupTold (c .before .hit .given .1)) ∙ c .before .before .before .lookup .ensures)
+
+returns-2 : tie.Need-returns-2
+returns-2 c =
+    let a = c .before .before .before .before .args in
+    success-cells [] (now (a .slot)) (now (a .id)) (now (a .action)) (now (a .spot))
+    (sym (ap lookupTold (c .enum-told .given .1)) ∙ c .before .before .lookup .ensures)
+
+returns-3 : tie.Need-returns-3
+returns-3 c =
+    let a = c .before .before .before .before .before .before .args in
+    let told =
+    refusal-cells (c .before .before .cause .given .0 .0) _ (now (a .slot)) (now (a .id)) (now (a .action)) (now (a .spot))
+    (sym (ap lookupTold (c .before .before .cause .given .1)) ∙ c .before .before .before .before .lookup .ensures) in
+    (c .cause-number .ensures ∙ told .0, told .1)
+
+pub tcam-lookup-spec : {M : Type 1} → statement M
+tcam-lookup-spec =
+    tie.close
+    (tie.spec
+    lookup-requires
+    enum-known-hit
+    enum-told
+    enum-known-cause
+    cause-number-requires
+    returns
+    returns-2
+    returns-3)

@@ -1,0 +1,51 @@
+-- Lent cells after a call: on a success its data stands in the data cells, on a refusal its spot in the cell for it.
+-- A cell that an answer does not name is left as it was.
+use mathlib.Core.Path.{_≡_, ap, _∙_}
+use mathlib.Core.Bool.{cond}
+use Prim.Native.Nat.{ℕ}
+use lib.Dec.{eqb}
+use lib.ListN.{getD}
+use mathlib.Core.List.{List, [], _∷_}
+use Rattle.records.specs.Record.{word}
+use Rattle.records.specs.Checks.{Told, causeNumber, success, refusal}
+use Rattle.records.specs.Laws.{cause-not-zero}
+use Rattle.records.specs.declared.Cause.{Cause}
+use Rattle.table.specs.Lookup.{lookupAnswer}
+
+-- what a key of two words is answered
+abbrev pub keyAnswer : List ℕ → ℕ → ℕ → Told
+keyAnswer t high low = lookupAnswer 2 t (word (high ∷ low ∷ []))
+
+-- the cell for value k of a success; a success that has no such value, as a miss, leaves 0
+abbrev pub dataCell : Told → ℕ → ℕ → ℕ
+dataCell told k before = cond (eqb (told .number) 0) (getD (told .values) k 0) before
+
+-- the cell for a refusal's spot
+abbrev pub spotCell : Told → ℕ → ℕ
+spotCell told before = cond (eqb (told .number) 0) before (getD (told .values) 0 0)
+
+-- equal answers leave equal cells
+pub success-cells : (values : List ℕ) {told : Told} (slot id action spot : ℕ) → success values ≡ told
+    → (0 ≡ told .number)
+    × ((getD values 0 0 ≡ dataCell told 0 slot)
+    × ((getD values 1 0 ≡ dataCell told 1 id) × ((getD values 2 0 ≡ dataCell told 2 action) × (spot ≡ spotCell told spot))))
+success-cells values slot id action spot e = (
+  ap (λ (t : Told). t .number) e,
+  (
+    ap (λ (t : Told). dataCell t 0 slot) e,
+    (ap (λ (t : Told). dataCell t 1 id) e, (ap (λ (t : Told). dataCell t 2 action) e, ap (λ (t : Told). spotCell t spot) e)),
+  ),
+)
+
+-- a refusal leaves the data cells, and puts its spot into the spot cell
+pub refusal-cells : (cause : Cause) (place : ℕ) {told : Told} (slot id action spot : ℕ) → refusal cause place ≡ told
+    → (causeNumber cause ≡ told .number)
+    × ((slot ≡ dataCell told 0 slot) × ((id ≡ dataCell told 1 id) × ((action ≡ dataCell told 2 action) × (place ≡ spotCell told spot))))
+refusal-cells cause place {told} slot id action spot e =
+    (ap (λ (t : Told). t .number) e, (kept 0 slot, (kept 1 id, (kept 2 action, put))))
+  where
+    kept : (k before : ℕ) → before ≡ dataCell told k before
+    kept k before = (rw (cause-not-zero cause)) ∙ ap (λ (t : Told). dataCell t k before) e
+
+    put : place ≡ spotCell told spot
+    put = (rw (cause-not-zero cause)) ∙ ap (λ (t : Told). spotCell t spot) e

@@ -1,0 +1,59 @@
+// The C interface: each call on numbers and lent buffers only. include/tcam.h declares it and says what a caller owes.
+// A call returns 0, or the number of the cause why it declined; data goes to lent cells.
+ghost use mathlib.Core.Path.{_≡_};
+ghost use Rattle.table.specs.Lookup.{partStart, partLength};
+ghost use Rattle.tcam.specs.Cells.{keyAnswer, dataCell, spotCell};
+use records::cause_number;
+use table::LookupAnswer;
+use table::lookup::lookup;
+use table::lookup::slot_record;
+
+#[no_mangle]
+pub extern "C" fn tcam_lookup(
+    table: &[u64],
+    key_high: u64,
+    key_low: u64,
+    slot: &mut u32,
+    id: &mut u32,
+    action: &mut u32,
+    spot: &mut u32,
+) -> u32
+    ensures { λ r. ⌜ r ≡ keyAnswer (now (table .entry)) «key_high» «key_low» .number ⌝ }
+    ensures { λ _. ⌜ now (slot .exit) ≡ dataCell (keyAnswer (now (table .entry)) «key_high» «key_low») 0 (now (slot .entry)) ⌝ }
+    ensures { λ _. ⌜ now (id .exit) ≡ dataCell (keyAnswer (now (table .entry)) «key_high» «key_low») 1 (now (id .entry)) ⌝ }
+    ensures { λ _. ⌜ now (action .exit) ≡ dataCell (keyAnswer (now (table .entry)) «key_high» «key_low») 2 (now (action .entry)) ⌝ }
+    ensures { λ _. ⌜ now (spot .exit) ≡ spotCell (keyAnswer (now (table .entry)) «key_high» «key_low») (now (spot .entry)) ⌝ }
+{
+    match lookup(table, [key_high, key_low]) {
+        LookupAnswer::Found(hit) => {
+            *slot = hit.slot;
+            *id = hit.id;
+            *action = hit.action;
+            0
+        }
+        LookupAnswer::Miss => {
+            *slot = 0;
+            *id = 0;
+            *action = 0;
+            0
+        }
+        LookupAnswer::Refused(cause, place) => {
+            *spot = place;
+            cause_number(cause)
+        }
+    }
+}
+
+#[no_mangle]
+pub extern "C" fn tcam_slot_record(table: &[u64], slot: u32, first: &mut u32) -> u32
+    ensures { λ r. ⌜ r ≡ partLength 2 (now (table .entry)) slot ⌝ }
+    ensures { λ _. ⌜ now (first .exit) ≡ partStart 2 (now (table .entry)) slot ⌝ }
+{
+    let part = slot_record(table, slot as usize);
+    if part.len() == 0 {
+        *first = 0;
+        return 0;
+    }
+    *first = slot * 6;
+    6
+}
