@@ -5,7 +5,7 @@ use mathlib.Core.Bool.{Bool, true, false, not, _&&_}
 use mathlib.Core.List.{List, [], _∷_, _++_}
 use Prim.Native.Nat.{ℕ, zero, suc, _+_, _*_, _/_, _%_, _^_, _<_, _≤_}
 use lib.Dec.{eqb, leb}
-use lib.ListN.{length, getD}
+use lib.ListN.{getD, take, drop}
 use Rattle.search.specs.Search.{all}
 use Rattle.ternary.specs.Pattern.{Words, matches, within}
 use Rattle.records.specs.declared.Rule.{Rule}
@@ -80,3 +80,7 @@ ruleOf w x = record {
   mask = listed w (mask w x);
   action = action w x;
 }
+
+-- the table with a record's words in slot i
+unfoldable pub putSlot : ℕ → List ℕ → ℕ → List ℕ → List ℕ
+putSlot w t i words = take (i * recordWords w) t ++ words ++ drop (i * recordWords w + recordWords w) t

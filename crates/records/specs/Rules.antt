@@ -9,10 +9,11 @@ use native.Mathlib.Decide.{ℕ-discrete, decLt}
 use native.Mathlib.Omega.{arith}
 use lib.Arith.{digits-div, digits-mod}
 use lib.Dec.{eqb, leb}
-use lib.ListN.{length, getD, length-append, List·getD-append}
-use lib.Seq.{getD-append-add, getD-at, ext-getD}
+use lib.ListN.{length, getD, set, length-append, List·getD-append}
+use native.Mathlib.Numerals.{add-one, add-two, add-three, add-four, add-five}
+use lib.Seq.{getD-append-add, getD-at, ext-getD, sets-eq}
 use Rattle.ternary.specs.Pattern.{Words, within, within-cong}
-use Rattle.records.specs.Record.{word, listed, recordWords, value, mask, ident, action, rank, sound, soundParts, soundRule, recordOf, ruleOf}
+use Rattle.records.specs.Record.{word, listed, recordWords, value, mask, ident, action, rank, sound, soundParts, soundRule, recordOf, ruleOf, putSlot}
 use Rattle.records.specs.declared.Rule.{Rule}
 
 pub length-listed : (n : ℕ) (f : Words) → length (listed n f) ≡ n
@@ -160,3 +161,12 @@ module _ (w : ℕ) (x : Words) (small : rank w x < 4294967296) where
       ext-getD 0 (recordOf w (ruleOf w x)) (listed (recordWords w) x)
       (record-length w (ruleOf w x) ∙ sym (length-listed (recordWords w) x))
       (λ j l. let h : j < recordWords w = (let e = record-length w (ruleOf w x) in omega arith) in word-of-rule j h ∙ sym (word-listed (recordWords w) x j h))
+
+-- six stores in a row put a record's words into a slot
+pub six-stores : (t : List ℕ) (i a b c d e f : ℕ) → i * 6 + 6 ≤ length t
+    → set (set (set (set (set (set t (i * 6) a) (i * 6 + 1) b) (i * 6 + 2) c) (i * 6 + 3) d) (i * 6 + 4) e) (i * 6 + 5) f
+    ≡ putSlot 2 t i (a ∷ b ∷ c ∷ d ∷ e ∷ f ∷ [])
+unfolding putSlot
+six-stores t i a b c d e f h =
+    rw (add-one (i * 6), add-two (i * 6), add-three (i * 6), add-four (i * 6), add-five (i * 6))
+    (sets-eq (a ∷ b ∷ c ∷ d ∷ e ∷ f ∷ []) t (i * 6) h)

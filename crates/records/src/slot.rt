@@ -6,7 +6,7 @@ ghost use mathlib.Core.Bool.{not, _&&_};
 ghost use Prim.Native.Nat.{_<_, _/_};
 ghost use lib.Dec.{leb};
 ghost use lib.ListN.{length};
-ghost use Rattle.records.specs.Record.{word, slotWords, empty, occupied, ident, rank, sound, soundParts, patternMatches, slotMatches};
+ghost use Rattle.records.specs.Record.{word, slotWords, empty, occupied, ident, rank, sound, soundParts, patternMatches, slotMatches, listed, putSlot};
 ghost use Rattle.records.specs.Order.{sameId, distinct, misordered, overlapping};
 ghost use Rattle.records.specs.Checks.{unsoundAt};
 
@@ -178,4 +178,18 @@ pub fn misordered_pair(table: &[u64], slot: usize, other: usize) -> bool
         return distinct_rules(table, slot, other);
     }
     false
+}
+
+// Puts a record's words into a slot.
+pub fn put_record(table: &mut [u64], slot: usize, words: [u64; 6])
+    requires { ⌜ slot < length (now table) / 6 ⌝ }
+    ensures { λ _. ⌜ now (table .exit) ≡ putSlot 2 (now (table .entry)) slot (listed 6 (word words)) ⌝ }
+{
+    let first = slot * 6;
+    table[first] = words[0];
+    table[first + 1] = words[1];
+    table[first + 2] = words[2];
+    table[first + 3] = words[3];
+    table[first + 4] = words[4];
+    table[first + 5] = words[5];
 }

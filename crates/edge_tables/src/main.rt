@@ -1,0 +1,181 @@
+// Test program: tables at the edge of document 01, looked up and checked; what it prints is held to the file stdout.
+// Answers are printed as the script program prints them: A slot id action, M, R number spot; C for a table that passes checks 1 to 4.
+ghost use mathlib.Core.Path.{_≡_};
+ghost use lib.ListN.{length};
+use records::checks::check_table;
+use records::rules::record_of;
+use records::slot::put_record;
+use records::{cause_number, Cause, Check, Rule};
+use table::lookup::{lookup, slot_record};
+use table::LookupAnswer;
+
+fn number(value: u64) {
+    io::write_all(1, b" ");
+    io::print_decimal(1, value);
+}
+
+fn refused(cause: Cause, spot: u32) {
+    io::write_all(1, b"R");
+    number(cause_number(cause) as u64);
+    number(spot as u64);
+    io::write_all(1, b"\n");
+}
+
+// Looks a key up and prints the answer.
+fn show_lookup(table: &[u64], key: [u64; 2]) {
+    match lookup(table, key) {
+        LookupAnswer::Found(hit) => {
+            io::write_all(1, b"A");
+            number(hit.slot as u64);
+            number(hit.id as u64);
+            number(hit.action as u64);
+            io::write_all(1, b"\n");
+        }
+        LookupAnswer::Miss => {
+            io::write_all(1, b"M\n");
+        }
+        LookupAnswer::Refused(cause, spot) => refused(cause, spot),
+    }
+}
+
+// Makes checks 1 to 4 and prints the answer.
+fn show_checks(table: &[u64]) {
+    match check_table(table) {
+        Check::Pass => {
+            io::write_all(1, b"C\n");
+        }
+        Check::Fail(cause, spot) => refused(cause, spot),
+    }
+}
+
+// Prints how many words the part for a slot's record has, and the last of them where there are any.
+fn show_record(table: &[u64], slot: usize) {
+    let part = slot_record(table, slot);
+    io::write_all(1, b"W");
+    number(part.len() as u64);
+    if 5 < part.len() {
+        number(part[5]);
+    }
+    io::write_all(1, b"\n");
+}
+
+// Puts a rule into a slot, if the table has it.
+fn put(table: &mut [u64], slot: usize, rule: Rule) {
+    if slot < table.len() / 6 {
+        put_record(table, slot, record_of(rule));
+    }
+}
+
+// Puts a rule into a slot and makes the checks.
+fn check_with(table: &mut [u64], slot: usize, rule: Rule) {
+    put(table, slot, rule);
+    show_checks(table);
+}
+
+// A rule that cares for the bits of a mask's high word.
+fn rule(id: u32, priority: u32, value: u64, mask: u64) -> Rule {
+    Rule {
+        id,
+        priority,
+        value: [value, 0],
+        mask: [mask, 0],
+        action: 7,
+    }
+}
+
+// Slot counts: none, not a whole number of records, 1, 1,024 and 1,025.
+fn shapes(table: &[u64])
+    requires { ⌜ length (now table) ≡ 6150 ⌝ }
+{
+    io::write_all(1, b"shapes\n");
+    show_lookup(&table[0..0], [0, 0]);
+    show_lookup(&table[0..5], [0, 0]);
+    show_lookup(&table[0..7], [0, 0]);
+    show_lookup(&table[0..6], [0, 0]);
+    show_lookup(&table[0..6144], [0, 0]);
+    show_lookup(&table[0..6150], [0, 0]);
+    show_checks(&table[0..6144]);
+    show_checks(&table[0..6150]);
+}
+
+// The last of 1,024 slots, with a rule that cares for no bit: it matches every key and overlaps every rule.
+fn last_slot(table: &mut [u64]) {
+    io::write_all(1, b"mask 0 in the last slot\n");
+    put(table, 1023, rule(4294967295, 0, 0, 0));
+    show_lookup(table, [0, 0]);
+    show_lookup(table, [18446744073709551615, 18446744073709551615]);
+    show_record(table, 1023);
+    show_record(table, 1024);
+    show_record(table, 0);
+}
+
+fn before_last_slot(table: &mut [u64]) {
+    check_with(table, 0, rule(1, 0, 256, 256));
+    check_with(table, 0, rule(1, 1, 256, 256));
+    show_lookup(table, [256, 0]);
+    show_lookup(table, [255, 0]);
+}
+
+// Records at the limit of soundness, in slot 1 before a sound one.
+fn soundness(table: &mut [u64]) {
+    io::write_all(1, b"records\n");
+    put(table, 2, rule(9, 9, 1, 1));
+    check_with(table, 1, rule(5, 65535, 4, 4));
+    check_with(table, 1, rule(5, 65536, 4, 4));
+}
+
+fn id_zero(table: &mut [u64]) {
+    show_record(table, 2);
+    check_with(table, 1, rule(0, 5, 4, 4));
+}
+
+// A value outside its mask; then two unsound records: the lower slot is named.
+fn lower_unsound(table: &mut [u64]) {
+    check_with(table, 1, rule(5, 5, 4, 3));
+    show_lookup(table, [1, 0]);
+    check_with(table, 0, rule(6, 6, 8, 0));
+}
+
+// Rules that do not overlap may stand anyhow; of two that do, the earlier needs the strictly higher priority.
+fn order(table: &mut [u64]) {
+    io::write_all(1, b"ids and order\n");
+    put(table, 0, rule(1, 10, 2, 2));
+    put(table, 1, rule(2, 20, 0, 2));
+    check_with(table, 2, rule(3, 20, 4, 4));
+}
+
+fn strictly_higher(table: &mut [u64]) {
+    check_with(table, 2, rule(3, 10, 4, 4));
+    check_with(table, 2, rule(3, 9, 4, 4));
+}
+
+// An id twice is named before any order is looked at; lookup asks for neither.
+fn ids(table: &mut [u64]) {
+    check_with(table, 2, rule(2, 19, 4, 4));
+    show_lookup(table, [6, 0]);
+    show_lookup(table, [4, 0]);
+    show_lookup(table, [3, 0]);
+}
+
+fn small_tables() {
+    let mut three = [0u64; 18];
+    soundness(&mut three);
+    id_zero(&mut three);
+    lower_unsound(&mut three);
+    let mut others = [0u64; 18];
+    order(&mut others);
+    strictly_higher(&mut others);
+    ids(&mut others);
+}
+
+fn large_table(table: &mut [u64]) {
+    last_slot(table);
+    before_last_slot(table);
+}
+
+fn main() {
+    let mut table = [0u64; 6150];
+    shapes(&table);
+    large_table(&mut table[0..6144]);
+    small_tables();
+}
