@@ -2,12 +2,16 @@
 // Answers are printed as the script program prints them: A slot id action, M, R number spot; C for a table that passes checks 1 to 4.
 ghost use mathlib.Core.Path.{_≡_};
 ghost use lib.ListN.{length};
+use records::Cause;
+use records::Check;
+use records::Rule;
+use records::cause_number;
 use records::checks::check_table;
 use records::rules::record_of;
 use records::slot::put_record;
-use records::{cause_number, Cause, Check, Rule};
-use table::lookup::{lookup, slot_record};
 use table::LookupAnswer;
+use table::lookup::lookup;
+use table::lookup::slot_record;
 
 fn number(value: u64) {
     io::write_all(1, b" ");

@@ -78,17 +78,17 @@ fn pattern_matches(table: &[u64], slot: usize, key_high: u64, key_low: u64) -> b
     requires { ⌜ slot < length (now table) / 6 ⌝ }
     ensures { λ r. ⌜ r ≡ patternMatches 2 (word («key_high» ∷ «key_low» ∷ [])) (slotWords 2 (now (table .entry)) slot) ⌝ }
 {
-    let high = ternary::word_matches(
+    let high_agrees = ternary::word_matches(
         key_high,
         slot_word(table, slot, 0),
         slot_word(table, slot, 2),
     );
-    let low = ternary::word_matches(
+    let low_agrees = ternary::word_matches(
         key_low,
         slot_word(table, slot, 1),
         slot_word(table, slot, 3),
     );
-    high & low
+    high_agrees & low_agrees
 }
 
 // Exactly which keys a slot matches: an empty one none.
@@ -97,7 +97,8 @@ pub fn slot_matches(table: &[u64], slot: usize, key_high: u64, key_low: u64) -> 
     ensures { λ r. ⌜ r ≡ slotMatches 2 (word («key_high» ∷ «key_low» ∷ [])) (slotWords 2 (now (table .entry)) slot) ⌝ }
 {
     if pattern_matches(table, slot, key_high, key_low) {
-        return !slot_empty(table, slot);
+        let vacant = slot_empty(table, slot);
+        return !vacant;
     }
     false
 }

@@ -34,7 +34,8 @@ fn match_answer(table: &[u64], slot: usize) -> LookupAnswer
     ensures { λ r. ⌜ lookupTold r ≡ matchTold 2 (now (table .entry)) slot ⌝ }
 {
     if slot < table.len() / 6 {
-        return LookupAnswer::Found(hit_at(table, slot));
+        let hit = hit_at(table, slot);
+        return LookupAnswer::Found(hit);
     }
     LookupAnswer::Miss
 }
