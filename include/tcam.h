@@ -25,11 +25,12 @@
  *     null only where its length is 0;
  *   - the lent cells are apart from each other and from the table;
  *   - nothing changes the table during a call;
- *   - the platform is x86-64 with the System V calling convention. Its red zone is used: an interrupt
- *     handler must not run on the same stack without stepping over the 128 bytes below its top.
+ *   - the platform is x86-64 with the System V calling convention. SSE2 registers and the red zone are
+ *     used: an interrupt handler saves those registers if it uses them, and steps over the 128 bytes
+ *     below the stack pointer if it runs on the same stack.
  *
- * No call changes the table or keeps anything for later, so several may run at once on one table, each
- * with cells of its own. Each call checks the whole table first: its time grows with the slots.
+ * No call changes the table or keeps anything for later. Each call checks the whole table first, so its
+ * time grows with the number of slots.
  */
 #ifndef TCAM_H
 #define TCAM_H
@@ -60,7 +61,7 @@ enum tcam_cause {
     TCAM_UNKNOWN = 7,  /* the id to delete is absent */
     TCAM_TIE = 8,      /* the rule overlaps one of equal priority */
     TCAM_FULL = 9,     /* no slot is empty */
-    TCAM_CROSSED = 10, /* a rule that must stand after the new one stands before one that must precede it */
+    TCAM_CROSSED = 10, /* a rule that depends on the new one stands before one that precedes it */
     TCAM_SHORT = 11,   /* the plan or image buffer is too short */
     TCAM_WRITE = 12,   /* the write does not fit */
     TCAM_LINE = 13,    /* the script line is malformed */
@@ -103,7 +104,8 @@ uint32_t tcam_lookup(const uint64_t *table, size_t words, uint64_t key_high, uin
  * Result 0: the part is empty and *first is set to 0. This is so where words is not 6 * (1 to 1,024),
  * where any slot is neither empty nor a sound rule, where there is no such slot, and where it is empty.
  *
- * Never a refusal: the result is a number of words, and *first is always written.
+ * Never a refusal: the result is a number of words, and *first is always written. Why a table is not
+ * sound is told by tcam_lookup, with any key.
  * Left as it was, always: the table.
  */
 uint32_t tcam_slot_record(const uint64_t *table, size_t words, uint32_t slot, uint32_t *first);
