@@ -1,37 +1,29 @@
+-- `tcam::tcam_lookup` meets its contract.
+-- The answer's number is the result, and each cell holds what the definition of cells says.
 use mathlib.Core.Path.{sym, ap, _∙_}
-use denote.Ref.{now}
 use mathlib.Core.List.{[]}
+use denote.Ref.{now}
+use borrow.Author.Needs.{needs}
 use Rattle.table.specs.Lookup.{lookupTold}
 use Rattle.tcam.specs.Cells.{success-cells, refusal-cells}
-use borrow.Author.Needs.{needs}
 use Rattle.tcam.proofs.tcam_lookup.Statement.{statement}
 use Rattle.tcam.proofs.tcam_lookup.Tie as tie
-use Rattle.tcam.proofs.tcam_lookup.Reads as reads
-use Rattle.tcam.proofs.tcam_lookup.Lts as lts
-use Rattle.records.proofs.cause_number.Reads as cause-number-reads
-use Rattle.table.proofs.lookup.lookup.Reads as lookup-reads
 
--- src/lib.rt:27:11
 lookup-requires : tie.Need-lookup-requires
 lookup-requires c κs = search needs
 
--- src/lib.rt:28:29
 enum-known-hit : tie.Need-enum-known-hit
 enum-known-hit c = search needs
 
--- src/lib.rt:35:13
 enum-told : tie.Need-enum-told
 enum-told c = search needs
 
--- src/lib.rt:40:31
 enum-known-cause : tie.Need-enum-known-cause
 enum-known-cause c = search needs
 
--- src/lib.rt:42:13
 cause-number-requires : tie.Need-cause-number-requires
 cause-number-requires c κs = search needs
 
--- src/lib.rt:11:1
 returns : tie.Need-returns
 returns c =
     let a = c .before .before .before .before .before .args in

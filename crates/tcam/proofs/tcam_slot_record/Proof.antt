@@ -1,22 +1,19 @@
+-- `tcam::tcam_slot_record` meets its contract.
+-- The part's length tells whether the slot is shown.
 use mathlib.Core.Path.{_≡_, sym, ap, _∙_}
 use mathlib.Core.Bool.{true}
 use native.Mathlib.Omega.{arith}
-use denote.Ref.{now}
 use lib.ListN.{length}
+use denote.Ref.{now}
+use borrow.Author.Needs.{needs}
 use Rattle.records.specs.Laws.{slot-checks-length}
 use Rattle.table.specs.Lookup.{shown, shown-law, partLength, part-count, part-none, part-some, part-shown, part-hidden}
-use borrow.Author.Needs.{needs}
 use Rattle.tcam.proofs.tcam_slot_record.Statement.{statement}
 use Rattle.tcam.proofs.tcam_slot_record.Tie as tie
-use Rattle.tcam.proofs.tcam_slot_record.Reads as reads
-use Rattle.tcam.proofs.tcam_slot_record.Lts as lts
-use Rattle.table.proofs.lookup.slot_record.Reads as slot-record-reads
 
--- src/lib.rt:52:9
 slot-record-requires : tie.Need-slot-record-requires
 slot-record-requires c κs = search needs
 
--- src/lib.rt:55:9
 -- the part that the call returned has as many words as the definition says
 count : (c : tie.After-slot-record) → length (c .slot-record .result .now) ≡ partLength 2 (now (c .before .before .args .table)) (c .before .before .args .slot)
 count c = ap length (c .slot-record .ensures .0) ∙ part-count 2 _ _

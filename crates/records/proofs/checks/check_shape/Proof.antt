@@ -1,15 +1,13 @@
+-- `records::checks::check_shape` meets its contract.
+-- The test is the definition's.
 use Rattle.records.specs.Checks.{checkShape, shaped}
 use Rattle.records.proofs.checks.check_shape.Statement.{statement}
 use Rattle.records.proofs.checks.check_shape.Tie as tie
-use Rattle.records.proofs.checks.check_shape.Reads as reads
-use Rattle.records.proofs.checks.check_shape.Lts as lts
 
--- src/checks.rt:19:9
 returns : tie.Need-returns
 unfolding checkShape shaped
 returns c = rw (c .if1 .taken)
 
--- src/checks.rt:13:1
 returns-2 : tie.Need-returns-2
 unfolding checkShape shaped
 returns-2 c = rw (c .if1 .left)

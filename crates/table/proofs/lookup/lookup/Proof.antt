@@ -1,25 +1,19 @@
+-- `table::lookup::lookup` meets its contract.
+-- A refusal where a check fails; else the answer for the first match, which reads the key's two words.
 use mathlib.Core.Path.{sym, ap, _∙_}
+use borrow.Author.Needs.{needs}
 use Rattle.records.specs.Rules.{two-words}
 use Rattle.records.specs.Laws.{refused, answered, slot-checks-length, first-match-cong}
 use Rattle.table.specs.Lookup.{lookupAnswer, matchTold}
-use borrow.Author.Needs.{needs}
 use Rattle.table.proofs.lookup.lookup.Statement.{statement}
 use Rattle.table.proofs.lookup.lookup.Tie as tie
-use Rattle.table.proofs.lookup.lookup.Reads as reads
-use Rattle.table.proofs.lookup.lookup.Lts as lts
-use Rattle.records.proofs.checks.check_slots.Reads as check-slots-reads
-use Rattle.records.proofs.checks.first_match.Reads as first-match-reads
-use Rattle.table.proofs.lookup.match_answer.Reads as match-answer-reads
 
--- src/lookup.rt:35:9
 check-slots-requires : tie.Need-check-slots-requires
 check-slots-requires c κs = search needs
 
--- src/lookup.rt:36:24
 enum-known-check : tie.Need-enum-known-check
 enum-known-check c = search needs
 
--- src/lookup.rt:37:9
 returns : tie.Need-returns
 unfolding lookupAnswer
 returns c = refused _ (c .before .before .before .check-slots .ensures) (c .before .check .given .1)
@@ -27,23 +21,18 @@ returns c = refused _ (c .before .before .before .check-slots .ensures) (c .befo
 enum-told : tie.Need-enum-told
 enum-told c = search needs
 
--- src/lookup.rt:39:44
 array-read-first-match : tie.Need-array-read-first-match
 array-read-first-match c = search needs
 
--- src/lookup.rt:39:52
 array-read-first-match-2 : tie.Need-array-read-first-match-2
 array-read-first-match-2 c = search needs
 
--- src/lookup.rt:39:25
 first-match-requires : tie.Need-first-match-requires
 first-match-requires c κs = search needs
 
--- src/lookup.rt:39:5
 match-answer-requires : tie.Need-match-answer-requires
 match-answer-requires c κs = slot-checks-length 2 _ (sym (c .before .before .before .check-slots .ensures) ∙ c .before .enum-told .given .1)
 
--- src/lookup.rt:32:1
 returns-2 : tie.Need-returns-2
 unfolding lookupAnswer
 returns-2 c = answered (c .before .before .before .before .check-slots .ensures) (c .before .before .enum-told .given .1) (c .match-answer .ensures ∙ ap (matchTold 2 _) (c .before .first-match .ensures ∙ first-match-cong 2 _ (two-words (c .before .before .before .before .before .before .args .t2))))

@@ -1,15 +1,14 @@
+-- `table::lookup::slot_record` meets its contract.
+-- A slot that is shown lies within the table; its part begins where the definition says.
 use mathlib.Core.Path.{_≡_, refl, sym, ap, ap₂, _∙_}
 use Prim.Native.Nat.{ℕ, _+_, _-_, _*_, _/_, _<_}
 use native.Mathlib.Omega.{arith}
-use denote.Ref.{now}
 use lib.ListN.{length, take, drop}
-use Rattle.table.specs.Lookup.{shown-law, part-shown, part-hidden}
+use denote.Ref.{now}
 use borrow.Author.Needs.{needs}
+use Rattle.table.specs.Lookup.{shown-law, part-shown, part-hidden}
 use Rattle.table.proofs.lookup.slot_record.Statement.{statement}
 use Rattle.table.proofs.lookup.slot_record.Tie as tie
-use Rattle.table.proofs.lookup.slot_record.Reads as reads
-use Rattle.table.proofs.lookup.slot_record.Lts as lts
-use Rattle.table.proofs.lookup.slot_shown.Reads as slot-shown-reads
 
 -- a slot that is shown is inside the table
 inside : (c : tie.Then1) → c .before .before .before .args .slot < length (now (c .before .before .before .args .table)) / 6
@@ -18,31 +17,24 @@ inside c = shown-law 2 _ _ .0 (sym (c .before .slot-shown .ensures) ∙ c .if1 .
 slot-shown-requires : tie.Need-slot-shown-requires
 slot-shown-requires c κs = search needs
 
--- src/lookup.rt:62:21
 mul-first : tie.Need-mul-first
 mul-first c = omega (arith, inside c)
 
--- src/lookup.rt:63:30
 add-result : tie.Need-add-result
 add-result c = omega (arith, inside c)
 
--- src/lookup.rt:63:16
 mul-result : tie.Need-mul-result
 mul-result c = omega (arith, inside c)
 
--- src/lookup.rt:63:16
 sub-result : tie.Need-sub-result
 sub-result c = search needs
 
--- src/lookup.rt:63:16
 part-result-start : tie.Need-part-result-start
 part-result-start c = search needs
 
--- src/lookup.rt:63:16
 part-result-end : tie.Need-part-result-end
 part-result-end c = omega (arith, inside c)
 
--- src/lookup.rt:63:9
 returns : tie.Need-returns
 returns c =
     let t = c .before .before .before .before .args .table in
@@ -51,19 +43,15 @@ returns c =
     let six : (i * 6 + 6) - i * 6 ≡ 6 = omega arith in
     (ap₂ (λ (n k : ℕ). take n (drop k (now t))) (six ∙ sym (p .1)) (sym (p .0)), (refl, ap (λ (k : ℕ). k * 8 + t .ptr .1) (sym (p .0))))
 
--- src/lookup.rt:65:5
 sub-result-2 : tie.Need-sub-result-2
 sub-result-2 c = search needs
 
--- src/lookup.rt:65:5
 part-result-start-2 : tie.Need-part-result-start-2
 part-result-start-2 c = search needs
 
--- src/lookup.rt:65:5
 part-result-end-2 : tie.Need-part-result-end-2
 part-result-end-2 c = search needs
 
--- src/lookup.rt:57:1
 returns-2 : tie.Need-returns-2
 returns-2 c =
     let t = c .before .before .before .before .args .table in

@@ -1,26 +1,21 @@
-use borrow.Author.Tests.{lt-ltb, le-ltb}
+-- `table::lookup::slot_shown` meets its contract.
+-- The checks pass, the slot is present, and it is occupied.
 use mathlib.Core.Bool.{not}
 use mathlib.Core.Path.{refl, ap}
+use borrow.Author.Tests.{lt-ltb, le-ltb}
+use borrow.Author.Needs.{needs}
 use Rattle.search.specs.Search.{and-more, and-stop}
 use Rattle.records.specs.Checks.{passes}
 use Rattle.table.specs.Lookup.{shown}
-use borrow.Author.Needs.{needs}
 use Rattle.table.proofs.lookup.slot_shown.Statement.{statement}
 use Rattle.table.proofs.lookup.slot_shown.Tie as tie
-use Rattle.table.proofs.lookup.slot_shown.Reads as reads
-use Rattle.table.proofs.lookup.slot_shown.Lts as lts
-use Rattle.records.proofs.checks.check_slots.Reads as check-slots-reads
-use Rattle.records.proofs.slot.slot_empty.Reads as slot-empty-reads
 
--- src/lookup.rt:46:9
 check-slots-requires : tie.Need-check-slots-requires
 check-slots-requires c κs = search needs
 
--- src/lookup.rt:48:9
 enum-told : tie.Need-enum-told
 enum-told c = search needs
 
--- src/lookup.rt:48:9
 returns : tie.Need-returns
 unfolding shown
 returns c = and-stop _ (ap passes (c .before .before .check-slots .ensures)) (ap passes (c .enum-told .given .1))
@@ -28,16 +23,13 @@ returns c = and-stop _ (ap passes (c .before .before .check-slots .ensures)) (ap
 enum-told-2 : tie.Need-enum-told-2
 enum-told-2 c = search needs
 
--- src/lookup.rt:51:17
 slot-empty-requires : tie.Need-slot-empty-requires
 slot-empty-requires c κs = search needs
 
--- src/lookup.rt:51:9
 returns-2 : tie.Need-returns-2
 unfolding shown
 returns-2 c = and-more (ap passes (c .before .before .before .before .check-slots .ensures)) (ap passes (c .before .before .enum-told2 .given .1)) (and-more refl (lt-ltb _ _ (c .before .if1 .taken)) (ap not (c .slot-empty .ensures)))
 
--- src/lookup.rt:43:1
 returns-3 : tie.Need-returns-3
 unfolding shown
 returns-3 c = and-more (ap passes (c .before .before .before .check-slots .ensures)) (ap passes (c .before .enum-told2 .given .1)) (and-stop _ refl (le-ltb _ _ (c .if1 .left)))
