@@ -1,0 +1,207 @@
+-- What a layout holds, and what copies, put-ins and emptyings do to it.
+-- Ids may stand in several slots; the premise is that a layout is coherent: entries of one id are equal.
+use mathlib.Core.Path.{_≡_, refl, sym, ap, _∙_, subst}
+use mathlib.Core.Bool.{Bool, true, false, not, _&&_, _||_, or-true, true≢false}
+use mathlib.Core.Logic.{_↔_, _⊎_, ⊎-elim, _≢_}
+use mathlib.Core.Logic._⊎_.{inl, inr}
+use mathlib.Core.List.{List}
+use Prim.Native.Nat.{ℕ, suc, _<_}
+use native.Mathlib.Omega.{arith}
+use native.Mathlib.Decide.{ℕ-discrete, decLt}
+use lib.Dec.{eqb}
+use lib.ListN.{length, getD, set, length-set}
+use lib.Seq.{getD-set-same, getD-set-other}
+use borrow.Author.Tests.{not-true, eqb-false, ne-eqb}
+use Rattle.search.specs.Search.{any, any-yes, any-some, and-both, and-left, and-right, decided}
+use Rattle.layout.specs.Order.{Laws}
+
+module _ {S : Type 0} (empty : S) where
+  -- the three kinds of write
+  abbrev pub copied : List S → ℕ → ℕ → List S
+  copied t from to = set t to (getD t from empty)
+
+  abbrev pub filled : List S → ℕ → S → List S
+  filled t to e = set t to e
+
+  abbrev pub emptied : List S → ℕ → List S
+  emptied t to = set t to empty
+
+module _ {S : Type 0} (empty : S) (occupied : S → Bool) where
+  -- an occupied entry that stands in some slot
+  abbrev pub Held : List S → S → Type 0
+  Held t e = (occupied e ≡ true) × ((i : ℕ) × (i < length t) × (getD t i empty ≡ e))
+
+module _ {S : Type 0} (empty : S) (same : S → S → Bool) where
+  -- each id stands once
+  abbrev pub Unique : List S → Type 0
+  Unique t = (i k : ℕ) → i < length t → k < length t → i ≢ k → same (getD t i empty) (getD t k empty) ≡ false
+
+  -- entries of one id are equal
+  abbrev pub Coherent : List S → Type 0
+  Coherent t = (i k : ℕ) → i < length t → k < length t → same (getD t i empty) (getD t k empty) ≡ true → getD t i empty ≡ getD t k empty
+
+  -- the entry's id stands in no slot
+  abbrev pub NewId : List S → S → Type 0
+  NewId t e = (k : ℕ) → k < length t → same (getD t k empty) e ≡ false
+
+  -- the id in slot j stands in another slot too
+  abbrev pub Elsewhere : List S → ℕ → Type 0
+  Elsewhere t j = (k : ℕ) × (k < length t) × (k ≢ j) × (same (getD t k empty) (getD t j empty) ≡ true)
+
+  -- at most one pair of different slots has one id
+  abbrev pub OnePair : List S → Type 0
+  OnePair t =
+      (i k p q : ℕ) → i < k → k < length t → p < q → q < length t
+      → same (getD t i empty) (getD t k empty) ≡ true → same (getD t p empty) (getD t q empty) ≡ true → (i ≡ p) × (k ≡ q)
+
+module _ {S : Type 0} (empty : S) (occupied : S → Bool) (same : S → S → Bool) where
+  -- a write to slot j loses no rule: "an empty slot or one whose id stands in another slot too"
+  abbrev pub Free : List S → ℕ → Type 0
+  Free t j = (occupied (getD t j empty) ≡ false) ⊎ Elsewhere empty same t j
+
+  -- the same as a test
+  unfoldable pub free : List S → ℕ → Bool
+  free t j = not (occupied (getD t j empty)) || any (λ k. not (eqb k j) && same (getD t k empty) (getD t j empty)) (length t)
+
+  pub free-law : (t : List S) (j : ℕ) → (free t j ≡ true) ↔ Free t j
+  unfolding free
+  free-law t j = (λ e. forth (decided (occupied (getD t j empty))) e, back)
+    where
+      other : ℕ → Bool
+      other k = not (eqb k j) && same (getD t k empty) (getD t j empty)
+
+      found : any other (length t) ≡ true → Elsewhere empty same t j
+      found e =
+          let r = any-yes other (length t) e in
+          let k : ℕ = r .0 in
+          (k, r .1, eqb-false k j (not-true (eqb k j) (and-left (not (eqb k j)) (same (getD t k empty) (getD t j empty)) (r .2))), and-right (not (eqb k j)) (same (getD t k empty) (getD t j empty)) (r .2))
+
+      forth : (occupied (getD t j empty) ≡ true) ⊎ (occupied (getD t j empty) ≡ false) → not (occupied (getD t j empty)) || any other (length t) ≡ true → Free t j
+      forth (inl o) e = inr (found (rw o at e))
+      forth (inr o) e = inl o
+
+      back : Free t j → not (occupied (getD t j empty)) || any other (length t) ≡ true
+      back (inl o) = rw o
+      back (inr (k, b, d, s)) =
+          let a : any other (length t) ≡ true = any-some other (length t) k b (and-both (not (eqb k j)) (same (getD t k empty) (getD t j empty)) (ap not (ne-eqb k j d)) s) in
+          ap (λ (x : Bool). not (occupied (getD t j empty)) || x) a ∙ or-true (not (occupied (getD t j empty)))
+
+module _ {S : Type 0} {empty : S} {occupied : S → Bool} {same misordered : S → S → Bool} (laws : Laws empty occupied same misordered) where
+  -- an entry of another slot's id is told from one of none
+  pub same-vacant : (a b : S) → occupied b ≡ false → same a b ≡ false
+  same-vacant a b o = ⊎-elim (λ e. absurd (true≢false (sym (laws .same-occupied b a (laws .same-symmetric a b e)) ∙ o))) (λ e. e) (decided (same a b))
+
+  pub unique-coherent : (t : List S) → Unique empty same t → Coherent empty same t
+  unique-coherent t u i k a b s = pick (ℕ-discrete i k)
+    where
+      pick : Dec (i ≡ k) → getD t i empty ≡ getD t k empty
+      pick (yes e) = rw e
+      pick (no n) = absurd (true≢false (sym s ∙ u i k a b n))
+
+  -- a write keeps a layout coherent if its entry is equal to each entry of its id
+  pub coherent-written : (t : List S) (j : ℕ) (e : S) → Coherent empty same t
+      → ((k : ℕ) → k < length t → same (getD t k empty) e ≡ true → getD t k empty ≡ e) → Coherent empty same (set t j e)
+  coherent-written t j e c f i k a b s = pick (ℕ-discrete i j) (ℕ-discrete k j)
+    where
+      n : length (set t j e) ≡ length t
+      n = length-set t j e
+
+      pick : Dec (i ≡ j) → Dec (k ≡ j) → getD (set t j e) i empty ≡ getD (set t j e) k empty
+      pick (yes p) (yes q) = rw (p, q)
+      pick (yes p) (no q) =
+          let w : getD (set t j e) i empty ≡ e = rw p (getD-set-same t j e empty (omega (arith, n))) in
+          let v : getD (set t j e) k empty ≡ getD t k empty = getD-set-other t j k e empty q in
+          w ∙ (sym (f k (omega (arith, n)) (laws .same-symmetric _ _ (rw (w, v) at s))) ∙ sym v)
+      pick (no p) (yes q) =
+          let w : getD (set t j e) k empty ≡ e = rw q (getD-set-same t j e empty (omega (arith, n))) in
+          let v : getD (set t j e) i empty ≡ getD t i empty = getD-set-other t j i e empty p in
+          v ∙ (f i (omega (arith, n)) (rw (w, v) at s) ∙ sym w)
+      pick (no p) (no q) =
+          let w : getD (set t j e) i empty ≡ getD t i empty = getD-set-other t j i e empty p in
+          let v : getD (set t j e) k empty ≡ getD t k empty = getD-set-other t j k e empty q in
+          w ∙ (c i k (omega (arith, n)) (omega (arith, n)) (rw (w, v) at s) ∙ sym v)
+
+  pub coherent-copied : (t : List S) (f j : ℕ) → f < length t → Coherent empty same t → Coherent empty same (copied empty t f j)
+  coherent-copied t f j h c = coherent-written t j (getD t f empty) c (λ k b s. c k f b h s)
+
+  pub coherent-emptied : (t : List S) (j : ℕ) → Coherent empty same t → Coherent empty same (emptied empty t j)
+  coherent-emptied t j c = coherent-written t j empty c (λ k b s. absurd (true≢false (sym s ∙ same-vacant _ _ (laws .vacant))))
+
+  pub coherent-filled : (t : List S) (j : ℕ) (e : S) → NewId empty same t e → Coherent empty same t → Coherent empty same (filled empty t j e)
+  coherent-filled t j e new c = coherent-written t j e c (λ k b s. absurd (true≢false (sym s ∙ new k b)))
+
+  -- of each entry held, a slot that may be written is not the only one
+  pub held-outside : (t : List S) (j : ℕ) (x : S) → Coherent empty same t → j < length t → Free empty occupied same t j → Held empty occupied t x
+      → (k : ℕ) × (k < length t) × (k ≢ j) × (getD t k empty ≡ x)
+  held-outside t j x c h f (o, (i, b, e)) = pick (ℕ-discrete i j) f
+    where
+      pick : Dec (i ≡ j) → Free empty occupied same t j → (k : ℕ) × (k < length t) × (k ≢ j) × (getD t k empty ≡ x)
+      pick (no d) f = (i, b, d, e)
+      pick (yes d) (inl v) = absurd (true≢false (sym o ∙ (ap occupied (sym e) ∙ (ap (λ (i : ℕ). occupied (getD t i empty)) d ∙ v))))
+      pick (yes d) (inr (k, l, ne, s)) = (k, l, ne, c k j l h s ∙ (ap (λ (i : ℕ). getD t i empty) (sym d) ∙ e))
+
+  -- a write that loses no rule adds its entry, if that is occupied, and nothing else
+  pub held-written : (t : List S) (j : ℕ) (e : S) → Coherent empty same t → j < length t → Free empty occupied same t j
+      → (x : S) → Held empty occupied (set t j e) x ↔ (Held empty occupied t x ⊎ ((occupied e ≡ true) × (e ≡ x)))
+  held-written t j e c h f x = (λ w. forth (w .0) (w .1 .0) (w .1 .1) (w .1 .2) (ℕ-discrete (w .1 .0) j), back)
+    where
+      n : length (set t j e) ≡ length t
+      n = length-set t j e
+
+      forth : occupied x ≡ true → (i : ℕ) → i < length (set t j e) → getD (set t j e) i empty ≡ x → Dec (i ≡ j)
+          → Held empty occupied t x ⊎ ((occupied e ≡ true) × (e ≡ x))
+      forth o i b q (yes d) =
+          let w : e ≡ x = sym (getD-set-same t j e empty h) ∙ (ap (λ (i : ℕ). getD (set t j e) i empty) (sym d) ∙ q) in
+          inr (ap occupied w ∙ o, w)
+      forth o i b q (no d) = inl (o, (i, omega (arith, n), sym (getD-set-other t j i e empty d) ∙ q))
+
+      back : Held empty occupied t x ⊎ ((occupied e ≡ true) × (e ≡ x)) → Held empty occupied (set t j e) x
+      back (inl w) =
+          let r = held-outside t j x c h f w in
+          (w .0, (r .0, omega (arith, n, r .1), getD-set-other t j (r .0) e empty (r .2) ∙ r .3))
+      back (inr (o, q)) = (ap occupied (sym q) ∙ o, (j, omega (arith, n), getD-set-same t j e empty h ∙ q))
+
+  -- a copy that fits leaves what is held as it was
+  pub held-copied : (t : List S) (f j : ℕ) → Coherent empty same t → f < length t → j < length t → Free empty occupied same t j
+      → (x : S) → Held empty occupied (copied empty t f j) x ↔ Held empty occupied t x
+  held-copied t f j c b h v x =
+      let r = held-written t j (getD t f empty) c h v x in
+      (λ w. ⊎-elim (λ y. y) (λ y. (ap occupied (sym (y .1)) ∙ y .0, (f, b, y .1))) (r .0 w), λ w. r .1 (inl w))
+
+  -- so does the emptying of a slot whose id stands elsewhere
+  pub held-emptied : (t : List S) (j : ℕ) → Coherent empty same t → j < length t → Elsewhere empty same t j
+      → (x : S) → Held empty occupied (emptied empty t j) x ↔ Held empty occupied t x
+  held-emptied t j c h v x =
+      let r = held-written t j empty c h (inr v) x in
+      (λ w. ⊎-elim (λ y. y) (λ y. absurd (true≢false (sym (y .0) ∙ laws .vacant))) (r .0 w), λ w. r .1 (inl w))
+
+  -- a put-in that fits adds its entry
+  pub held-filled : (t : List S) (j : ℕ) (e : S) → Coherent empty same t → j < length t → Free empty occupied same t j → occupied e ≡ true
+      → (x : S) → Held empty occupied (filled empty t j e) x ↔ (Held empty occupied t x ⊎ (e ≡ x))
+  held-filled t j e c h v o x =
+      let r = held-written t j e c h v x in
+      (λ w. ⊎-elim (λ y. inl y) (λ y. inr (y .1)) (r .0 w), λ w. r .1 (⊎-elim (λ y. inl y) (λ y. inr (o, y)) w))
+
+  -- the emptying of an id's only slot takes its entry away, and nothing else
+  pub held-removed : (t : List S) (j : ℕ) → j < length t
+      → ((k : ℕ) → k < length t → k ≢ j → same (getD t k empty) (getD t j empty) ≡ false)
+      → (x : S) → Held empty occupied (emptied empty t j) x ↔ (Held empty occupied t x × (same x (getD t j empty) ≡ false))
+  held-removed t j h only x = (λ w. forth (w .0) (w .1 .0) (w .1 .1) (w .1 .2) (ℕ-discrete (w .1 .0) j), λ w. back (w .0 .0) (w .0 .1 .0) (w .0 .1 .1) (w .0 .1 .2) (w .1) (ℕ-discrete (w .0 .1 .0) j))
+    where
+      n : length (set t j empty) ≡ length t
+      n = length-set t j empty
+
+      forth : occupied x ≡ true → (i : ℕ) → i < length (set t j empty) → getD (set t j empty) i empty ≡ x → Dec (i ≡ j)
+          → Held empty occupied t x × (same x (getD t j empty) ≡ false)
+      forth o i b q (yes d) =
+          absurd (true≢false (sym o ∙ (ap occupied (sym q ∙ (ap (λ (i : ℕ). getD (set t j empty) i empty) d ∙ getD-set-same t j empty empty h)) ∙ laws .vacant)))
+      forth o i b q (no d) =
+          let w : getD t i empty ≡ x = sym (getD-set-other t j i empty empty d) ∙ q in
+          ((o, (i, omega (arith, n), w)), rw w at (only i (omega (arith, n)) d))
+
+      back : occupied x ≡ true → (i : ℕ) → i < length t → getD t i empty ≡ x → same x (getD t j empty) ≡ false → Dec (i ≡ j)
+          → Held empty occupied (set t j empty) x
+      back o i b q s (yes d) =
+          let w : getD t j empty ≡ x = ap (λ (i : ℕ). getD t i empty) (sym d) ∙ q in
+          absurd (true≢false (sym (laws .same-self x o) ∙ (ap (same x) (sym w) ∙ s)))
+      back o i b q s (no d) = (o, (i, omega (arith, n), getD-set-other t j i empty empty d ∙ q))

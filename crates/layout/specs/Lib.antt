@@ -1,0 +1,4 @@
+-- The mathematics of moving rules: order, what is held, replies, costs, chains, plans, and why no sequence of document 01's class is shorter.
+-- Everything is over any type of entries, with tests for "occupied", "same id" and "out of order", and any number of slots.
+pub mod Order
+pub mod Held

@@ -1,0 +1,149 @@
+-- Order of a layout, as document 01 words it, and what one write does to it.
+-- A layout is the list of its slots' entries, an empty slot's included; reading past its end gives the empty entry.
+use mathlib.Core.Path.{_≡_, refl, sym, ap, _∙_, subst}
+use mathlib.Core.Bool.{Bool, true, false, not, false≢true}
+use mathlib.Core.Logic.{_↔_, _⊎_, ⊎-elim, _≢_}
+use mathlib.Core.Logic._⊎_.{inl, inr}
+use mathlib.Core.List.{List}
+use Prim.Native.Nat.{ℕ, suc, _<_}
+use native.Mathlib.Omega.{arith}
+use native.Mathlib.Decide.{ℕ-discrete, decLt}
+use lib.ListN.{length, getD, set, length-set}
+use lib.Seq.{getD-set-same, getD-set-other, set-out}
+use borrow.Author.Tests.{not-true}
+use Rattle.search.specs.Search.{all, all-law, decided}
+
+-- misordered a b: a standing in a lower slot than b is out of order, that is, b precedes a or the two tie.
+-- same a b: both are occupied and have one id.
+pub record Laws {S : Type 0} (empty : S) (occupied : S → Bool) (same misordered : S → S → Bool) : Type 0 where
+  pub vacant : occupied empty ≡ false
+  pub misordered-left : (a b : S) → occupied a ≡ false → misordered a b ≡ false
+  pub misordered-right : (a b : S) → occupied b ≡ false → misordered a b ≡ false
+  pub misordered-same : (a b : S) → same a b ≡ true → misordered a b ≡ false
+  pub same-occupied : (a b : S) → same a b ≡ true → occupied a ≡ true
+  pub same-self : (a : S) → occupied a ≡ true → same a a ≡ true
+  pub same-symmetric : (a b : S) → same a b ≡ true → same b a ≡ true
+  pub same-transitive : (a b c : S) → same a b ≡ true → same b c ≡ true → same a c ≡ true
+
+module _ {S : Type 0} (empty : S) (misordered : S → S → Bool) where
+  -- "the table is in order"
+  abbrev pub InOrder : List S → Type 0
+  InOrder t = (x y : ℕ) → x < y → y < length t → misordered (getD t x empty) (getD t y empty) ≡ false
+
+  -- the same as a test
+  unfoldable pub inOrder : List S → Bool
+  inOrder t = all (λ y. all (λ x. not (misordered (getD t x empty) (getD t y empty))) y) (length t)
+
+  pub in-order-law : (t : List S) → (inOrder t ≡ true) ↔ InOrder t
+  unfolding inOrder
+  in-order-law t = (
+    λ e x y l h. not-true _ (all-law _ y .0 (all-law _ (length t) .0 e y h) x l),
+    λ o. all-law _ (length t) .1 (λ y h. all-law _ y .1 (λ x l. ap not (o x y l h))),
+  )
+
+  -- the slots other than j are in order among themselves
+  abbrev pub OthersInOrder : List S → ℕ → Type 0
+  OthersInOrder t j = (x y : ℕ) → x < y → y < length t → x ≢ j → y ≢ j → misordered (getD t x empty) (getD t y empty) ≡ false
+
+  -- the entry e in slot j stands right against each other slot; entries of its own id are not compared with it
+  abbrev pub StandsRight : (S → S → Bool) → List S → ℕ → S → Type 0
+  StandsRight same t j e =
+      (k : ℕ) → k < length t → same (getD t k empty) e ≡ false
+      → (k < j → misordered (getD t k empty) e ≡ false) × (j < k → misordered e (getD t k empty) ≡ false)
+
+module _ {S : Type 0} {empty : S} {occupied : S → Bool} {same misordered : S → S → Bool} (laws : Laws empty occupied same misordered) where
+  -- copies of one id are never compared
+  pub copies-not-compared : (a b : S) → same a b ≡ true → (misordered a b ≡ false) × (misordered b a ≡ false)
+  copies-not-compared a b e = (laws .misordered-same a b e, laws .misordered-same b a (laws .same-symmetric a b e))
+
+  -- after a write the layout is in order exactly when the others were and the entry written stands right against each of them
+  pub in-order-written : (t : List S) (j : ℕ) (e : S) → j < length t
+      → InOrder empty misordered (set t j e) ↔ (OthersInOrder empty misordered t j × StandsRight empty misordered same t j e)
+  in-order-written t j e h = (λ o. (λ x y l r p q. others o x y l r p q, λ k b s. (λ l. left o k b l, λ l. right o k b l)), λ w. back (w .0) (w .1))
+    where
+      n : length (set t j e) ≡ length t
+      n = length-set t j e
+
+      others : InOrder empty misordered (set t j e) → OthersInOrder empty misordered t j
+      others o x y l r p q = rw (getD-set-other t j x e empty p, getD-set-other t j y e empty q) at (o x y l (omega (arith, n)))
+
+      left : InOrder empty misordered (set t j e) → (k : ℕ) → k < length t → k < j → misordered (getD t k empty) e ≡ false
+      left o k b l = rw (getD-set-other t j k e empty (omega arith), getD-set-same t j e empty h) at (o k j l (omega (arith, n)))
+
+      right : InOrder empty misordered (set t j e) → (k : ℕ) → k < length t → j < k → misordered e (getD t k empty) ≡ false
+      right o k b l = rw (getD-set-other t j k e empty (omega arith), getD-set-same t j e empty h) at (o j k l (omega (arith, n)))
+
+      back : OthersInOrder empty misordered t j → StandsRight empty misordered same t j e → InOrder empty misordered (set t j e)
+      back o s x y l r = pick (ℕ-discrete x j) (ℕ-discrete y j)
+        where
+          pick : Dec (x ≡ j) → Dec (y ≡ j) → misordered (getD (set t j e) x empty) (getD (set t j e) y empty) ≡ false
+          pick (yes p) (yes q) = absurd (omega arith)
+          pick (yes p) (no q) = rw (p, getD-set-same t j e empty h, getD-set-other t j y e empty q) (compare (decided (same (getD t y empty) e)))
+            where
+              compare : (same (getD t y empty) e ≡ true) ⊎ (same (getD t y empty) e ≡ false) → misordered e (getD t y empty) ≡ false
+              compare (inl a) = copies-not-compared _ _ a .1
+              compare (inr a) = s y (omega (arith, n)) a .1 (omega arith)
+          pick (no p) (yes q) = rw (q, getD-set-same t j e empty h, getD-set-other t j x e empty p) (compare (decided (same (getD t x empty) e)))
+            where
+              compare : (same (getD t x empty) e ≡ true) ⊎ (same (getD t x empty) e ≡ false) → misordered (getD t x empty) e ≡ false
+              compare (inl a) = copies-not-compared _ _ a .0
+              compare (inr a) = s x (omega (arith, n)) a .0 (omega arith)
+          pick (no p) (no q) = rw (getD-set-other t j x e empty p, getD-set-other t j y e empty q) (o x y l (omega (arith, n)) p q)
+
+  -- order is hereditary: emptying any slot keeps it
+  pub in-order-emptied : (t : List S) (j : ℕ) → InOrder empty misordered t → InOrder empty misordered (set t j empty)
+  in-order-emptied t j o = pick (decLt j (length t))
+    where
+      pick : Dec (j < length t) → InOrder empty misordered (set t j empty)
+      pick (yes h) =
+          in-order-written t j empty h .1
+          (λ x y l r p q. o x y l r, λ k b s. (λ l. laws .misordered-right _ _ (laws .vacant), λ l. laws .misordered-left _ _ (laws .vacant)))
+      pick (no h) = rw (set-out t j empty (omega arith)) o
+
+-- A direction of moving: toward i j says that slot j is met after slot i, and misplaced a b that a met before b is out of order.
+-- Going down it is (<, misordered), going up (>, misordered with its arguments changed). What both need is proved once, over this record.
+abbrev pub InOrderAlong : {S : Type 0} → S → (ℕ → ℕ → Type 0) → (S → S → Bool) → List S → Type 0
+InOrderAlong empty toward misplaced t =
+    (x y : ℕ) → x < length t → y < length t → toward x y → misplaced (getD t x empty) (getD t y empty) ≡ false
+
+pub record Direction {S : Type 0} (empty : S) (misordered : S → S → Bool) (toward : ℕ → ℕ → Type 0) (misplaced : S → S → Bool) : Type 0 where
+  pub irreflexive : (i : ℕ) → toward i i → ⊥
+  pub transitive : (i j k : ℕ) → toward i j → toward j k → toward i k
+  pub total : (i j : ℕ) → i ≢ j → toward i j ⊎ toward j i
+  pub along : (t : List S) → InOrder empty misordered t → InOrderAlong empty toward misplaced t
+  pub ordered : (t : List S) → InOrderAlong empty toward misplaced t → InOrder empty misordered t
+
+abbrev pub Higher : ℕ → ℕ → Type 0
+Higher i j = i < j
+
+abbrev pub Lower : ℕ → ℕ → Type 0
+Lower i j = j < i
+
+abbrev pub swapped : {S : Type 0} → (S → S → Bool) → S → S → Bool
+swapped misordered a b = misordered b a
+
+-- two different numbers are one way round or the other
+apart : (i j : ℕ) → i ≢ j → (i < j) ⊎ (j < i)
+apart i j ne = pick (decLt i j)
+  where
+    pick : Dec (i < j) → (i < j) ⊎ (j < i)
+    pick (yes l) = inl l
+    pick (no l) = inr (omega arith)
+
+pub down : {S : Type 0} (empty : S) (misordered : S → S → Bool) → Direction empty misordered Higher misordered
+down empty misordered = record {
+  irreflexive = λ i l. omega arith;
+  transitive = λ i j k l r. omega arith;
+  total = apart;
+  along = λ t o x y a b l. o x y l b;
+  ordered = λ t o x y l b. o x y (omega arith) b l;
+}
+
+pub up : {S : Type 0} (empty : S) (misordered : S → S → Bool) → Direction empty misordered Lower (swapped misordered)
+up empty misordered = record {
+  irreflexive = λ i l. omega arith;
+  transitive = λ i j k l r. omega arith;
+  total = λ i j ne. apart j i (λ e. ne (sym e));
+  along = λ t o x y a b l. o y x l a;
+  ordered = λ t o x y l b. o y x b (omega arith) l;
+}
