@@ -2,3 +2,4 @@
 -- Everything is over any type of entries, with tests for "occupied", "same id" and "out of order", and any number of slots.
 pub mod Order
 pub mod Held
+pub mod Replies
