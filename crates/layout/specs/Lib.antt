@@ -3,3 +3,4 @@
 pub mod Order
 pub mod Held
 pub mod Replies
+pub mod Minimum
