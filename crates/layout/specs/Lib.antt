@@ -4,3 +4,4 @@ pub mod Order
 pub mod Held
 pub mod Replies
 pub mod Minimum
+pub mod Cost
