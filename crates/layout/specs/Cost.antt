@@ -22,6 +22,13 @@ pub record InWindow {S : Type 0} (empty : S) (toward : ℕ → ℕ → Type 0) (
   pub after : toward i j
   pub between : (y : ℕ) → y < length t → toward i y → toward y j → misplaced (getD t y empty) (getD t i empty) ≡ false
 
+-- each slot after i is in its window, or past a dependant that is in it
+abbrev pub WindowOrPast : {S : Type 0} → S → (ℕ → ℕ → Type 0) → (S → S → Bool) → List S → Type 0
+WindowOrPast empty toward misplaced t =
+    (i j : ℕ) → i < length t → j < length t → toward i j
+    → InWindow empty toward misplaced t i j
+    ⊎ ((y : ℕ) × InWindow empty toward misplaced t i y × toward y j × (misplaced (getD t y empty) (getD t i empty) ≡ true))
+
 module _ {S : Type 0} (empty : S) (misplaced : S → S → Bool) where
   -- of the entries after e, how many are in its window
   unfoldable pub window : S → List S → ℕ
@@ -103,26 +110,23 @@ module _ {S : Type 0} (empty : S) (misplaced : S → S → Bool) (t : List S) (i
                 subst (λ (z : ℕ). misplaced (getD t z empty) e ≡ false) q (rw getD-drop at (h .1 (y - suc i) (omega arith)));
           }
 
-  -- each slot after i is in its window, or past a dependant that is in it
-  pub window-or-past : (j : ℕ) → j < length t → i < j
-      → InWindow empty Higher misplaced t i j
-      ⊎ ((y : ℕ) × InWindow empty Higher misplaced t i y × (y < j) × (misplaced (getD t y empty) (getD t i empty) ≡ true))
-  window-or-past j b l = pick (decLt place j)
-    where
-      test : ℕ → Bool
-      test y = misplaced (getD t y empty) (getD t i empty)
+pub window-or-past : {S : Type 0} (empty : S) (misplaced : S → S → Bool) (t : List S) → WindowOrPast empty Higher misplaced t
+window-or-past empty misplaced t i j a b l = pick (decLt place j)
+  where
+    test : ℕ → Bool
+    test y = misplaced (getD t y empty) (getD t i empty)
 
-      place : ℕ
-      place = least test (j - suc i) (suc i)
+    place : ℕ
+    place = least test (j - suc i) (suc i)
 
-      nearest : Least test (suc i) (suc i + (j - suc i)) place
-      nearest = least-law test (j - suc i) (suc i)
+    nearest : Least test (suc i) (suc i + (j - suc i)) place
+    nearest = least-law test (j - suc i) (suc i)
 
-      pick : Dec (place < j) → InWindow empty Higher misplaced t i j
-          ⊎ ((y : ℕ) × InWindow empty Higher misplaced t i y × (y < j) × (test y ≡ true))
-      pick (yes h) =
-          inr (place, record { inside = omega arith; after = nearest .low; between = λ y a u v. nearest .before y u v }, h, nearest .hit (omega arith))
-      pick (no h) = inl (record { inside = b; after = l; between = λ y a u v. nearest .before y u (omega arith) })
+    pick : Dec (place < j)
+        → InWindow empty Higher misplaced t i j ⊎ ((y : ℕ) × InWindow empty Higher misplaced t i y × (y < j) × (test y ≡ true))
+    pick (yes h) =
+        inr (place, record { inside = omega arith; after = nearest .low; between = λ y a u v. nearest .before y u v }, h, nearest .hit (omega arith))
+    pick (no h) = inl (record { inside = b; after = l; between = λ y a u v. nearest .before y u (omega arith) })
 
 -- What a cost is, by slot number and in either direction: this says all that document 01 says of it.
 pub record Costs {S : Type 0} (empty : S) (occupied : S → Bool) (toward : ℕ → ℕ → Type 0) (misplaced : S → S → Bool) (t : List S) (top : ℕ) (c : ℕ → ℕ) : Type 0 where

@@ -5,3 +5,4 @@ pub mod Held
 pub mod Replies
 pub mod Minimum
 pub mod Cost
+pub mod Mirror
