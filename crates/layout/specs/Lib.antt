@@ -6,3 +6,4 @@ pub mod Replies
 pub mod Minimum
 pub mod Cost
 pub mod Mirror
+pub mod Chain

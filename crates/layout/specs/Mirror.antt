@@ -17,6 +17,9 @@ use Rattle.layout.specs.Cost.{InWindow, Costs, WindowOrPast}
 abbrev pub mirror : ℕ → ℕ → ℕ
 mirror n i = n - suc i
 
+pub mirror-twice : (n i : ℕ) → i < n → mirror n (mirror n i) ≡ i
+mirror-twice n i h = omega arith
+
 pub getD-reverse : {A : Type 0} (l : List A) (d : A) (i : ℕ) → i < length l → getD (reverse l) i d ≡ getD l (mirror (length l) i) d
 getD-reverse [] d i h = absurd (omega arith)
 getD-reverse (x ∷ xs) d i h = ap (λ l. getD l i d) (reverse-cons x xs) ∙ pick (decLt i (length xs)) (getD-reverse xs d i)
