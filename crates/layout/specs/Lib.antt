@@ -7,3 +7,5 @@ pub mod Minimum
 pub mod Cost
 pub mod Mirror
 pub mod Chain
+pub mod Class
+pub mod Least
