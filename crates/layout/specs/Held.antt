@@ -91,6 +91,9 @@ module _ {S : Type 0} {empty : S} {occupied : S → Bool} {same misordered : S �
   pub same-vacant : (a b : S) → occupied b ≡ false → same a b ≡ false
   same-vacant a b o = ⊎-elim (λ e. absurd (true≢false (sym (laws .same-occupied b a (laws .same-symmetric a b e)) ∙ o))) (λ e. e) (decided (same a b))
 
+  pub same-turned : (a b : S) → same a b ≡ false → same b a ≡ false
+  same-turned a b e = ⊎-elim (λ s. absurd (true≢false (sym (laws .same-symmetric b a s) ∙ e))) (λ s. s) (decided (same b a))
+
   pub unique-coherent : (t : List S) → Unique empty same t → Coherent empty same t
   unique-coherent t u i k a b s = pick (ℕ-discrete i k)
     where

@@ -9,3 +9,4 @@ pub mod Mirror
 pub mod Chain
 pub mod Class
 pub mod Least
+pub mod Valid

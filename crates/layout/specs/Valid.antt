@@ -1,0 +1,326 @@
+-- A chain's writes, far end first, are valid at every prefix: each fits, and leaves the layout in order with each old entry held.
+-- Costs play no part here; any chain will do.
+use mathlib.Core.Path.{_≡_, refl, sym, ap, _∙_, subst, subst₂}
+use mathlib.Core.Bool.{Bool, true, false, true≢false}
+use mathlib.Core.Logic.{_↔_, _⊎_, ⊎-elim, _≢_}
+use mathlib.Core.Logic._⊎_.{inl, inr}
+use mathlib.Core.List.{List, [], _∷_, _++_}
+use Prim.Native.Nat.{ℕ, zero, suc, _+_, _≤_, _<_}
+use native.Mathlib.Omega.{arith}
+use native.Mathlib.Decide.{ℕ-discrete, decLe}
+use lib.ListN.{length, getD, set, take, length-set, length-append}
+use lib.Seq.{getD-set-same, getD-set-other, take-append-le, take-all, take-nil, append-snoc}
+use Rattle.search.specs.Search.{decided}
+use Rattle.layout.specs.Order.{Laws, InOrder, Direction}
+use Rattle.layout.specs.Held.{Held, Unique, Coherent, NewId, OnePair, Free, copied, filled, same-turned, unique-coherent, held-filled}
+use Rattle.layout.specs.Cost.{InWindow}
+use Rattle.layout.specs.Chain.{Chain, chain-inside}
+use Rattle.layout.specs.Class.{Write, copy, put, clear, applied, carried, Fits, Sequence, last, more}
+
+-- the copies of a chain from slot s, the far end first
+unfoldable pub moves : ℕ → List ℕ → List Write
+moves s [] = []
+moves s (j ∷ rest) = moves j rest ++ (copy s j ∷ [])
+
+pub moves-length : (s : ℕ) (rest : List ℕ) → length (moves s rest) ≡ length rest
+unfolding moves
+moves-length s [] = refl
+moves-length s (j ∷ rest) = omega (arith, length-append (moves j rest) (copy s j ∷ []), moves-length j rest)
+
+pub carried-append : {S : Type 0} (empty new : S) (t : List S) (ws vs : List Write)
+    → carried empty new t (ws ++ vs) ≡ carried empty new (carried empty new t ws) vs
+carried-append empty new t [] vs = refl
+carried-append empty new t (w ∷ ws) vs = carried-append empty new (applied empty new t w) ws vs
+
+-- what holds of each layout between two writes of a plan
+pub record Between {S : Type 0} (empty : S) (occupied : S → Bool) (same misordered : S → S → Bool) (first u : List S) : Type 0 where
+  pub slots : length u ≡ length first
+  pub order : InOrder empty misordered u
+  pub held : (x : S) → Held empty occupied u x ↔ Held empty occupied first x
+  pub coherent : Coherent empty same u
+  pub doubled : OnePair empty same u
+
+-- what holds of the layout after the plan: each old entry once, the new one once, in order
+pub record Placed {S : Type 0} (empty : S) (occupied : S → Bool) (same misordered : S → S → Bool) (first : List S) (new : S) (s : ℕ) (u : List S) : Type 0 where
+  pub slots : length u ≡ length first
+  pub order : InOrder empty misordered u
+  pub unique : Unique empty same u
+  pub held : (x : S) → Held empty occupied u x ↔ (Held empty occupied first x ⊎ (new ≡ x))
+  pub entry : getD u s empty ≡ new
+
+module _
+    {S : Type 0} {empty : S} {occupied : S → Bool} {same misordered misplaced : S → S → Bool} {toward : ℕ → ℕ → Type 0}
+    (laws : Laws empty occupied same misplaced) (direction : Direction empty misordered toward misplaced)
+    (first : List S) (ordered : InOrder empty misordered first) (unique : Unique empty same first) where
+  -- The layout after a chain's copies from slot s on: the slots up to s are as they were, and the entry of s is held elsewhere too.
+  record Moved (s : ℕ) (u : List S) : Type 0 where
+    slots : length u ≡ length first
+    order : InOrder empty misordered u
+    free : Free empty occupied same u s
+    before : (y : ℕ) → y < length first → (toward s y → ⊥) → getD u y empty ≡ getD first y empty
+    -- what stands at s or after it came from there
+    origin : (y : ℕ) → y < length first → (z : ℕ) × (z < length first) × (getD u y empty ≡ getD first z empty) × ((toward y s → ⊥) → toward z s → ⊥)
+    apart : (i k : ℕ) → i < length first → k < length first → i ≢ k → i ≢ s → k ≢ s → same (getD u i empty) (getD u k empty) ≡ false
+    kept : (i : ℕ) → i < length first → occupied (getD first i empty) ≡ true → (k : ℕ) × (k < length first) × (k ≢ s) × (getD u k empty ≡ getD first i empty)
+
+  moved-none : (s : ℕ) → s < length first → occupied (getD first s empty) ≡ false → Moved s first
+  moved-none s b o = record {
+    slots = refl;
+    order = ordered;
+    free = inl o;
+    before = λ y g l. refl;
+    origin = λ y g. (y, g, refl, λ l. l);
+    apart = λ i k a g d l r. unique i k a g d;
+    kept = λ i a e. (i, a, λ d. true≢false (sym e ∙ (ap (λ (z : ℕ). occupied (getD first z empty)) d ∙ o)), refl);
+  }
+
+  -- one copy more: from s to j, where the chain from j has been carried out
+  module _ (s j : ℕ) (u : List S) (b : s < length first) (full : occupied (getD first s empty) ≡ true) (w : InWindow empty toward misplaced first s j) (m : Moved j u) where
+    asymmetric : (x y : ℕ) → toward x y → toward y x → ⊥
+    asymmetric x y l r = direction .irreflexive x (direction .transitive x y x l r)
+
+    distinct : (x y : ℕ) → toward x y → x ≢ y
+    distinct x y l d = direction .irreflexive y (subst (λ (z : ℕ). toward z y) d l)
+
+    source : getD u s empty ≡ getD first s empty
+    source = m .before s b (asymmetric s j (w .after))
+
+    abbrev v : List S
+    v = copied empty u s j
+
+    there : getD v j empty ≡ getD first s empty
+    there = getD-set-same u j (getD u s empty) empty (omega (arith, m .slots, w .inside)) ∙ source
+
+    elsewhere : (y : ℕ) → y ≢ j → getD v y empty ≡ getD u y empty
+    elsewhere y d = getD-set-other u j y (getD u s empty) empty d
+
+    at-s : getD v s empty ≡ getD first s empty
+    at-s = elsewhere s (distinct s j (w .after)) ∙ source
+
+    itself : same (getD first s empty) (getD first s empty) ≡ true
+    itself = laws .same-self (getD first s empty) full
+
+    -- u is in order along the direction
+    along : (x y : ℕ) → x < length first → y < length first → toward x y → misplaced (getD u x empty) (getD u y empty) ≡ false
+    along x y a g l = direction .along u (m .order) x y (omega (arith, m .slots)) (omega (arith, m .slots)) l
+
+    -- the copy stands right against each slot that comes before it, and after it
+    arrives : (x : ℕ) → x < length first → toward x j → Dec (x ≡ s) → misplaced (getD u x empty) (getD first s empty) ≡ false
+    arrives x a l (yes d) = rw (d, source) (laws .misordered-same (getD first s empty) (getD first s empty) itself)
+    arrives x a l (no d) = ⊎-elim
+        (λ r. rw source at (along x s a b r))
+        (λ r. rw (m .before x a (asymmetric x j l)) (w .between x a r l)) (direction .total x s d)
+
+    departs : (y : ℕ) → y < length first → toward j y → misplaced (getD first s empty) (getD u y empty) ≡ false
+    departs y g l = rw source at (along s y b g (direction .transitive s j y (w .after) l))
+
+    in-order : InOrder empty misordered v
+    in-order = direction .ordered v (λ x y a g l. pick x y (omega (arith, n)) (omega (arith, n)) l (ℕ-discrete x j) (ℕ-discrete y j))
+      where
+        n : length v ≡ length first
+        n = length-set u j (getD u s empty) ∙ m .slots
+
+        pick : (x y : ℕ) → x < length first → y < length first → toward x y → Dec (x ≡ j) → Dec (y ≡ j) → misplaced (getD v x empty) (getD v y empty) ≡ false
+        pick x y a g l (yes d) (yes e) = absurd (distinct x y l (d ∙ sym e))
+        pick x y a g l (yes d) (no e) = rw (d, there, elsewhere y e) (departs y g (subst (λ (z : ℕ). toward z y) d l))
+        pick x y a g l (no d) (yes e) = rw (e, there, elsewhere x d) (arrives x a (subst (toward x) e l) (ℕ-discrete x s))
+        pick x y a g l (no d) (no e) = rw (elsewhere x d, elsewhere y e) (along x y a g l)
+
+    moved-link : Moved s v
+    moved-link = record {
+      slots = length-set u j (getD u s empty) ∙ m .slots;
+      order = in-order;
+      free = inr (j, omega (arith, w .inside, length-set u j (getD u s empty), m .slots), λ d. distinct s j (w .after) (sym d), rw (there, at-s) itself);
+      before = λ y g l. elsewhere y (λ d. l (subst (toward s) (sym d) (w .after))) ∙ m .before y g (λ r. l (direction .transitive s j y (w .after) r));
+      origin = λ y g. from y g (ℕ-discrete y j);
+      apart = λ i k a g d l r. alone i k a g d l r (ℕ-discrete i j) (ℕ-discrete k j);
+      kept = λ i a o. held i a o (m .kept i a o);
+    }
+      where
+        from : (y : ℕ) → y < length first → Dec (y ≡ j) → (z : ℕ) × (z < length first) × (getD v y empty ≡ getD first z empty) × ((toward y s → ⊥) → toward z s → ⊥)
+        from y g (yes d) = (s, b, rw d there, λ l. direction .irreflexive s)
+        from y g (no d) = ⊎-elim
+            (λ l. (y, g, elsewhere y d ∙ m .before y g (asymmetric y j l), λ r. r))
+            (λ l. let q = m .origin y g in (q .0, q .1, elsewhere y d ∙ q .2, λ r x. q .3 (λ z. asymmetric y j z l) (direction .transitive (q .0) s j x (w .after))))
+            (direction .total y j d)
+
+        -- the copy at j is of no other id than s's, which stands nowhere else but at s
+        copy-alone : (k : ℕ) → k < length first → k ≢ s → k ≢ j → same (getD first s empty) (getD u k empty) ≡ false
+        copy-alone k g l r = rw source at (m .apart s k b g (λ e. l (sym e)) (distinct s j (w .after)) r)
+
+        alone : (i k : ℕ) → i < length first → k < length first → i ≢ k → i ≢ s → k ≢ s → Dec (i ≡ j) → Dec (k ≡ j) → same (getD v i empty) (getD v k empty) ≡ false
+        alone i k a g d l r (yes p) (yes q) = absurd (d (p ∙ sym q))
+        alone i k a g d l r (yes p) (no q) = rw (p, there, elsewhere k q) (copy-alone k g r q)
+        alone i k a g d l r (no p) (yes q) = rw (q, there, elsewhere i p) (same-turned laws _ _ (copy-alone i a l p))
+        alone i k a g d l r (no p) (no q) = rw (elsewhere i p, elsewhere k q) (m .apart i k a g d p q)
+
+        held : (i : ℕ) → i < length first → occupied (getD first i empty) ≡ true → (k : ℕ) × (k < length first) × (k ≢ j) × (getD u k empty ≡ getD first i empty)
+            → (k : ℕ) × (k < length first) × (k ≢ s) × (getD v k empty ≡ getD first i empty)
+        held i a o (k, g, d, e) = pick (ℕ-discrete k s)
+          where
+            pick : Dec (k ≡ s) → (k : ℕ) × (k < length first) × (k ≢ s) × (getD v k empty ≡ getD first i empty)
+            pick (no l) = (k, g, l, elsewhere k d ∙ e)
+            pick (yes l) = (j, w .inside, λ q. distinct s j (w .after) (sym q), there ∙ (sym source ∙ (ap (λ (z : ℕ). getD u z empty) (sym l) ∙ e)))
+
+  module _ (s : ℕ) (b : s < length first) (u : List S) (m : Moved s u) where
+    -- the slot that shares the id of s is one only
+    partner : (i k : ℕ) → i < length first → k < length first → i ≢ s → k ≢ s
+        → same (getD u i empty) (getD u s empty) ≡ true → same (getD u k empty) (getD u s empty) ≡ true → i ≡ k
+    partner i k a g l r e f = pick (ℕ-discrete i k)
+      where
+        pick : Dec (i ≡ k) → i ≡ k
+        pick (yes d) = d
+        pick (no d) = absurd (true≢false (sym (laws .same-transitive _ _ _ e (laws .same-symmetric _ _ f)) ∙ m .apart i k a g d l r))
+
+    -- of two slots with one id, one is s
+    one-is : (i k : ℕ) → i < length first → k < length first → i ≢ k → same (getD u i empty) (getD u k empty) ≡ true → (i ≡ s) ⊎ (k ≡ s)
+    one-is i k a g d e = pick (ℕ-discrete i s) (ℕ-discrete k s)
+      where
+        pick : Dec (i ≡ s) → Dec (k ≡ s) → (i ≡ s) ⊎ (k ≡ s)
+        pick (yes p) q = inl p
+        pick (no p) (yes q) = inr q
+        pick (no p) (no q) = absurd (true≢false (sym e ∙ m .apart i k a g d p q))
+
+    pairs : OnePair empty same u
+    pairs i k p q l a r c e f = pick (one-is i k (omega (arith, n)) (omega (arith, n)) (omega arith) e) (one-is p q (omega (arith, n)) (omega (arith, n)) (omega arith) f)
+      where
+        n : length u ≡ length first
+        n = m .slots
+
+        turn : (x y : ℕ) → x ≡ s → same (getD u x empty) (getD u y empty) ≡ true → same (getD u y empty) (getD u s empty) ≡ true
+        turn x y d e = laws .same-symmetric _ _ (rw d at e)
+
+        keep : (x y : ℕ) → y ≡ s → same (getD u x empty) (getD u y empty) ≡ true → same (getD u x empty) (getD u s empty) ≡ true
+        keep x y d e = rw d at e
+
+        pick : (i ≡ s) ⊎ (k ≡ s) → (p ≡ s) ⊎ (q ≡ s) → (i ≡ p) × (k ≡ q)
+        pick (inl x) (inl y) = (x ∙ sym y, partner k q (omega (arith, n)) (omega (arith, n)) (omega arith) (omega arith) (turn i k x e) (turn p q y f))
+        pick (inr x) (inr y) = (partner i p (omega (arith, n)) (omega (arith, n)) (omega arith) (omega arith) (keep i k x e) (keep p q y f), x ∙ sym y)
+        pick (inl x) (inr y) = let z = partner k p (omega (arith, n)) (omega (arith, n)) (omega arith) (omega arith) (turn i k x e) (keep p q y f) in absurd (omega arith)
+        pick (inr x) (inl y) = let z = partner i q (omega (arith, n)) (omega (arith, n)) (omega arith) (omega arith) (keep i k x e) (turn p q y f) in absurd (omega arith)
+
+    moved-between : Between empty occupied same misordered first u
+    moved-between = record {
+      slots = m .slots;
+      order = m .order;
+      held = λ x. (
+        λ h. let z = m .origin (h .1 .0) (omega (arith, m .slots, h .1 .1)) in (h .0, (z .0, z .1, sym (z .2) ∙ h .1 .2)),
+        λ h. let z = m .kept (h .1 .0) (h .1 .1) (ap occupied (h .1 .2) ∙ h .0) in (h .0, (z .0, omega (arith, m .slots, z .1), z .3 ∙ h .1 .2)),
+      );
+      coherent = λ i k a g e.
+          let p = m .origin i (omega (arith, m .slots)) in
+          let q = m .origin k (omega (arith, m .slots)) in
+          p .2 ∙ (unique-coherent laws first unique (p .0) (q .0) (p .1) (q .1) (rw (p .2, q .2) at e) ∙ sym (q .2));
+      doubled = pairs;
+    }
+
+  -- the chain's copies lead there
+  chain-moved : (new : S) {s : ℕ} {rest : List ℕ} → Chain empty occupied toward misplaced first s rest → Moved s (carried empty new first (moves s rest))
+  unfolding moves
+  chain-moved new {s} (Chain.stop b o) = moved-none s b o
+  chain-moved new {s} (Chain.link {j = j} {rest = rest} b o w k) =
+      rw (carried-append empty new first (moves j rest) (copy s j ∷ [])) (moved-link s j (carried empty new first (moves j rest)) b o w (chain-moved new k))
+
+  -- after each of them the layout is in order and holds what it held, at most one entry twice
+  pub chain-between : (new : S) {s : ℕ} {rest : List ℕ} → Chain empty occupied toward misplaced first s rest
+      → (k : ℕ) → Between empty occupied same misordered first (carried empty new first (take k (moves s rest)))
+  unfolding moves
+  chain-between new {s} (Chain.stop b o) k = rw (take-nil {A = Write} k) (moved-between s b first (moved-none s b o))
+  chain-between new {s} (Chain.link {j = j} {rest = rest} b o w x) k = pick (decLe k (length (moves j rest))) (chain-between new x k)
+    where
+      pick : Dec (k ≤ length (moves j rest)) → Between empty occupied same misordered first (carried empty new first (take k (moves j rest)))
+          → Between empty occupied same misordered first (carried empty new first (take k (moves s (j ∷ rest))))
+      pick (yes h) r = rw (take-append-le k (moves j rest) (copy s j ∷ []) h) r
+      pick (no h) r =
+          let n : length (moves s (j ∷ rest)) ≤ k = omega (arith, length-append (moves j rest) (copy s j ∷ [])) in
+          rw (take-all k (moves s (j ∷ rest)) n) (moved-between s b _ (chain-moved new (Chain.link b o w x)))
+
+  -- what the new rule must be for slot s: right against each entry, by where it stood first
+  module _ (new : S) (fresh : NewId empty same first new) (full : occupied new ≡ true) (s : ℕ)
+      (earlier : (y : ℕ) → y < length first → toward y s → misplaced (getD first y empty) new ≡ false)
+      (later : (z : ℕ) → z < length first → (toward z s → ⊥) → misplaced new (getD first z empty) ≡ false) where
+    -- the put-in after the chain's copies
+    placed : (u : List S) → s < length first → Moved s u → Placed empty occupied same misordered first new s (filled empty u s new)
+    placed u b m = record {
+      slots = n;
+      order = direction .ordered (filled empty u s new) (λ x y a g l. right x y (omega (arith, n)) (omega (arith, n)) l (ℕ-discrete x s) (ℕ-discrete y s));
+      unique = λ i k a g d. alone i k (omega (arith, n)) (omega (arith, n)) d (ℕ-discrete i s) (ℕ-discrete k s);
+      held = λ x.
+          let f = held-filled laws u s new (between .coherent) (omega (arith, m .slots)) (m .free) full x in
+          (λ h. ⊎-elim (λ a. inl (between .held x .0 a)) (λ a. inr a) (f .0 h), λ h. f .1 (⊎-elim (λ a. inl (between .held x .1 a)) (λ a. inr a) h));
+      entry = here;
+    }
+      where
+        n : length (filled empty u s new) ≡ length first
+        n = length-set u s new ∙ m .slots
+
+        here : getD (filled empty u s new) s empty ≡ new
+        here = getD-set-same u s new empty (omega (arith, m .slots))
+
+        between : Between empty occupied same misordered first u
+        between = moved-between s b u m
+
+        other : (y : ℕ) → y ≢ s → getD (filled empty u s new) y empty ≡ getD u y empty
+        other y d = getD-set-other u s y new empty d
+
+        right : (x y : ℕ) → x < length first → y < length first → toward x y → Dec (x ≡ s) → Dec (y ≡ s)
+            → misplaced (getD (filled empty u s new) x empty) (getD (filled empty u s new) y empty) ≡ false
+        right x y a g l (yes d) (yes e) = absurd (direction .irreflexive s (subst₂ toward d e l))
+        right x y a g l (yes d) (no e) =
+            let z = m .origin y g in
+            rw (d, here, other y e, z .2) (later (z .0) (z .1) (z .3 (λ r. direction .irreflexive y (direction .transitive y s y r (subst (λ (q : ℕ). toward q y) d l)))))
+        right x y a g l (no d) (yes e) =
+            let q : toward x s = subst (toward x) e l in
+            rw (e, here, other x d, m .before x a (λ r. direction .irreflexive x (direction .transitive x s x q r))) (earlier x a q)
+        right x y a g l (no d) (no e) = rw (other x d, other y e) (direction .along u (m .order) x y (omega (arith, m .slots)) (omega (arith, m .slots)) l)
+
+        fresh-u : (k : ℕ) → k < length first → same (getD u k empty) new ≡ false
+        fresh-u k g = let z = m .origin k g in rw (z .2) (fresh (z .0) (z .1))
+
+        alone : (i k : ℕ) → i < length first → k < length first → i ≢ k → Dec (i ≡ s) → Dec (k ≡ s)
+            → same (getD (filled empty u s new) i empty) (getD (filled empty u s new) k empty) ≡ false
+        alone i k a g d (yes p) (yes q) = absurd (d (p ∙ sym q))
+        alone i k a g d (yes p) (no q) = rw (p, here, other k q) (same-turned laws _ _ (fresh-u k g))
+        alone i k a g d (no p) (yes q) = rw (q, here, other i p) (fresh-u i a)
+        alone i k a g d (no p) (no q) = rw (other i p, other k q) (m .apart i k a g d p q)
+
+    -- the whole plan ends with each old entry once and the new one once, in order
+    pub plan-placed : {rest : List ℕ} → Chain empty occupied toward misplaced first s rest
+        → Placed empty occupied same misordered first new s (carried empty new first (moves s rest ++ (put s ∷ [])))
+    plan-placed {rest} x =
+        rw (carried-append empty new first (moves s rest) (put s ∷ [])) (placed (carried empty new first (moves s rest)) (chain-inside x) (chain-moved new x))
+
+  -- a chain's copies, and then any sequence of the class from there
+  chain-sequence : (new : S) {s : ℕ} {rest : List ℕ} → Chain empty occupied toward misplaced first s rest → (ws : List Write)
+      → Sequence empty occupied same misordered toward new (carried empty new first (moves s rest)) ws
+      → Sequence empty occupied same misordered toward new first (moves s rest ++ ws)
+  unfolding moves
+  chain-sequence new (Chain.stop b o) ws q = q
+  chain-sequence new {s} (Chain.link {j = j} {rest = rest} b o w x) ws q =
+      let u : List S = carried empty new first (moves j rest) in
+      let m : Moved j u = chain-moved new x in
+      let n : length u ≡ length first = m .slots in
+      rw (append-snoc (moves j rest) (copy s j) ws)
+      (chain-sequence new x (copy s j ∷ ws) (
+      more s j (omega arith) (omega (arith, w .inside)) (w .after) (ap occupied (source s j u b o w m) ∙ o) (m .free) (in-order s j u b o w m)
+      (rw (carried-append empty new first (moves j rest) (copy s j ∷ [])) at q)
+      ))
+
+  -- a plan is itself in the comparison class
+  pub plan-sequence : (new : S) {s : ℕ} {rest : List ℕ} → Chain empty occupied toward misplaced first s rest
+      → InOrder empty misordered (carried empty new first (moves s rest ++ (put s ∷ [])))
+      → Sequence empty occupied same misordered toward new first (moves s rest ++ (put s ∷ []))
+  plan-sequence new {s} {rest} x o =
+      let m : Moved s (carried empty new first (moves s rest)) = chain-moved new x in
+      chain-sequence new x (put s ∷ [])
+      (last s (omega (arith, m .slots, chain-inside x)) (m .free) (rw (carried-append empty new first (moves s rest) (put s ∷ [])) at o))
+
+-- each write of a sequence of the class fits where it is carried out
+pub sequence-fits :
+    {S : Type 0} {empty : S} {occupied : S → Bool} {same misordered : S → S → Bool} {toward : ℕ → ℕ → Type 0} → ((i : ℕ) → toward i i → ⊥)
+    → {new : S} {t : List S} {ws : List Write} → Sequence empty occupied same misordered toward new t ws
+    → (k : ℕ) → k < length ws → Fits empty occupied same (carried empty new t (take k ws)) (getD ws k (clear 0))
+sequence-fits i (Sequence.last s b f o) zero h = (b, f)
+sequence-fits i (Sequence.last s b f o) (suc k) h = absurd (omega arith)
+sequence-fits {toward = toward} i (Sequence.more g j a b l e f o r) zero h = (a, b, λ d. i j (subst (λ (z : ℕ). toward z j) d l), e, f)
+sequence-fits i (Sequence.more g j a b l e f o r) (suc k) h = sequence-fits i r k (omega arith)
