@@ -10,3 +10,5 @@ pub mod Chain
 pub mod Class
 pub mod Least
 pub mod Valid
+pub mod Plan
+pub mod Examples
