@@ -67,6 +67,30 @@ module _ {S : Type 0} {empty : S} {occupied : S → Bool} {toward : ℕ → ℕ 
     walk-length {s} (Walk.stop b o) = sym (law .vacant s b o)
     walk-length {s} (Walk.link b o w e f k) = ap suc (walk-length k) ∙ sym e
 
+    -- a finite cost is attained by a walk
+    pub walk-exists : (k s : ℕ) → s < length t → c s ≡ k → k ≤ top → (rest : List ℕ) × Walk empty occupied toward misplaced t c s rest
+    walk-exists zero s b e h = ([], stop b (cost-zero s b .0 e))
+    walk-exists (suc k) s b e h =
+        let o = cost-positive s k b e in
+        let r = law .next s b o (omega arith) in
+        let w = walk-exists k (r .0) (r .1 .inside) (omega (arith, r .2)) (omega arith) in
+        (r .0 ∷ w .0, link {rest = w .0} b o (r .1) (r .2) (r .3) (w .1))
+
+    module _ (rank : ℕ → ℕ) (low : (i : ℕ) → i < length t → rank i < length t)
+        (rises : (i j : ℕ) → i < length t → j < length t → toward i j → rank i < rank j) where
+      -- a finite cost is below the number of slots, by as many as come before
+      pub cost-below : (s : ℕ) → s < length t → c s ≤ top → c s + rank s < length t
+      cost-below s b h =
+          let w = walk-exists (c s) s b refl h in
+          omega (arith, chain-length rank low rises (walk-chain (w .1)), walk-length (w .1))
+
+      -- where that number stands for infinity, a cost is finite exactly when there is a chain
+      pub finite-chain : top ≡ length t → (s : ℕ) → s < length t → (c s < length t) ↔ ((rest : List ℕ) × Chain empty occupied toward misplaced t s rest)
+      finite-chain e s b = (
+        λ h. let w = walk-exists (c s) s b refl (omega arith) in (w .0, walk-chain (w .1)),
+        λ w. omega (arith, chain-cost (w .1), chain-length rank low rises (w .1)),
+      )
+
   -- only one chain from a slot follows the tie rule
   pub walk-unique : {misordered : S → S → Bool} → Direction empty misordered toward misplaced → {c : ℕ → ℕ} {s : ℕ} {rest other : List ℕ}
       → Walk empty occupied toward misplaced t c s rest → Walk empty occupied toward misplaced t c s other → rest ≡ other

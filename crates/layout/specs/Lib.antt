@@ -11,4 +11,5 @@ pub mod Class
 pub mod Least
 pub mod Valid
 pub mod Plan
+pub mod CostLaws
 pub mod Examples
