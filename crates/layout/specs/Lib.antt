@@ -12,4 +12,5 @@ pub mod Least
 pub mod Valid
 pub mod Plan
 pub mod CostLaws
+pub mod Choose
 pub mod Examples

@@ -147,3 +147,17 @@ up empty misordered = record {
   along = λ t o x y a b l. o y x l a;
   ordered = λ t o x y l b. o y x b (omega arith) l;
 }
+
+-- the laws are the same in both directions
+pub laws-swapped : {S : Type 0} {empty : S} {occupied : S → Bool} {same misordered : S → S → Bool}
+    → Laws empty occupied same misordered → Laws empty occupied same (swapped misordered)
+laws-swapped laws = record {
+  vacant = laws .vacant;
+  misordered-left = λ a b o. laws .misordered-right b a o;
+  misordered-right = λ a b o. laws .misordered-left b a o;
+  misordered-same = λ a b s. laws .misordered-same b a (laws .same-symmetric a b s);
+  same-occupied = laws .same-occupied;
+  same-self = laws .same-self;
+  same-symmetric = laws .same-symmetric;
+  same-transitive = laws .same-transitive;
+}
