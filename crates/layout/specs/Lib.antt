@@ -13,4 +13,5 @@ pub mod Valid
 pub mod Plan
 pub mod CostLaws
 pub mod Choose
+pub mod Exists
 pub mod Examples

@@ -26,6 +26,26 @@ pub record Choice : Type 0 where
   pub slot : ℕ
   pub chain : List ℕ
 
+module _ {S : Type 0} (empty : S) (misordered : S → S → Bool) where
+  -- A + 1, where A is the highest slot holding a rule that precedes the new one
+  unfoldable pub afterPreceding : List S → S → ℕ
+  afterPreceding t new = afterLast (λ i. misordered new (getD t i empty)) (length t)
+
+  -- B, the lowest slot holding a rule that depends on the new one
+  unfoldable pub firstDependant : List S → S → ℕ
+  firstDependant t new = least (λ i. misordered (getD t i empty) new) (length t) 0
+
+  -- an insert's ranges: A + 1 to B going down, A to B − 1 going up
+  abbrev pub rangeDown : List S → S → Range
+  rangeDown t new = record { from = afterPreceding t new; to = suc (firstDependant t new) }
+
+  abbrev pub rangeUp : List S → S → Range
+  rangeUp t new = record { from = pred (afterPreceding t new); to = firstDependant t new }
+
+  -- A < B, in numbers: not crossed
+  abbrev pub Uncrossed : List S → S → Type 0
+  Uncrossed t new = afterPreceding t new ≤ firstDependant t new
+
 module _ {S : Type 0} (empty : S) (occupied : S → Bool) (misordered : S → S → Bool) where
   -- the cost of slot i, infinite where it is N or more
   unfoldable pub downCost : List S → ℕ → ℕ
@@ -61,23 +81,8 @@ module _ {S : Type 0} (empty : S) (occupied : S → Bool) (misordered : S → S 
       (record { down = true; cost = bestDown t below; slot = slotDown t below; chain = downChain t (slotDown t below) })
       (record { down = false; cost = bestUp t above; slot = slotUp t above; chain = upChain t (slotUp t above) })
 
-  -- A + 1, where A is the highest slot holding a rule that precedes the new one
-  unfoldable pub afterPreceding : List S → S → ℕ
-  afterPreceding t new = afterLast (λ i. misordered new (getD t i empty)) (length t)
-
-  -- B, the lowest slot holding a rule that depends on the new one
-  unfoldable pub firstDependant : List S → S → ℕ
-  firstDependant t new = least (λ i. misordered (getD t i empty) new) (length t) 0
-
-  -- an insert's ranges: A + 1 to B going down, A to B − 1 going up
-  abbrev pub rangeDown : List S → S → Range
-  rangeDown t new = record { from = afterPreceding t new; to = suc (firstDependant t new) }
-
-  abbrev pub rangeUp : List S → S → Range
-  rangeUp t new = record { from = pred (afterPreceding t new); to = firstDependant t new }
-
   unfoldable pub insertChoice : List S → S → Choice
-  insertChoice t new = choose t (rangeDown t new) (rangeUp t new)
+  insertChoice t new = choose t (rangeDown empty misordered t new) (rangeUp empty misordered t new)
 
 -- the plan: the far end of the chain first, the new rule last
 abbrev pub writes : Choice → List Write
