@@ -13,7 +13,7 @@ use lib.ListN.{length, getD, length-reverse}
 use borrow.Author.Tests.{eq-eqb, ne-eqb}
 use Rattle.search.specs.Search.{least, least-law, least-unique, afterLast, after-last-law, after-last-unique, decided}
 use Rattle.layout.specs.Order.{Direction, Higher, Lower}
-use Rattle.layout.specs.Cost.{InWindow, Costs, cost, costs-law, nextSlot, next-law}
+use Rattle.layout.specs.Cost.{InWindow, Costs, slotCost, costs-law, nextSlot, next-law}
 use Rattle.layout.specs.Mirror.{mirror, mirror-twice, getD-reverse, window-mirrored}
 
 -- a chain from slot s: the slots to which the rules of s and of each slot after it are moved in turn
@@ -115,8 +115,8 @@ module _ {S : Type 0} (empty : S) (occupied : S → Bool) (misplaced : S → S �
   walk (suc k) s = let j = nextSlot empty occupied misplaced top t s in j ∷ walk k j
 
   -- from a slot of finite cost it is the tie rule's chain
-  pub walk-law : (k s : ℕ) → s < length t → cost empty occupied misplaced top t s ≡ k → k ≤ top
-      → Walk empty occupied Higher misplaced t (cost empty occupied misplaced top t) s (walk k s)
+  pub walk-law : (k s : ℕ) → s < length t → slotCost empty occupied misplaced top t s ≡ k → k ≤ top
+      → Walk empty occupied Higher misplaced t (slotCost empty occupied misplaced top t) s (walk k s)
   unfolding walk
   walk-law zero s b e h = stop b (cost-zero (costs-law empty occupied misplaced top t) s b .0 e)
   walk-law (suc k) s b e h =

@@ -13,7 +13,7 @@ use lib.ListN.{length, getD, drop, length-drop}
 use lib.Seq.{getD-drop}
 use Rattle.search.specs.Search.{least, Least, least-law, decided}
 use Rattle.layout.specs.Order.{Higher, Lower, swapped}
-use Rattle.layout.specs.Minimum.{minimum, Minimum, minimum-law, minimum-shift, lowest, Lowest, lowest-law}
+use Rattle.layout.specs.Minimum.{minimum, Minimum, minimum-law, minimum-shift, lowest, LowestAt, lowest-law}
 
 -- Slot j is in the window of slot i: it comes after i, and no slot between the two holds a dependant of i's rule.
 -- So the window reaches up to and including the nearest dependant, or to the layout's end.
@@ -64,13 +64,13 @@ module _ {S : Type 0} (empty : S) (occupied : S → Bool) (misplaced : S → S �
   costs-length top (e ∷ rest) = ap suc (costs-length top rest)
 
   -- the cost of slot i; past the end it is infinite
-  abbrev pub cost : ℕ → List S → ℕ → ℕ
-  cost top t i = getD (costs top t) i top
+  abbrev pub slotCost : ℕ → List S → ℕ → ℕ
+  slotCost top t i = getD (costs top t) i top
 
   -- the definition by slot number
   pub cost-at : (top : ℕ) (t : List S) (i : ℕ) → i < length t
-      → cost top t i
-      ≡ cond (occupied (getD t i empty)) (suc (minimum (cost top t) top (window empty misplaced (getD t i empty) (drop (suc i) t)) (suc i))) 0
+      → slotCost top t i
+      ≡ cond (occupied (getD t i empty)) (suc (minimum (slotCost top t) top (window empty misplaced (getD t i empty) (drop (suc i) t)) (suc i))) 0
   unfolding costs
   cost-at top [] i h = absurd (omega arith)
   cost-at top (e ∷ rest) zero h = rw minimum-shift
@@ -141,39 +141,39 @@ pub record Costs {S : Type 0} (empty : S) (occupied : S → Bool) (toward : ℕ 
 module _ {S : Type 0} (empty : S) (occupied : S → Bool) (misplaced : S → S → Bool) (top : ℕ) (t : List S) where
   -- the slot to which the rule of slot s moves: the lowest of least cost in its window
   unfoldable pub nextSlot : ℕ → ℕ
-  nextSlot s = lowest (cost empty occupied misplaced top t) top (window empty misplaced (getD t s empty) (drop (suc s) t)) (suc s)
+  nextSlot s = lowest (slotCost empty occupied misplaced top t) top (window empty misplaced (getD t s empty) (drop (suc s) t)) (suc s)
 
   -- the least cost in the window of slot s
   abbrev after : ℕ → ℕ
-  after s = minimum (cost empty occupied misplaced top t) top (window empty misplaced (getD t s empty) (drop (suc s) t)) (suc s)
+  after s = minimum (slotCost empty occupied misplaced top t) top (window empty misplaced (getD t s empty) (drop (suc s) t)) (suc s)
 
-  cost-vacant : (s : ℕ) → s < length t → occupied (getD t s empty) ≡ false → cost empty occupied misplaced top t s ≡ 0
+  cost-vacant : (s : ℕ) → s < length t → occupied (getD t s empty) ≡ false → slotCost empty occupied misplaced top t s ≡ 0
   cost-vacant s b o = cost-at empty occupied misplaced top t s b ∙ ap (λ (x : Bool). cond x (suc (after s)) 0) o
 
-  cost-occupied : (s : ℕ) → s < length t → occupied (getD t s empty) ≡ true → cost empty occupied misplaced top t s ≡ suc (after s)
+  cost-occupied : (s : ℕ) → s < length t → occupied (getD t s empty) ≡ true → slotCost empty occupied misplaced top t s ≡ suc (after s)
   cost-occupied s b o = cost-at empty occupied misplaced top t s b ∙ ap (λ (x : Bool). cond x (suc (after s)) 0) o
 
-  pub next-law : (s : ℕ) → s < length t → occupied (getD t s empty) ≡ true → cost empty occupied misplaced top t s ≤ top
+  pub next-law : (s : ℕ) → s < length t → occupied (getD t s empty) ≡ true → slotCost empty occupied misplaced top t s ≤ top
       → InWindow empty Higher misplaced t s (nextSlot s)
-      × (cost empty occupied misplaced top t s ≡ suc (cost empty occupied misplaced top t (nextSlot s)))
-      × ((y : ℕ) → y < length t → s < y → y < nextSlot s → cost empty occupied misplaced top t (nextSlot s) < cost empty occupied misplaced top t y)
+      × (slotCost empty occupied misplaced top t s ≡ suc (slotCost empty occupied misplaced top t (nextSlot s)))
+      × ((y : ℕ) → y < length t → s < y → y < nextSlot s → slotCost empty occupied misplaced top t (nextSlot s) < slotCost empty occupied misplaced top t y)
   unfolding nextSlot
   next-law s b o h =
       let e = cost-occupied s b o in
-      let r = lowest-law (cost empty occupied misplaced top t) top (window empty misplaced (getD t s empty) (drop (suc s) t)) (suc s) (omega arith) in (
+      let r = lowest-law (slotCost empty occupied misplaced top t) top (window empty misplaced (getD t s empty) (drop (suc s) t)) (suc s) (omega arith) in (
         window-slots empty misplaced t s _ .1 (r .from, r .below),
         e ∙ ap suc (sym (r .value)),
         λ y a l u. omega (arith, r .before y l u, r .value),
       )
 
-  pub costs-law : Costs empty occupied Higher misplaced t top (cost empty occupied misplaced top t)
+  pub costs-law : Costs empty occupied Higher misplaced t top (slotCost empty occupied misplaced top t)
   costs-law = record {
     vacant = cost-vacant;
     within = λ i j b o w.
         let v = window-slots empty misplaced t i j .0 w in
-        omega (arith, cost-occupied i b o, minimum-law (cost empty occupied misplaced top t) top (window empty misplaced (getD t i empty) (drop (suc i) t)) (suc i) .low j (v .0) (v .1));
+        omega (arith, cost-occupied i b o, minimum-law (slotCost empty occupied misplaced top t) top (window empty misplaced (getD t i empty) (drop (suc i) t)) (suc i) .low j (v .0) (v .1));
     bounded = λ i b. ⊎-elim
-        (λ o. omega (arith, cost-occupied i b o, minimum-law (cost empty occupied misplaced top t) top (window empty misplaced (getD t i empty) (drop (suc i) t)) (suc i) .high))
+        (λ o. omega (arith, cost-occupied i b o, minimum-law (slotCost empty occupied misplaced top t) top (window empty misplaced (getD t i empty) (drop (suc i) t)) (suc i) .high))
         (λ o. omega (arith, cost-vacant i b o)) (decided (occupied (getD t i empty)));
     next = λ i b o h. let r = next-law i b o h in (nextSlot i, r .0, r .1, r .2);
   }

@@ -42,6 +42,13 @@ cost-stretch {empty = empty} {toward = toward} {misplaced = misplaced} {t = t} {
       hit = λ h. let r = law .next i b o (omega (arith, positive)) in let w = f (r .0) .0 (r .1) in (r .0, w .0, w .1, omega (arith, r .2));
     }
 
+module _ {S : Type 0} (empty : S) (misordered : S → S → Bool) (t : List S) where
+  pub down-past : WindowOrPast empty Higher misordered t
+  down-past = window-or-past empty misordered t
+
+  pub up-past : WindowOrPast empty Lower (swapped misordered) t
+  up-past = past-mirrored empty t (swapped misordered) (window-or-past empty (swapped misordered) (reverse t))
+
 module _ {S : Type 0} (empty : S) (occupied : S → Bool) (misordered : S → S → Bool) (t : List S) where
   pub down-costs : Costs empty occupied Higher misordered t (length t) (downCost empty occupied misordered t)
   unfolding downCost
@@ -50,12 +57,6 @@ module _ {S : Type 0} (empty : S) (occupied : S → Bool) (misordered : S → S 
   pub up-costs : Costs empty occupied Lower (swapped misordered) t (length t) (upCost empty occupied misordered t)
   unfolding upCost
   up-costs = costs-mirrored empty t (swapped misordered) occupied (length t) _ (costs-law empty occupied (swapped misordered) (length t) (reverse t))
-
-  pub down-past : WindowOrPast empty Higher misordered t
-  down-past = window-or-past empty misordered t
-
-  pub up-past : WindowOrPast empty Lower (swapped misordered) t
-  up-past = past-mirrored empty t (swapped misordered) (window-or-past empty (swapped misordered) (reverse t))
 
   -- the chains that the definitions walk are the tie rule's
   pub down-walk : (s : ℕ) → s < length t → downCost empty occupied misordered t s ≤ length t

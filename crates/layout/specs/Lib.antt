@@ -14,4 +14,5 @@ pub mod Plan
 pub mod CostLaws
 pub mod Choose
 pub mod Exists
+pub mod Insert
 pub mod Examples

@@ -63,13 +63,13 @@ minimum-shift c top zero i = refl
 minimum-shift c top (suc k) i = ap (min (c (suc i))) (minimum-shift c top k (suc i))
 
 -- where the least is below top, it stands at an index, and before the lowest such index (after the highest) every value is greater
-pub record Lowest (c : ℕ → ℕ) (i e m j : ℕ) : Type 0 where
+pub record LowestAt (c : ℕ → ℕ) (i e m j : ℕ) : Type 0 where
   pub from : i ≤ j
   pub below : j < e
   pub value : c j ≡ m
   pub before : (y : ℕ) → i ≤ y → y < j → m < c y
 
-pub record Highest (c : ℕ → ℕ) (i e m j : ℕ) : Type 0 where
+pub record HighestAt (c : ℕ → ℕ) (i e m j : ℕ) : Type 0 where
   pub from : i ≤ j
   pub below : j < e
   pub value : c j ≡ m
@@ -80,7 +80,7 @@ module _ {c : ℕ → ℕ} {top i e m : ℕ} (minimal : Minimum c top i e m) (fi
   greater : (y : ℕ) → i ≤ y → y < e → eqb (c y) m ≡ false → m < c y
   greater y l r n = let d : c y ≢ m = eqb-false (c y) m n in omega (arith, minimal .low y l r)
 
-  lowest-of : {j : ℕ} → Least (λ y. eqb (c y) m) i e j → Lowest c i e m j
+  lowest-of : {j : ℕ} → Least (λ y. eqb (c y) m) i e j → LowestAt c i e m j
   lowest-of {j} l = record {
     from = l .low;
     below = below (decLt j e);
@@ -94,7 +94,7 @@ module _ {c : ℕ → ℕ} {top i e m : ℕ} (minimal : Minimum c top i e m) (fi
           let w = minimal .hit finite in
           absurd (true≢false (sym (eq-eqb (c (w .0)) m (w .3)) ∙ l .before (w .0) (w .1) (omega (arith, w .2))))
 
-  highest-of : {a : ℕ} → AfterLast (λ y. eqb (c y) m) e a → Highest c i e m (pred a)
+  highest-of : {a : ℕ} → AfterLast (λ y. eqb (c y) m) e a → HighestAt c i e m (pred a)
   highest-of {a} l = record {
     from = omega (arith, past);
     below = omega (arith, past, l .high);
@@ -112,10 +112,10 @@ module _ {c : ℕ → ℕ} {top i e m : ℕ} (minimal : Minimum c top i e m) (fi
               absurd (true≢false (sym (eq-eqb (c (w .0)) m (w .3)) ∙ l .after (w .0) (omega (arith, w .1)) (w .2)))
 
 module _ (c : ℕ → ℕ) (top k i : ℕ) (finite : minimum c top k i < top) where
-  pub lowest-law : Lowest c i (i + k) (minimum c top k i) (lowest c top k i)
+  pub lowest-law : LowestAt c i (i + k) (minimum c top k i) (lowest c top k i)
   unfolding lowest
   lowest-law = lowest-of (minimum-law c top k i) finite (least-law (λ j. eqb (c j) (minimum c top k i)) k i)
 
-  pub highest-law : Highest c i (i + k) (minimum c top k i) (highest c top k i)
+  pub highest-law : HighestAt c i (i + k) (minimum c top k i) (highest c top k i)
   unfolding highest
   highest-law = highest-of (minimum-law c top k i) finite (after-last-law (λ j. eqb (c j) (minimum c top k i)) (i + k))

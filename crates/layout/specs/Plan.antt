@@ -8,7 +8,7 @@ use lib.ListN.{length, getD}
 use Rattle.search.specs.Search.{least, afterLast}
 use Rattle.layout.specs.Order.{swapped}
 use Rattle.layout.specs.Minimum.{minimum, lowest, highest}
-use Rattle.layout.specs.Cost.{costs, cost}
+use Rattle.layout.specs.Cost.{slotCost}
 use Rattle.layout.specs.Mirror.{mirror}
 use Rattle.layout.specs.Chain.{walk}
 use Rattle.layout.specs.Class.{Write, put}
@@ -49,10 +49,10 @@ module _ {S : Type 0} (empty : S) (misordered : S → S → Bool) where
 module _ {S : Type 0} (empty : S) (occupied : S → Bool) (misordered : S → S → Bool) where
   -- the cost of slot i, infinite where it is N or more
   unfoldable pub downCost : List S → ℕ → ℕ
-  downCost t i = Rattle.layout.specs.Cost.cost empty occupied misordered (length t) t i
+  downCost t i = slotCost empty occupied misordered (length t) t i
 
   unfoldable pub upCost : List S → ℕ → ℕ
-  upCost t i = Rattle.layout.specs.Cost.cost empty occupied (swapped misordered) (length t) (reverse t) (mirror (length t) i)
+  upCost t i = slotCost empty occupied (swapped misordered) (length t) (reverse t) (mirror (length t) i)
 
   -- the slots to which the rule of slot s and the rules it displaces move in turn
   unfoldable pub downChain : List S → ℕ → List ℕ

@@ -155,6 +155,11 @@ least-none p n f =
     least-unique (least-law p n 0)
     (record { low = omega arith; high = omega arith; before = λ j l r. f j (omega arith); hit = λ l. absurd (omega arith) })
 
+pub least-cong : {p q : ℕ → Bool} (k i : ℕ) → ((j : ℕ) → i ≤ j → j < i + k → p j ≡ q j) → least p k i ≡ least q k i
+unfolding least
+least-cong zero i h = refl
+least-cong (suc k) i h = rw (h i (omega arith) (omega arith), least-cong k (suc i) (λ j l r. h j (omega arith) (omega arith)))
+
 -- the invariant of a search loop that counts up: the test has held nowhere below i
 abbrev pub NoneBelow : (ℕ → Bool) → ℕ → ℕ → Type 0
 NoneBelow p n i = (i ≤ n) × ((k : ℕ) → k < i → p k ≡ false)
@@ -200,3 +205,8 @@ after-last-unique {p} {n} {m} {l} a b = pick m l a b (decLt m l) (decLt l m)
     pick m l a b (yes h) d = absurd (later m l a b h)
     pick m l a b (no g) (yes h) = absurd (later l m b a h)
     pick m l a b (no g) (no h) = omega arith
+
+pub after-last-cong : {p q : ℕ → Bool} (n : ℕ) → ((j : ℕ) → j < n → p j ≡ q j) → afterLast p n ≡ afterLast q n
+unfolding afterLast
+after-last-cong zero h = refl
+after-last-cong (suc n) h = rw (h n (omega arith), after-last-cong n (λ j l. h j (omega arith)))
