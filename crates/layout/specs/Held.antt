@@ -87,7 +87,7 @@ module _ {S : Type 0} (empty : S) (occupied : S → Bool) (same : S → S → Bo
           ap (λ (x : Bool). not (occupied (getD t j empty)) || x) a ∙ or-true (not (occupied (getD t j empty)))
 
 module _ {S : Type 0} {empty : S} {occupied : S → Bool} {same misordered : S → S → Bool} (laws : Laws empty occupied same misordered) where
-  -- an entry of another slot's id is told from one of none
+  -- an empty slot has no id
   pub same-vacant : (a b : S) → occupied b ≡ false → same a b ≡ false
   same-vacant a b o = ⊎-elim (λ e. absurd (true≢false (sym (laws .same-occupied b a (laws .same-symmetric a b e)) ∙ o))) (λ e. e) (decided (same a b))
 
@@ -100,6 +100,21 @@ module _ {S : Type 0} {empty : S} {occupied : S → Bool} {same misordered : S �
       pick : Dec (i ≡ k) → getD t i empty ≡ getD t k empty
       pick (yes e) = rw e
       pick (no n) = absurd (true≢false (sym s ∙ u i k a b n))
+
+  -- emptying a slot keeps each id where it is
+  pub unique-emptied : (t : List S) (j : ℕ) → j < length t → Unique empty same t → Unique empty same (emptied empty t j)
+  unique-emptied t j h u i k a b d = pick (ℕ-discrete i j) (ℕ-discrete k j)
+    where
+      n : length (set t j empty) ≡ length t
+      n = length-set t j empty
+
+      gone : getD (set t j empty) j empty ≡ empty
+      gone = getD-set-same t j empty empty h
+
+      pick : Dec (i ≡ j) → Dec (k ≡ j) → same (getD (set t j empty) i empty) (getD (set t j empty) k empty) ≡ false
+      pick p (yes q) = rw (q, gone) (same-vacant (getD (set t j empty) i empty) empty (laws .vacant))
+      pick (yes p) (no q) = rw (p, gone) (same-turned _ empty (same-vacant _ empty (laws .vacant)))
+      pick (no p) (no q) = rw (getD-set-other t j i empty empty p, getD-set-other t j k empty empty q) (u i k (omega (arith, n)) (omega (arith, n)) d)
 
   -- a write keeps a layout coherent if its entry is equal to each entry of its id
   pub coherent-written : (t : List S) (j : ℕ) (e : S) → Coherent empty same t

@@ -1,6 +1,6 @@
 -- The least of the numbers at a stretch of indices, and the lowest or highest index at which it stands.
 -- Costs are compared with these; a bound stands for "none", so that an infinite cost is a number at or above it.
-use mathlib.Core.Path.{_≡_, refl, sym, ap, _∙_}
+use mathlib.Core.Path.{_≡_, refl, sym, ap, ap₂, _∙_}
 use mathlib.Core.Logic.{_≢_}
 use mathlib.Core.Bool.{Bool, true, false, true≢false}
 use Prim.Native.Nat.{ℕ, zero, suc, _+_, _-_, _≤_, _<_, min, pred}
@@ -55,6 +55,12 @@ minimum-unique {c} {top} {i} {e} {m} {n} a b = pick (decLt m n) (decLt n m)
     pick (yes h) d = absurd (less a b h)
     pick (no g) (yes h) = absurd (less b a h)
     pick (no g) (no h) = omega arith
+
+-- it sees no more of c than its values at those indices
+pub minimum-cong : {c d : ℕ → ℕ} (top k i : ℕ) → ((j : ℕ) → i ≤ j → j < i + k → c j ≡ d j) → minimum c top k i ≡ minimum d top k i
+unfolding minimum
+minimum-cong top zero i h = refl
+minimum-cong top (suc k) i h = ap₂ min (h i (omega arith) (omega arith)) (minimum-cong top k (suc i) (λ j l r. h j (omega arith) (omega arith)))
 
 -- indices may be counted from one further on
 pub minimum-shift : (c : ℕ → ℕ) (top k i : ℕ) → minimum c top k (suc i) ≡ minimum (λ j. c (suc j)) top k i

@@ -1,7 +1,7 @@
 -- Order of a layout, as document 01 words it, and what one write does to it.
 -- A layout is the list of its slots' entries, an empty slot's included; reading past its end gives the empty entry.
 use mathlib.Core.Path.{_≡_, refl, sym, ap, _∙_, subst}
-use mathlib.Core.Bool.{Bool, true, false, not, false≢true}
+use mathlib.Core.Bool.{Bool, true, false, not, _&&_, and-true, true≢false}
 use mathlib.Core.Logic.{_↔_, _⊎_, ⊎-elim, _≢_}
 use mathlib.Core.Logic._⊎_.{inl, inr}
 use mathlib.Core.List.{List}
@@ -25,6 +25,14 @@ pub record Laws {S : Type 0} (empty : S) (occupied : S → Bool) (same misordere
   pub same-symmetric : (a b : S) → same a b ≡ true → same b a ≡ true
   pub same-transitive : (a b c : S) → same a b ≡ true → same b c ≡ true → same a c ≡ true
 
+-- a precedes b, and b depends on a: b before a is out of order, and a before b is not
+abbrev pub precedes : {S : Type 0} → (S → S → Bool) → S → S → Bool
+precedes misordered a b = misordered b a && not (misordered a b)
+
+-- a and b tie: neither may stand before the other
+abbrev pub ties : {S : Type 0} → (S → S → Bool) → S → S → Bool
+ties misordered a b = misordered a b && misordered b a
+
 module _ {S : Type 0} (empty : S) (misordered : S → S → Bool) where
   -- "the table is in order"
   abbrev pub InOrder : List S → Type 0
@@ -41,6 +49,11 @@ module _ {S : Type 0} (empty : S) (misordered : S → S → Bool) where
     λ o. all-law _ (length t) .1 (λ y h. all-law _ y .1 (λ x l. ap not (o x y l h))),
   )
 
+  -- So where document 01 asks which rules precede or depend, one relation answers: of two slots of a table in order, ..
+  pub precedes-later : (t : List S) → InOrder t → (x y : ℕ) → x < y → y < length t
+      → precedes misordered (getD t x empty) (getD t y empty) ≡ misordered (getD t y empty) (getD t x empty)
+  precedes-later t o x y l h = rw (o x y l h) (and-true (misordered (getD t y empty) (getD t x empty)))
+
   -- the slots other than j are in order among themselves
   abbrev pub OthersInOrder : List S → ℕ → Type 0
   OthersInOrder t j = (x y : ℕ) → x < y → y < length t → x ≢ j → y ≢ j → misordered (getD t x empty) (getD t y empty) ≡ false
@@ -50,6 +63,16 @@ module _ {S : Type 0} (empty : S) (misordered : S → S → Bool) where
   StandsRight same t j e =
       (k : ℕ) → k < length t → same (getD t k empty) e ≡ false
       → (k < j → misordered (getD t k empty) e ≡ false) × (j < k → misordered e (getD t k empty) ≡ false)
+
+-- .. and of any two entries that do not tie
+pub precedes-untied : {S : Type 0} (misordered : S → S → Bool) (a b : S) → ties misordered a b ≡ false → precedes misordered a b ≡ misordered b a
+precedes-untied misordered a b e = pick (misordered a b) (misordered b a) e
+  where
+    pick : (x y : Bool) → x && y ≡ false → y && not x ≡ y
+    pick true true e = absurd (true≢false e)
+    pick true false e = refl
+    pick false true e = refl
+    pick false false e = refl
 
 module _ {S : Type 0} {empty : S} {occupied : S → Bool} {same misordered : S → S → Bool} (laws : Laws empty occupied same misordered) where
   -- copies of one id are never compared

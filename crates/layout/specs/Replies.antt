@@ -14,18 +14,14 @@ use lib.Dec.{ltb}
 use lib.ListN.{length, getD}
 use borrow.Author.Tests.{lt-ltb, le-ltb, ltb-true, ltb-false}
 use Rattle.search.specs.Search.{least, Least, least-law, and-both, and-left, and-right, decided}
-use Rattle.layout.specs.Order.{Laws, InOrder}
+use Rattle.layout.specs.Order.{Laws, InOrder, precedes}
 use Rattle.layout.specs.Held.{Held, Coherent}
 
--- x ranks above y: y standing before x is out of order, x before y is not
-abbrev pub outranks : {S : Type 0} → (S → S → Bool) → S → S → Bool
-outranks misordered x y = misordered y x && not (misordered x y)
-
--- x is a highest-ranked match of a set of rules: it matches, and no rule of the set that matches ranks above it
+-- x is a highest-ranked match of a set of rules: it matches, and no rule of the set that matches precedes it
 pub record Highest {S : Type 0} (misordered : S → S → Bool) (matches : S → Bool) (rules : S → Type 0) (x : S) : Type 0 where
   pub member : rules x
   pub matched : matches x ≡ true
-  pub unsurpassed : (y : S) → rules y → matches y ≡ true → outranks misordered y x ≡ false
+  pub unsurpassed : (y : S) → rules y → matches y ≡ true → precedes misordered y x ≡ false
 
 -- the reply that a set of rules gives, without slots: what is observed of a highest-ranked match, or a miss where none matches
 abbrev pub Answers : {S O : Type 0} → (S → S → Bool) → (S → Bool) → (S → O) → (S → Type 0) → Option O → Type 0
@@ -124,7 +120,7 @@ module _
         top : Highest misordered matches (Held empty occupied t) first
         top = first-highest h
 
-        above : misordered x first ≡ true → outranks misordered first x ≡ true
+        above : misordered x first ≡ true → precedes misordered first x ≡ true
         above e = rw (e, first-before h x (w .member) (w .matched))
 
         apart : ((misordered x first ≡ true) ⊎ (misordered first x ≡ true)) ⊎ (observed x ≡ observed first) → observed x ≡ observed first
