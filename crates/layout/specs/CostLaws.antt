@@ -1,7 +1,7 @@
 -- Down and up costs by slot number, each as document 01 words it, and the walks that they give.
 -- Costs of N or more are infinite: a finite cost is below N, and it is finite exactly where there is a chain.
 use mathlib.Core.Path.{_≡_, refl, sym, ap, _∙_, subst}
-use mathlib.Core.Bool.{Bool, true, false, true≢false}
+use mathlib.Core.Bool.{Bool, true, false, cond, true≢false}
 use mathlib.Core.Logic.{_↔_, _⊎_, ⊎-elim}
 use mathlib.Core.Logic._⊎_.{inl, inr}
 use mathlib.Core.List.{List, [], _∷_, map, reverse}
@@ -9,40 +9,94 @@ use Prim.Native.Nat.{ℕ, zero, suc, _+_, _-_, _≤_, _<_, min, pred}
 use native.Mathlib.Omega.{arith}
 use native.Mathlib.Decide.{decLt, decLe}
 use lib.ListN.{length, getD, length-reverse}
-use Rattle.search.specs.Search.{least, Least, least-law, afterLast, AfterLast, after-last-law}
+use Rattle.search.specs.Search.{least, Least, least-law, afterLast, AfterLast, after-last-law, decided}
 use Rattle.layout.specs.Order.{Higher, Lower, swapped}
 use Rattle.layout.specs.Minimum.{minimum, Minimum, minimum-law, minimum-unique}
 use Rattle.layout.specs.Cost.{InWindow, Costs, WindowOrPast, costs, costs-length, costs-law, window-or-past}
 use Rattle.layout.specs.Mirror.{mirror, mirror-twice, getD-reverse, costs-mirrored, past-mirrored}
 use Rattle.layout.specs.Chain.{Chain, Walk, walk-law, walk-mirrored, cost-below, finite-chain, cost-positive}
-use Rattle.layout.specs.Plan.{downCost, upCost, downChain, upChain}
+use Rattle.layout.specs.Plan.{windowEnd, windowStart, downCost, upCost, downChain, upChain}
 
--- a cost is 1 + the least over a stretch of slots, where those are the slots of the window
+-- where the window is a stretch of slots, a cost is 0 or 1 + the least over it
 cost-stretch :
     {S : Type 0} {empty : S} {occupied : S → Bool} {toward : ℕ → ℕ → Type 0} {misplaced : S → S → Bool} {t : List S} {top : ℕ} {c : ℕ → ℕ}
-    → Costs empty occupied toward misplaced t top c → (i : ℕ) → i < length t → occupied (getD t i empty) ≡ true → (lo hi : ℕ) → lo ≤ hi
-    → ((j : ℕ) → InWindow empty toward misplaced t i j ↔ ((lo ≤ j) × (j < hi))) → c i ≡ suc (minimum c top (hi - lo) lo)
-cost-stretch {empty = empty} {toward = toward} {misplaced = misplaced} {t = t} {top = top} {c = c} law i b o lo hi l f =
-    positive ∙ ap suc (minimum-unique least-of (subst (λ (e : ℕ). Minimum c top lo e (minimum c top (hi - lo) lo)) whole (minimum-law c top (hi - lo) lo)))
+    → Costs empty occupied toward misplaced t top c → (i : ℕ) → i < length t → (lo hi : ℕ) → lo ≤ hi
+    → ((j : ℕ) → InWindow empty toward misplaced t i j ↔ ((lo ≤ j) × (j < hi)))
+    → c i ≡ cond (occupied (getD t i empty)) (suc (minimum c top (hi - lo) lo)) 0
+cost-stretch {empty = empty} {occupied} {t = t} {top = top} {c = c} law i b lo hi l f = pick (decided (occupied (getD t i empty)))
   where
     whole : lo + (hi - lo) ≡ hi
     whole = omega arith
 
-    positive : c i ≡ suc (pred (c i))
-    positive = pick (decLe (c i) top)
-      where
-        pick : Dec (c i ≤ top) → c i ≡ suc (pred (c i))
-        pick (yes h) = let r = law .next i b o h in omega (arith, r .2)
-        pick (no h) = omega arith
+    positive : occupied (getD t i empty) ≡ true → Dec (c i ≤ top) → c i ≡ suc (pred (c i))
+    positive o (yes h) = let r = law .next i b o h in omega (arith, r .2)
+    positive o (no h) = omega arith
 
-    least-of : Minimum c top lo hi (pred (c i))
-    least-of = record {
+    least-of : occupied (getD t i empty) ≡ true → Minimum c top lo hi (pred (c i))
+    least-of o = record {
       low = λ j a r. omega (arith, law .within i j b o (f j .1 (a, r)));
       high = omega (arith, law .bounded i b);
-      hit = λ h. let r = law .next i b o (omega (arith, positive)) in let w = f (r .0) .0 (r .1) in (r .0, w .0, w .1, omega (arith, r .2));
+      hit = λ h.
+          let r = law .next i b o (omega (arith, positive o (decLe (c i) top))) in
+          let w = f (r .0) .0 (r .1) in
+          (r .0, w .0, w .1, omega (arith, r .2));
     }
 
+    pick : (occupied (getD t i empty) ≡ true) ⊎ (occupied (getD t i empty) ≡ false) → c i ≡ cond (occupied (getD t i empty)) (suc (minimum c top (hi - lo) lo)) 0
+    pick (inl o) =
+        rw o (positive o (decLe (c i) top) ∙ ap suc (minimum-unique (least-of o) (rw whole at (minimum-law c top (hi - lo) lo))))
+    pick (inr o) = rw o (law .vacant i b o)
+
 module _ {S : Type 0} (empty : S) (misordered : S → S → Bool) (t : List S) where
+  module _ (i : ℕ) (b : i < length t) where
+    -- the window of slot i, going down and going up, as a stretch of slots
+    pub window-end : (j : ℕ) → InWindow empty Higher misordered t i j ↔ ((suc i ≤ j) × (j < windowEnd empty misordered t i))
+    unfolding windowEnd
+    window-end j = (forth, λ h. record { inside = omega (arith, h .1); after = h .0; between = λ y a u v. law .before y u (omega (arith, h .1)) })
+      where
+        test : ℕ → Bool
+        test y = misordered (getD t y empty) (getD t i empty)
+
+        law : Least test (suc i) (suc i + (length t - suc i)) (least test (length t - suc i) (suc i))
+        law = least-law test (length t - suc i) (suc i)
+
+        forth : InWindow empty Higher misordered t i j → (suc i ≤ j) × (j < windowEnd empty misordered t i)
+        forth w = pick (decLt (least test (length t - suc i) (suc i)) j)
+          where
+            pick : Dec (least test (length t - suc i) (suc i) < j) → (suc i ≤ j) × (j < windowEnd empty misordered t i)
+            pick (yes h) =
+                absurd (true≢false (sym (law .hit (omega (arith, w .inside))) ∙ w .between (least test (length t - suc i) (suc i)) (omega (arith, w .inside)) (law .low) h))
+            pick (no h) = (w .after, omega (arith, w .inside))
+
+    pub window-end-low : suc i ≤ windowEnd empty misordered t i
+    unfolding windowEnd
+    window-end-low = omega (arith, least-law (λ y. misordered (getD t y empty) (getD t i empty)) (length t - suc i) (suc i) .low)
+
+    pub window-start : (j : ℕ) → InWindow empty Lower (swapped misordered) t i j ↔ ((windowStart empty misordered t i ≤ j) × (j < i))
+    unfolding windowStart
+    window-start j = (forth, λ h. record { inside = omega (arith, h .1); after = h .1; between = λ y a u v. law .after y (omega (arith, h .0)) u })
+      where
+        test : ℕ → Bool
+        test y = misordered (getD t i empty) (getD t y empty)
+
+        past : ℕ
+        past = afterLast test i
+
+        law : AfterLast test i past
+        law = after-last-law test i
+
+        forth : InWindow empty Lower (swapped misordered) t i j → (windowStart empty misordered t i ≤ j) × (j < i)
+        forth w = pick (decLt j (pred past))
+          where
+            pick : Dec (j < pred past) → (windowStart empty misordered t i ≤ j) × (j < i)
+            pick (yes h) =
+                absurd (true≢false (sym (law .hit (pred past) (omega arith)) ∙ w .between (pred past) (omega (arith, law .high)) (omega (arith, law .high)) h))
+            pick (no h) = (omega arith, w .after)
+
+    pub window-start-high : windowStart empty misordered t i ≤ i
+    unfolding windowStart
+    window-start-high = omega (arith, after-last-law (λ y. misordered (getD t i empty) (getD t y empty)) i .high)
+
   pub down-past : WindowOrPast empty Higher misordered t
   down-past = window-or-past empty misordered t
 
@@ -87,54 +141,16 @@ module _ {S : Type 0} (empty : S) (occupied : S → Bool) (misordered : S → S 
       → (upCost empty occupied misordered t s < length t) ↔ ((rest : List ℕ) × Chain empty occupied Lower (swapped misordered) t s rest)
   up-finite s b = finite-chain up-costs (mirror (length t)) (λ i l. omega arith) (λ i j l r u. omega arith) refl s b
 
-  -- "1 + the least down cost of the slots after it, up to and including the nearest dependant of its rule, or up to N − 1 if there is none"
-  pub down-cost-at : (i : ℕ) → i < length t → occupied (getD t i empty) ≡ true
+  -- "0 if empty, else 1 + the least down cost of the slots after it, up to and including the nearest dependant of its rule, or up to N − 1"
+  pub down-cost-at : (i : ℕ) → i < length t
       → downCost empty occupied misordered t i
-      ≡ suc (minimum (downCost empty occupied misordered t) (length t)
-      (min (suc (least (λ y. misordered (getD t y empty) (getD t i empty)) (length t - suc i) (suc i))) (length t) - suc i) (suc i))
-  down-cost-at i b o = cost-stretch down-costs i b o (suc i) (min (suc nearest) (length t)) (omega (arith, law .low)) (λ j. (forth j, back j))
-    where
-      test : ℕ → Bool
-      test y = misordered (getD t y empty) (getD t i empty)
+      ≡ cond (occupied (getD t i empty))
+      (suc (minimum (downCost empty occupied misordered t) (length t) (windowEnd empty misordered t i - suc i) (suc i))) 0
+  down-cost-at i b = cost-stretch down-costs i b (suc i) (windowEnd empty misordered t i) (window-end-low empty misordered t i b) (window-end empty misordered t i b)
 
-      nearest : ℕ
-      nearest = least test (length t - suc i) (suc i)
-
-      law : Least test (suc i) (suc i + (length t - suc i)) nearest
-      law = least-law test (length t - suc i) (suc i)
-
-      forth : (j : ℕ) → InWindow empty Higher misordered t i j → (suc i ≤ j) × (j < min (suc nearest) (length t))
-      forth j w = pick (decLt nearest j)
-        where
-          pick : Dec (nearest < j) → (suc i ≤ j) × (j < min (suc nearest) (length t))
-          pick (yes h) = absurd (true≢false (sym (law .hit (omega (arith, w .inside))) ∙ w .between nearest (omega (arith, w .inside)) (law .low) h))
-          pick (no h) = (w .after, omega (arith, w .inside))
-
-      back : (j : ℕ) → (suc i ≤ j) × (j < min (suc nearest) (length t)) → InWindow empty Higher misordered t i j
-      back j (l, r) = record { inside = omega arith; after = l; between = λ y a u v. law .before y u (omega arith) }
-
-  -- "slots before it, back to and including the nearest rule that precedes it, or to 0"
-  pub up-cost-at : (i : ℕ) → i < length t → occupied (getD t i empty) ≡ true
+  -- "the mirror: slots before it, back to and including the nearest rule that precedes it, or to 0"
+  pub up-cost-at : (i : ℕ) → i < length t
       → upCost empty occupied misordered t i
-      ≡ suc (minimum (upCost empty occupied misordered t) (length t)
-      (i - pred (afterLast (λ y. misordered (getD t i empty) (getD t y empty)) i)) (pred (afterLast (λ y. misordered (getD t i empty) (getD t y empty)) i)))
-  up-cost-at i b o = cost-stretch up-costs i b o (pred past) i (omega (arith, law .high)) (λ j. (forth j, back j))
-    where
-      test : ℕ → Bool
-      test y = misordered (getD t i empty) (getD t y empty)
-
-      past : ℕ
-      past = afterLast test i
-
-      law : AfterLast test i past
-      law = after-last-law test i
-
-      forth : (j : ℕ) → InWindow empty Lower (swapped misordered) t i j → (pred past ≤ j) × (j < i)
-      forth j w = pick (decLt j (pred past))
-        where
-          pick : Dec (j < pred past) → (pred past ≤ j) × (j < i)
-          pick (yes h) = absurd (true≢false (sym (law .hit (pred past) (omega arith)) ∙ w .between (pred past) (omega (arith, law .high)) (omega (arith, law .high)) h))
-          pick (no h) = (omega arith, w .after)
-
-      back : (j : ℕ) → (pred past ≤ j) × (j < i) → InWindow empty Lower (swapped misordered) t i j
-      back j (l, r) = record { inside = omega arith; after = r; between = λ y a u v. law .after y (omega arith) u }
+      ≡ cond (occupied (getD t i empty))
+      (suc (minimum (upCost empty occupied misordered t) (length t) (i - windowStart empty misordered t i) (windowStart empty misordered t i))) 0
+  up-cost-at i b = cost-stretch up-costs i b (windowStart empty misordered t i) i (window-start-high empty misordered t i b) (window-start empty misordered t i b)
