@@ -11,7 +11,7 @@ use native.Mathlib.Decide.{ℕ-discrete, decLt}
 use lib.Dec.{eqb}
 use lib.ListN.{length, getD, length-reverse}
 use borrow.Author.Tests.{eq-eqb, ne-eqb}
-use Rattle.search.specs.Search.{least, least-law, least-unique, afterLast, after-last-law, after-last-unique, decided}
+use Rattle.search.specs.Search.{least, least-law, least-unique, least-cong, afterLast, after-last-law, after-last-unique, after-last-cong, decided}
 use Rattle.layout.specs.Order.{Direction, Higher, Lower}
 use Rattle.layout.specs.Cost.{InWindow, Costs, slotCost, costs-law, nextSlot, next-law}
 use Rattle.layout.specs.Mirror.{mirror, mirror-twice, getD-reverse, window-mirrored}
@@ -141,10 +141,37 @@ module _ {S : Type 0} {empty : S} {occupied : S → Bool} {misplaced : S → S �
       (window-mirrored empty t misplaced (mirror (length t) s) (mirror (length t) j) (omega arith) (omega arith) .1 (rw (at-s, at-j) w))
       (rw (at-s, at-j) e) (λ y a l u. rw at-j (f (mirror (length t) y) (omega arith) (omega arith) (omega arith))) (walk-mirrored k)
 
-  -- Code finds the next slot by costs alone: going down it is the first slot after s whose cost is one less, going up the last before s.
-  pub walk-next-down : {s j : ℕ} {rest : List ℕ} → Walk empty occupied Higher misplaced t c s (j ∷ rest)
+-- The same slots found by costs alone, as code walks: going down the first slot after s whose cost is one less, going up the last before s.
+-- k is the number of moves left, c the costs, n the number of slots.
+unfoldable pub stepsDown : (ℕ → ℕ) → ℕ → ℕ → ℕ → List ℕ
+stepsDown c n zero s = []
+stepsDown c n (suc k) s = let j = least (λ y. eqb (c y) k) (n - suc s) (suc s) in j ∷ stepsDown c n k j
+
+unfoldable pub stepsUp : (ℕ → ℕ) → ℕ → ℕ → List ℕ
+stepsUp c zero s = []
+stepsUp c (suc k) s = let j = afterLast (λ y. eqb (c y) k) s - 1 in j ∷ stepsUp c k j
+
+-- of the costs they see those of the slots
+pub steps-down-cong : {c d : ℕ → ℕ} (n : ℕ) → ((j : ℕ) → j < n → c j ≡ d j) → (k s : ℕ) → stepsDown c n k s ≡ stepsDown d n k s
+unfolding stepsDown
+steps-down-cong n h zero s = refl
+steps-down-cong {c} {d} n h (suc k) s =
+    let e : least (λ y. eqb (c y) k) (n - suc s) (suc s) ≡ least (λ y. eqb (d y) k) (n - suc s) (suc s)
+    = least-cong (n - suc s) (suc s) (λ j l r. ap (λ (x : ℕ). eqb x k) (h j (omega arith))) in
+    rw e (ap (λ (r : List ℕ). least (λ y. eqb (d y) k) (n - suc s) (suc s) ∷ r) (steps-down-cong n h k (least (λ y. eqb (d y) k) (n - suc s) (suc s))))
+
+pub steps-up-cong : {c d : ℕ → ℕ} (k s : ℕ) → ((j : ℕ) → j < s → c j ≡ d j) → stepsUp c k s ≡ stepsUp d k s
+unfolding stepsUp
+steps-up-cong zero s h = refl
+steps-up-cong {c} {d} (suc k) s h =
+    let e : afterLast (λ y. eqb (c y) k) s ≡ afterLast (λ y. eqb (d y) k) s = after-last-cong s (λ j l. ap (λ (x : ℕ). eqb x k) (h j l)) in
+    rw e (ap (λ (r : List ℕ). (afterLast (λ y. eqb (d y) k) s - 1) ∷ r)
+    (steps-up-cong k (afterLast (λ y. eqb (d y) k) s - 1) (λ j l. h j (omega (arith, after-last-law (λ y. eqb (d y) k) s .high)))))
+
+module _ {S : Type 0} {empty : S} {occupied : S → Bool} {misplaced : S → S → Bool} {t : List S} {c : ℕ → ℕ} where
+  next-down : {s j : ℕ} {rest : List ℕ} → Walk empty occupied Higher misplaced t c s (j ∷ rest)
       → (k : ℕ) → c s ≡ suc k → least (λ y. eqb (c y) k) (length t - suc s) (suc s) ≡ j
-  walk-next-down {s} {j} (Walk.link b o w e f x) k q =
+  next-down {s} {j} (Walk.link b o w e f x) k q =
       least-unique (least-law (λ y. eqb (c y) k) (length t - suc s) (suc s)) (record {
         low = w .after;
         high = omega (arith, w .inside);
@@ -152,11 +179,29 @@ module _ {S : Type 0} {empty : S} {occupied : S → Bool} {misplaced : S → S �
         hit = λ l. eq-eqb (c j) k (omega arith);
       })
 
-  pub walk-next-up : {s j : ℕ} {rest : List ℕ} → Walk empty occupied Lower misplaced t c s (j ∷ rest)
+  next-up : {s j : ℕ} {rest : List ℕ} → Walk empty occupied Lower misplaced t c s (j ∷ rest)
       → (k : ℕ) → c s ≡ suc k → afterLast (λ y. eqb (c y) k) s ≡ suc j
-  walk-next-up {s} {j} (Walk.link b o w e f x) k q =
+  next-up {s} {j} (Walk.link b o w e f x) k q =
       after-last-unique (after-last-law (λ y. eqb (c y) k) s) (record {
         high = w .after;
         after = λ y l r. ne-eqb (c y) k (λ z. omega (arith, f y (omega arith) r l));
         hit = λ y z. let same : y ≡ j = omega arith in rw same (eq-eqb (c j) k (omega arith));
       })
+
+  pub walk-down : {top : ℕ} → Costs empty occupied Higher misplaced t top c → {s : ℕ} {rest : List ℕ} → Walk empty occupied Higher misplaced t c s rest
+      → (k : ℕ) → c s ≡ k → rest ≡ stepsDown c (length t) k s
+  unfolding stepsDown
+  walk-down law {s} (Walk.stop b o) zero e = refl
+  walk-down law {s} (Walk.stop b o) (suc k) e = absurd (omega (arith, law .vacant s b o))
+  walk-down law {s} (Walk.link b o w q f x) zero e = absurd (omega arith)
+  walk-down law {s} (Walk.link b o w q f x) (suc k) e = rw (next-down (Walk.link b o w q f x) k e, walk-down law x k (omega arith))
+
+  pub walk-up : {top : ℕ} → Costs empty occupied Lower misplaced t top c → {s : ℕ} {rest : List ℕ} → Walk empty occupied Lower misplaced t c s rest
+      → (k : ℕ) → c s ≡ k → rest ≡ stepsUp c k s
+  unfolding stepsUp
+  walk-up law {s} (Walk.stop b o) zero e = refl
+  walk-up law {s} (Walk.stop b o) (suc k) e = absurd (omega (arith, law .vacant s b o))
+  walk-up law {s} (Walk.link b o w q f x) zero e = absurd (omega arith)
+  walk-up law {s} (Walk.link {j = j} b o w q f x) (suc k) e =
+      let at-j : afterLast (λ y. eqb (c y) k) s - 1 ≡ j = omega (arith, next-up (Walk.link b o w q f x) k e) in
+      rw (at-j, walk-up law x k (omega arith))

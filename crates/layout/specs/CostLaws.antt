@@ -14,7 +14,7 @@ use Rattle.layout.specs.Order.{Higher, Lower, swapped}
 use Rattle.layout.specs.Minimum.{minimum, Minimum, minimum-law, minimum-unique}
 use Rattle.layout.specs.Cost.{InWindow, Costs, WindowOrPast, costs, costs-length, costs-law, window-or-past}
 use Rattle.layout.specs.Mirror.{mirror, mirror-twice, getD-reverse, costs-mirrored, past-mirrored}
-use Rattle.layout.specs.Chain.{Chain, Walk, walk-law, walk-mirrored, cost-below, finite-chain, cost-positive}
+use Rattle.layout.specs.Chain.{Chain, Walk, walk-law, walk-mirrored, walk-chain, walk-length, chain-cost, cost-below, finite-chain, stepsDown, stepsUp, walk-down, walk-up}
 use Rattle.layout.specs.Plan.{windowEnd, windowStart, downCost, upCost, downChain, upChain}
 
 -- where the window is a stretch of slots, a cost is 0 or 1 + the least over it
@@ -125,6 +125,33 @@ module _ {S : Type 0} (empty : S) (occupied : S → Bool) (misordered : S → S 
       subst (λ (z : ℕ). Walk empty occupied Lower (swapped misordered) t (upCost empty occupied misordered t) z (upChain empty occupied misordered t s))
       (mirror-twice (length t) s b)
       (walk-mirrored (walk-law empty occupied (swapped misordered) (length t) (reverse t) _ (mirror (length t) s) (omega (arith, length-reverse t)) refl h))
+
+  -- a finite cost is attained by that chain, and no chain is shorter
+  pub down-attained : (s : ℕ) → s < length t → downCost empty occupied misordered t s < length t
+      → Chain empty occupied Higher misordered t s (downChain empty occupied misordered t s)
+      × (length (downChain empty occupied misordered t s) ≡ downCost empty occupied misordered t s)
+  down-attained s b h = let w = down-walk s b (omega arith) in (walk-chain down-costs w, walk-length down-costs w)
+
+  pub up-attained : (s : ℕ) → s < length t → upCost empty occupied misordered t s < length t
+      → Chain empty occupied Lower (swapped misordered) t s (upChain empty occupied misordered t s)
+      × (length (upChain empty occupied misordered t s) ≡ upCost empty occupied misordered t s)
+  up-attained s b h = let w = up-walk s b (omega arith) in (walk-chain up-costs w, walk-length up-costs w)
+
+  pub down-shortest : {s : ℕ} {rest : List ℕ} → Chain empty occupied Higher misordered t s rest → downCost empty occupied misordered t s ≤ length rest
+  down-shortest = chain-cost down-costs
+
+  pub up-shortest : {s : ℕ} {rest : List ℕ} → Chain empty occupied Lower (swapped misordered) t s rest → upCost empty occupied misordered t s ≤ length rest
+  up-shortest = chain-cost up-costs
+
+  -- code finds it by costs alone
+  pub down-steps : (s : ℕ) → s < length t → downCost empty occupied misordered t s < length t
+      → downChain empty occupied misordered t s
+      ≡ stepsDown (downCost empty occupied misordered t) (length t) (downCost empty occupied misordered t s) s
+  down-steps s b h = walk-down down-costs (down-walk s b (omega arith)) (downCost empty occupied misordered t s) refl
+
+  pub up-steps : (s : ℕ) → s < length t → upCost empty occupied misordered t s < length t
+      → upChain empty occupied misordered t s ≡ stepsUp (upCost empty occupied misordered t) (upCost empty occupied misordered t s) s
+  up-steps s b h = walk-up up-costs (up-walk s b (omega arith)) (upCost empty occupied misordered t s) refl
 
   -- a finite cost is below N, and leaves room for the slots on the other side
   pub down-below : (s : ℕ) → s < length t → downCost empty occupied misordered t s ≤ length t → downCost empty occupied misordered t s + s < length t

@@ -10,8 +10,8 @@ use native.Mathlib.Nat.{zero-add, add-zero, sub-zero}
 use native.Mathlib.Omega.{arith}
 use native.Mathlib.Decide.{decLe, decLt}
 use lib.ListN.{length, getD}
-use Rattle.search.specs.Search.{Least, least-law, AfterLast, after-last-law, decided}
-use Rattle.layout.specs.Order.{Higher, Lower, swapped}
+use Rattle.search.specs.Search.{Least, least-law, AfterLast, after-last-law, and-both, decided}
+use Rattle.layout.specs.Order.{Higher, Lower, swapped, ties}
 use Rattle.layout.specs.Cost.{InWindow, Costs}
 use Rattle.layout.specs.Plan.{Range, downCost, upCost, bestDown, bestUp, afterPreceding, firstDependant, rangeDown, rangeUp, Uncrossed, insertChoice}
 use Rattle.layout.specs.CostLaws.{down-costs, up-costs}
@@ -56,6 +56,22 @@ module _ {S : Type 0} (empty : S) (misordered : S → S → Bool) (t : List S) (
   pub first-dependant-law : Least (λ i. misordered (getD t i empty) new) 0 (length t) (firstDependant empty misordered t new)
   unfolding firstDependant
   first-dependant-law = rw zero-add at (least-law (λ i. misordered (getD t i empty) new) (length t) 0)
+
+  -- a rule that ties with none and is not crossed (A > B) has A < B
+  pub untied-uncrossed : ((i : ℕ) → i < length t → ties misordered (getD t i empty) new ≡ false)
+      → afterPreceding empty misordered t new ≤ suc (firstDependant empty misordered t new) → Uncrossed empty misordered t new
+  untied-uncrossed untied h = pick (decLe (afterPreceding empty misordered t new) (firstDependant empty misordered t new))
+    where
+      b : ℕ
+      b = firstDependant empty misordered t new
+
+      pick : Dec (afterPreceding empty misordered t new ≤ b) → Uncrossed empty misordered t new
+      pick (yes l) = l
+      pick (no l) =
+          let inside : b < length t = omega (arith, after-preceding-law .high) in
+          let after : misordered new (getD t b empty) ≡ true = after-preceding-law .hit b (omega arith) in
+          let before : misordered (getD t b empty) new ≡ true = first-dependant-law .hit inside in
+          absurd (true≢false (sym (and-both (misordered (getD t b empty) new) (misordered new (getD t b empty)) before after) ∙ untied b inside))
 
   -- with an empty slot and A < B, one of the two choices is finite
   pub choice-exists : (occupied : S → Bool) (e : ℕ) → e < length t → occupied (getD t e empty) ≡ false → Uncrossed empty misordered t new
