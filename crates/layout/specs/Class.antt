@@ -39,8 +39,7 @@ module _ {S : Type 0} (empty : S) (occupied : S → Bool) (same : S → S → Bo
 -- the last too, loses a rule; the table is in order after each; the last puts the new rule in.
 pub data Sequence {S : Type 0} (empty : S) (occupied : S → Bool) (same misordered : S → S → Bool) (toward : ℕ → ℕ → Type 0) (new : S)
     : List S → List Write → Type 0 where
-  last : {t : List S} (to : ℕ) → to < length t
-      → Free empty occupied same t to
+  last : {t : List S} (to : ℕ) → to < length t → Free empty occupied same t to
       → InOrder empty misordered (filled empty t to new)
       → Sequence empty occupied same misordered toward new t (put to ∷ [])
   more : {t : List S} {rest : List Write} (from to : ℕ) → from < length t → to < length t → toward from to

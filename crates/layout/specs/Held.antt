@@ -94,6 +94,14 @@ module _ {S : Type 0} {empty : S} {occupied : S → Bool} {same misordered : S �
   pub same-turned : (a b : S) → same a b ≡ false → same b a ≡ false
   same-turned a b e = ⊎-elim (λ s. absurd (true≢false (sym (laws .same-symmetric b a s) ∙ e))) (λ s. s) (decided (same b a))
 
+  -- it is enough to compare each slot with the earlier ones
+  pub unique-earlier : (t : List S) → ((x y : ℕ) → x < y → y < length t → same (getD t x empty) (getD t y empty) ≡ false) → Unique empty same t
+  unique-earlier t f i k a b d = pick (decLt i k)
+    where
+      pick : Dec (i < k) → same (getD t i empty) (getD t k empty) ≡ false
+      pick (yes l) = f i k l b
+      pick (no l) = same-turned (getD t k empty) (getD t i empty) (f k i (omega arith) a)
+
   pub unique-coherent : (t : List S) → Unique empty same t → Coherent empty same t
   unique-coherent t u i k a b s = pick (ℕ-discrete i k)
     where

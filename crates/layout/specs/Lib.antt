@@ -8,6 +8,7 @@ pub mod Cost
 pub mod Mirror
 pub mod Chain
 pub mod Class
+pub mod ClassTest
 pub mod Least
 pub mod Valid
 pub mod Plan
