@@ -1,39 +1,14 @@
--- Writes, and document 01's comparison class: the sequences of writes that a plan's count is compared with.
+-- Document 01's comparison class: the sequences of writes that a plan's count is compared with.
 -- A sequence may be of any length and may leave copies over.
 use mathlib.Core.Path.{_≡_}
-use mathlib.Core.Bool.{Bool, true, false}
-use mathlib.Core.Logic.{_⊎_, _≢_}
+use mathlib.Core.Bool.{Bool, true}
+use mathlib.Core.Logic.{_⊎_}
 use mathlib.Core.List.{List, [], _∷_}
 use Prim.Native.Nat.{ℕ, _<_}
 use lib.ListN.{length, getD}
 use Rattle.layout.specs.Order.{InOrder, Higher, Lower}
-use Rattle.layout.specs.Held.{Free, copied, filled, emptied}
-
--- one write of a plan: copy slot from to slot to, put the new rule in, empty a slot
-pub data Write : Type 0 where
-  copy : ℕ → ℕ → Write
-  put : ℕ → Write
-  clear : ℕ → Write
-
-module _ {S : Type 0} (empty new : S) where
-  -- the layout after one write
-  abbrev pub applied : List S → Write → List S
-  applied t (copy from to) = copied empty t from to
-  applied t (put to) = filled empty t to new
-  applied t (clear to) = emptied empty t to
-
-  -- the layout after a list of writes
-  abbrev pub carried : List S → List Write → List S
-  carried t [] = t
-  carried t (w ∷ ws) = carried (applied t w) ws
-
-module _ {S : Type 0} (empty : S) (occupied : S → Bool) (same : S → S → Bool) where
-  -- document 01, "Carrying out": when a write fits
-  abbrev pub Fits : List S → Write → Type 0
-  Fits t (copy from to) =
-      (from < length t) × (to < length t) × (from ≢ to) × (occupied (getD t from empty) ≡ true) × Free empty occupied same t to
-  Fits t (put to) = (to < length t) × Free empty occupied same t to
-  Fits t (clear to) = (to < length t) × (occupied (getD t to empty) ≡ true)
+use Rattle.layout.specs.Held.{Free, copied, filled}
+use Rattle.layout.specs.Write.{Write, copy, put}
 
 -- The sequences of the class that go one way. Each write but the last copies a rule from one slot to another, toward that way; no write,
 -- the last too, loses a rule; the table is in order after each; the last puts the new rule in.

@@ -11,7 +11,8 @@ use borrow.Author.Tests.{ltb-true, lt-ltb}
 use Rattle.search.specs.Search.{and-both, and-left, and-right}
 use Rattle.layout.specs.Order.{InOrder, inOrder, in-order-law}
 use Rattle.layout.specs.Held.{Free, free, free-law, copied, filled}
-use Rattle.layout.specs.Class.{Write, copy, put, clear, Sequence, last, more}
+use Rattle.layout.specs.Write.{Write, copy, put, clear}
+use Rattle.layout.specs.Class.{Sequence, last, more}
 
 module _ {S : Type 0} (empty : S) (occupied : S → Bool) (same misordered : S → S → Bool) (toward : ℕ → ℕ → Bool) (new : S) where
   -- the clauses for one copy, and for the last write, as tests

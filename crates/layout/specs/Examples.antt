@@ -14,9 +14,9 @@ use Rattle.layout.specs.Held.{free, unique-earlier}
 use Rattle.layout.specs.Minimum.{minimum, lowest, highest}
 use Rattle.layout.specs.Cost.{window, costs, nextSlot}
 use Rattle.layout.specs.Chain.{walk}
-use Rattle.layout.specs.Class.{Write, copy, put, Sequence, InClass}
+use Rattle.layout.specs.Write.{Write, copy, put, moves}
+use Rattle.layout.specs.Class.{Sequence, InClass}
 use Rattle.layout.specs.ClassTest.{copyFits, lastFits, sequence, tested-sequence}
-use Rattle.layout.specs.Valid.{moves}
 use Rattle.layout.specs.Plan.{downCost, upCost, downChain, upChain, bestDown, bestUp, slotDown, slotUp, choose, afterPreceding, firstDependant, insertChoice, writes}
 use Rattle.layout.specs.Insert.{least-count}
 

@@ -99,7 +99,7 @@ module _ {S : Type 0} (empty : S) (misordered : S → S → Bool) (t : List S) (
       smaller (no l) d =
           omega (
             arith,
-            best-up empty occupied misordered t (rangeUp empty misordered t new) (pred a) (omega arith) (omega arith) (omega (arith, after-preceding-law .high)),
-            up-near empty occupied misordered t e b o (pred a) (omega arith) (omega (arith, after-preceding-law .high)),
+            best-up empty occupied misordered t (rangeUp empty misordered t new) (a - 1) (omega arith) (omega arith) (omega (arith, after-preceding-law .high)),
+            up-near empty occupied misordered t e b o (a - 1) (omega arith) (omega (arith, after-preceding-law .high)),
             after-preceding-law .high,
           )

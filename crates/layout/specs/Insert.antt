@@ -16,9 +16,10 @@ use Rattle.layout.specs.Held.{Unique, Coherent, NewId}
 use Rattle.layout.specs.Replies.{ConflictOrAlike, reply, equal-replies}
 use Rattle.layout.specs.Chain.{Chain, walk-chain, walk-length}
 use Rattle.layout.specs.Cost.{Costs}
-use Rattle.layout.specs.Class.{Write, put, clear, carried, Fits, Sequence, InClass}
+use Rattle.layout.specs.Write.{Write, put, clear, carried, Fits, moves, moves-length}
+use Rattle.layout.specs.Class.{Sequence, InClass}
 use Rattle.layout.specs.Least.{sequence-least}
-use Rattle.layout.specs.Valid.{moves, moves-length, Between, Placed, chain-between, plan-placed, plan-sequence, sequence-fits}
+use Rattle.layout.specs.Valid.{Between, Placed, chain-between, plan-placed, plan-sequence, sequence-fits}
 use Rattle.layout.specs.Plan.{Range, Choice, downCost, upCost, bestDown, bestUp, choose, afterPreceding, firstDependant, rangeDown, rangeUp, Uncrossed, insertChoice, writes}
 use Rattle.layout.specs.CostLaws.{down-costs, up-costs, down-past, up-past}
 use Rattle.layout.specs.Choose.{Chosen, chosen, best-down, best-up, choose-least}
@@ -61,7 +62,7 @@ module _
             × (bestDown empty occupied misordered t (rangeDown empty misordered t new) ≤ downCost empty occupied misordered t y))
         pick s b after (no l) d =
             let law = after-preceding-law empty misordered t new in
-            absurd (omega (arith, after (pred a) (omega (arith, law .high)) (law .hit (pred a) (omega arith))))
+            absurd (omega (arith, after (a - 1) (omega (arith, law .high)) (law .hit (a - 1) (omega arith))))
         pick s b after (yes l) (yes r) = inl (best-down empty occupied misordered t (rangeDown empty misordered t new) s l (omega arith) b)
         pick s b after (yes l) (no r) =
             inr (
@@ -76,7 +77,7 @@ module _
         → suc (bestUp empty occupied misordered t (rangeUp empty misordered t new)) ≤ length ws
     least-up =
         sequence-least (laws-swapped laws) (up empty misordered) t unique (up-costs empty occupied misordered t) (up-past empty misordered t) new
-        (bestUp empty occupied misordered t (rangeUp empty misordered t new)) (λ s b after. pick s b after (decLt s f) (decLe (pred a) s))
+        (bestUp empty occupied misordered t (rangeUp empty misordered t new)) (λ s b after. pick s b after (decLt s f) (decLe (a - 1) s))
       where
         a : ℕ
         a = afterPreceding empty misordered t new
@@ -84,7 +85,7 @@ module _
         f : ℕ
         f = firstDependant empty misordered t new
 
-        pick : (s : ℕ) → s < length t → ((i : ℕ) → i < length t → misordered (getD t i empty) new ≡ true → s < i) → Dec (s < f) → Dec (pred a ≤ s)
+        pick : (s : ℕ) → s < length t → ((i : ℕ) → i < length t → misordered (getD t i empty) new ≡ true → s < i) → Dec (s < f) → Dec (a - 1 ≤ s)
             → (bestUp empty occupied misordered t (rangeUp empty misordered t new) ≤ upCost empty occupied misordered t s)
             ⊎ ((y : ℕ) × (y < length t) × (s < y) × (misordered new (getD t y empty) ≡ true)
             × (bestUp empty occupied misordered t (rangeUp empty misordered t new) ≤ upCost empty occupied misordered t y))
@@ -93,11 +94,11 @@ module _
         pick s b after (yes l) (no r) =
             let law = after-preceding-law empty misordered t new in
             inr (
-              pred a,
+              a - 1,
               omega (arith, law .high),
               omega arith,
-              law .hit (pred a) (omega arith),
-              best-up empty occupied misordered t (rangeUp empty misordered t new) (pred a) (omega arith) (omega arith) (omega (arith, law .high)),
+              law .hit (a - 1) (omega arith),
+              best-up empty occupied misordered t (rangeUp empty misordered t new) (a - 1) (omega arith) (omega arith) (omega (arith, law .high)),
             )
 
     -- every sequence of the class has at least as many writes as the chosen cost plus 1
@@ -142,7 +143,7 @@ module _
     -- A plan of finite cost is valid, whatever ranges it was chosen from, if they lie within A + 1 to B and A to B − 1.
     pub choice-valid : (below above : Range)
         → afterPreceding empty misordered t new ≤ below .from → below .to ≤ suc (firstDependant empty misordered t new)
-        → pred (afterPreceding empty misordered t new) ≤ above .from → above .to ≤ firstDependant empty misordered t new
+        → afterPreceding empty misordered t new - 1 ≤ above .from → above .to ≤ firstDependant empty misordered t new
         → choose empty occupied misordered t below above .cost < length t
         → Valid empty occupied same misordered t new (choose empty occupied misordered t below above)
     choice-valid below above bf bt af at h = ⊎-elim

@@ -14,7 +14,8 @@ use Rattle.search.specs.Search.{decided}
 use Rattle.layout.specs.Order.{Laws, InOrder, Direction}
 use Rattle.layout.specs.Held.{Unique, Free, Elsewhere, copied}
 use Rattle.layout.specs.Cost.{InWindow, Costs, WindowOrPast}
-use Rattle.layout.specs.Class.{Write, Sequence}
+use Rattle.layout.specs.Write.{Write}
+use Rattle.layout.specs.Class.{Sequence}
 
 module _
     {S : Type 0} {empty : S} {occupied : S → Bool} {same misordered misplaced : S → S → Bool} {toward : ℕ → ℕ → Type 0}

@@ -1,5 +1,5 @@
--- The mathematics of moving rules: order, what is held, replies, costs, chains, plans, and why no sequence of document 01's class is shorter.
--- Everything is over any type of entries, with tests for "occupied", "same id" and "out of order", and any number of slots.
+-- The mathematics of moving rules, over any entries with tests for "occupied", "same id" and "out of order", and any number of slots.
+-- Definitions: Order, Held, Replies, Cost, Chain, Write, Class, Plan. The theorems on an insert's plan are in Insert.
 pub mod Order
 pub mod Held
 pub mod Replies
@@ -7,11 +7,12 @@ pub mod Minimum
 pub mod Cost
 pub mod Mirror
 pub mod Chain
+pub mod Write
 pub mod Class
 pub mod ClassTest
+pub mod Plan
 pub mod Least
 pub mod Valid
-pub mod Plan
 pub mod CostLaws
 pub mod Choose
 pub mod Exists

@@ -3,7 +3,7 @@
 use mathlib.Core.Path.{_≡_, refl, sym, ap, ap₂, _∙_}
 use mathlib.Core.Logic.{_≢_}
 use mathlib.Core.Bool.{Bool, true, false, true≢false}
-use Prim.Native.Nat.{ℕ, zero, suc, _+_, _-_, _≤_, _<_, min, pred}
+use Prim.Native.Nat.{ℕ, zero, suc, _+_, _-_, _≤_, _<_, min}
 use native.Mathlib.Omega.{arith}
 use native.Mathlib.Decide.{ℕ-discrete, decLe, decLt}
 use lib.Dec.{eqb}
@@ -21,7 +21,7 @@ lowest c top k i = least (λ j. eqb (c j) (minimum c top k i)) k i
 
 -- the highest of them
 unfoldable pub highest : (ℕ → ℕ) → ℕ → ℕ → ℕ → ℕ
-highest c top k i = pred (afterLast (λ j. eqb (c j) (minimum c top k i)) (i + k))
+highest c top k i = afterLast (λ j. eqb (c j) (minimum c top k i)) (i + k) - 1
 
 -- m is the least of top and the values of c from i on, below e
 pub record Minimum (c : ℕ → ℕ) (top i e m : ℕ) : Type 0 where
@@ -100,11 +100,11 @@ module _ {c : ℕ → ℕ} {top i e m : ℕ} (minimal : Minimum c top i e m) (fi
           let w = minimal .hit finite in
           absurd (true≢false (sym (eq-eqb (c (w .0)) m (w .3)) ∙ l .before (w .0) (w .1) (omega (arith, w .2))))
 
-  highest-of : {a : ℕ} → AfterLast (λ y. eqb (c y) m) e a → HighestAt c i e m (pred a)
+  highest-of : {a : ℕ} → AfterLast (λ y. eqb (c y) m) e a → HighestAt c i e m (a - 1)
   highest-of {a} l = record {
     from = omega (arith, past);
     below = omega (arith, past, l .high);
-    value = eqb-true (c (pred a)) m (l .hit (pred a) (omega (arith, past)));
+    value = eqb-true (c (a - 1)) m (l .hit (a - 1) (omega (arith, past)));
     after = λ y b r. greater y (omega (arith, past)) r (l .after y (omega arith) r);
   }
     where

@@ -11,8 +11,7 @@ use Rattle.layout.specs.Minimum.{minimum, lowest, highest}
 use Rattle.layout.specs.Cost.{slotCost}
 use Rattle.layout.specs.Mirror.{mirror}
 use Rattle.layout.specs.Chain.{walk}
-use Rattle.layout.specs.Class.{Write, put}
-use Rattle.layout.specs.Valid.{moves}
+use Rattle.layout.specs.Write.{Write, put, moves}
 
 -- the slots from the one number up to, not including, the other
 pub record Range : Type 0 where
@@ -48,7 +47,7 @@ module _ {S : Type 0} (empty : S) (misordered : S → S → Bool) where
   rangeDown t new = record { from = afterPreceding t new; to = suc (firstDependant t new) }
 
   abbrev pub rangeUp : List S → S → Range
-  rangeUp t new = record { from = pred (afterPreceding t new); to = firstDependant t new }
+  rangeUp t new = record { from = afterPreceding t new - 1; to = firstDependant t new }
 
   -- A < B, in numbers: not crossed
   abbrev pub Uncrossed : List S → S → Type 0

@@ -15,22 +15,8 @@ use Rattle.layout.specs.Order.{Laws, InOrder, Direction}
 use Rattle.layout.specs.Held.{Held, Unique, Coherent, NewId, OnePair, Free, copied, filled, same-turned, unique-coherent, held-filled}
 use Rattle.layout.specs.Cost.{InWindow}
 use Rattle.layout.specs.Chain.{Chain, chain-inside}
-use Rattle.layout.specs.Class.{Write, copy, put, clear, applied, carried, Fits, Sequence, last, more}
-
--- the copies of a chain from slot s, the far end first
-unfoldable pub moves : ℕ → List ℕ → List Write
-moves s [] = []
-moves s (j ∷ rest) = moves j rest ++ (copy s j ∷ [])
-
-pub moves-length : (s : ℕ) (rest : List ℕ) → length (moves s rest) ≡ length rest
-unfolding moves
-moves-length s [] = refl
-moves-length s (j ∷ rest) = omega (arith, length-append (moves j rest) (copy s j ∷ []), moves-length j rest)
-
-pub carried-append : {S : Type 0} (empty new : S) (t : List S) (ws vs : List Write)
-    → carried empty new t (ws ++ vs) ≡ carried empty new (carried empty new t ws) vs
-carried-append empty new t [] vs = refl
-carried-append empty new t (w ∷ ws) vs = carried-append empty new (applied empty new t w) ws vs
+use Rattle.layout.specs.Write.{Write, copy, put, clear, carried, Fits, moves, moves-length, carried-append}
+use Rattle.layout.specs.Class.{Sequence, last, more}
 
 -- what holds of each layout between two writes of a plan
 pub record Between {S : Type 0} (empty : S) (occupied : S → Bool) (same misordered : S → S → Bool) (first u : List S) : Type 0 where
