@@ -1,17 +1,15 @@
 -- The choice keeps its word: the slot is in its range, of least cost there, by the tie rule, and its chain is the tie rule's walk.
 -- This holds for any two ranges.
-use mathlib.Core.Path.{_≡_, refl, sym, ap, _∙_, subst}
-use mathlib.Core.Bool.{Bool, true, false, cond}
-use mathlib.Core.Logic.{_⊎_, ⊎-elim}
+use mathlib.Core.Path.{_≡_, ap, _∙_}
+use mathlib.Core.Bool.{Bool, true, false}
+use mathlib.Core.Logic.{_⊎_}
 use mathlib.Core.Logic._⊎_.{inl, inr}
 use mathlib.Core.List.{List}
-use Prim.Native.Nat.{ℕ, suc, _+_, _-_, _≤_, _<_, min}
+use Prim.Native.Nat.{ℕ, _-_, _≤_, _<_, min}
 use native.Mathlib.Omega.{arith}
 use native.Mathlib.Decide.{decLe}
-use lib.Dec.{leb}
-use lib.ListN.{length, getD}
+use lib.ListN.{length}
 use borrow.Author.Tests.{le-leb, lt-leb}
-use Rattle.search.specs.Search.{decided}
 use Rattle.layout.specs.Order.{Higher, Lower, swapped}
 use Rattle.layout.specs.Minimum.{minimum-law, lowest-law, highest-law}
 use Rattle.layout.specs.Chain.{Walk}

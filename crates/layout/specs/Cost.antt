@@ -2,18 +2,18 @@
 -- One definition serves both directions: up costs are those of the reversed layout with the relation swapped.
 use mathlib.Core.Path.{_≡_, refl, sym, ap, _∙_, subst}
 use mathlib.Core.Bool.{Bool, true, false, cond, true≢false}
-use mathlib.Core.Logic.{_↔_, _⊎_, ⊎-elim, _≢_}
+use mathlib.Core.Logic.{_↔_, _⊎_, ⊎-elim}
 use mathlib.Core.Logic._⊎_.{inl, inr}
-use mathlib.Core.List.{List, [], _∷_, reverse}
+use mathlib.Core.List.{List, [], _∷_}
 use Prim.Native.Nat.{ℕ, zero, suc, _+_, _-_, _≤_, _<_, min}
 use native.Mathlib.Nat.{zero-add}
 use native.Mathlib.Omega.{arith}
-use native.Mathlib.Decide.{ℕ-discrete, decLe, decLt}
+use native.Mathlib.Decide.{decLt}
 use lib.ListN.{length, getD, drop, length-drop}
 use lib.Seq.{getD-drop}
 use Rattle.search.specs.Search.{least, Least, least-law, decided}
-use Rattle.layout.specs.Order.{Higher, Lower, swapped}
-use Rattle.layout.specs.Minimum.{minimum, Minimum, minimum-law, minimum-shift, lowest, LowestAt, lowest-law}
+use Rattle.layout.specs.Order.{Higher, swapped}
+use Rattle.layout.specs.Minimum.{minimum, minimum-law, minimum-shift, lowest, lowest-law}
 
 -- Slot j is in the window of slot i: it comes after i, and no slot between the two holds a dependant of i's rule.
 -- So the window reaches up to and including the nearest dependant, or to the layout's end.

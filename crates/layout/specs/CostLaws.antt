@@ -2,18 +2,18 @@
 -- Costs of N or more are infinite: a finite cost is below N, and it is finite exactly where there is a chain.
 use mathlib.Core.Path.{_≡_, refl, sym, ap, _∙_, subst}
 use mathlib.Core.Bool.{Bool, true, false, cond, true≢false}
-use mathlib.Core.Logic.{_↔_, _⊎_, ⊎-elim}
+use mathlib.Core.Logic.{_↔_, _⊎_}
 use mathlib.Core.Logic._⊎_.{inl, inr}
-use mathlib.Core.List.{List, [], _∷_, map, reverse}
-use Prim.Native.Nat.{ℕ, zero, suc, _+_, _-_, _≤_, _<_, min, pred}
+use mathlib.Core.List.{List, reverse}
+use Prim.Native.Nat.{ℕ, suc, _+_, _-_, _≤_, _<_, pred}
 use native.Mathlib.Omega.{arith}
 use native.Mathlib.Decide.{decLt, decLe}
 use lib.ListN.{length, getD, length-reverse}
 use Rattle.search.specs.Search.{least, Least, least-law, afterLast, AfterLast, after-last-law, decided}
 use Rattle.layout.specs.Order.{Higher, Lower, swapped}
 use Rattle.layout.specs.Minimum.{minimum, Minimum, minimum-law, minimum-unique}
-use Rattle.layout.specs.Cost.{InWindow, Costs, WindowOrPast, costs, costs-length, costs-law, window-or-past}
-use Rattle.layout.specs.Mirror.{mirror, mirror-twice, getD-reverse, costs-mirrored, past-mirrored}
+use Rattle.layout.specs.Cost.{InWindow, Costs, WindowOrPast, costs, costs-law, window-or-past}
+use Rattle.layout.specs.Mirror.{mirror, mirror-twice, costs-mirrored, past-mirrored}
 use Rattle.layout.specs.Chain.{Chain, Walk, walk-law, walk-mirrored, walk-chain, walk-length, chain-cost, cost-below, finite-chain, stepsDown, stepsUp, walk-down, walk-up}
 use Rattle.layout.specs.Plan.{windowEnd, windowStart, downCost, upCost, downChain, upChain}
 

@@ -1,19 +1,18 @@
 -- Existence: with an empty slot and A < B the choice is finite, so the plan has at most N writes.
 -- An empty slot after A serves a down plan, one at or before A an up plan.
-use mathlib.Core.Path.{_≡_, refl, sym, ap, _∙_, subst}
+use mathlib.Core.Path.{_≡_, sym, _∙_, subst}
 use mathlib.Core.Bool.{Bool, true, false, true≢false}
-use mathlib.Core.Logic.{_⊎_, ⊎-elim}
-use mathlib.Core.Logic._⊎_.{inl, inr}
+use mathlib.Core.Logic.{⊎-elim}
 use mathlib.Core.List.{List}
-use Prim.Native.Nat.{ℕ, zero, suc, _+_, _-_, _≤_, _<_, min, pred}
+use Prim.Native.Nat.{ℕ, zero, suc, _+_, _-_, _≤_, _<_, min}
 use native.Mathlib.Nat.{zero-add, add-zero, sub-zero}
 use native.Mathlib.Omega.{arith}
-use native.Mathlib.Decide.{decLe, decLt}
+use native.Mathlib.Decide.{decLe}
 use lib.ListN.{length, getD}
 use Rattle.search.specs.Search.{Least, least-law, AfterLast, after-last-law, and-both, decided}
-use Rattle.layout.specs.Order.{Higher, Lower, swapped, ties}
+use Rattle.layout.specs.Order.{ties}
 use Rattle.layout.specs.Cost.{InWindow, Costs}
-use Rattle.layout.specs.Plan.{Range, downCost, upCost, bestDown, bestUp, afterPreceding, firstDependant, rangeDown, rangeUp, Uncrossed, insertChoice}
+use Rattle.layout.specs.Plan.{downCost, upCost, bestDown, bestUp, afterPreceding, firstDependant, rangeDown, rangeUp, Uncrossed, insertChoice}
 use Rattle.layout.specs.CostLaws.{down-costs, up-costs}
 use Rattle.layout.specs.Choose.{best-down, best-up, choose-least}
 

@@ -1,17 +1,17 @@
 -- The theorems on an insert's plan: it exists, is valid at every prefix, and has the least count of document 01's class.
 -- Two rules that tie are misordered both ways, so A < B holds of no rule that ties with one of the table.
-use mathlib.Core.Path.{_≡_, refl, sym, ap, _∙_, subst}
-use mathlib.Core.Bool.{Bool, true, false, true≢false}
+use mathlib.Core.Path.{_≡_, _∙_}
+use mathlib.Core.Bool.{Bool, true, false}
 use mathlib.Core.Logic.{_⊎_, ⊎-elim}
 use mathlib.Core.Logic._⊎_.{inl, inr}
-use mathlib.Core.List.{List, [], _∷_, _++_}
-use Prim.Native.Nat.{ℕ, zero, suc, _+_, _-_, _≤_, _<_, min, pred}
+use mathlib.Core.List.{List, [], _∷_}
+use Prim.Native.Nat.{ℕ, suc, _+_, _-_, _≤_, _<_}
 use native.Mathlib.Omega.{arith}
 use native.Mathlib.Decide.{decLe, decLt}
 use lib.ListN.{length, getD, take, length-append}
 use lib.Seq.{take-append-le}
 use Rattle.search.specs.Search.{Least, AfterLast}
-use Rattle.layout.specs.Order.{Laws, InOrder, Direction, Higher, Lower, swapped, down, up, laws-swapped}
+use Rattle.layout.specs.Order.{Laws, InOrder, Direction, Higher, Lower, down, up, laws-swapped}
 use Rattle.layout.specs.Held.{Unique, Coherent, NewId}
 use Rattle.layout.specs.Replies.{ConflictOrAlike, reply, equal-replies}
 use Rattle.layout.specs.Chain.{Chain, walk-chain, walk-length}

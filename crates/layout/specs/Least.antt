@@ -4,15 +4,15 @@ use mathlib.Core.Path.{_≡_, refl, sym, ap, _∙_, subst}
 use mathlib.Core.Bool.{Bool, true, false, true≢false}
 use mathlib.Core.Logic.{_⊎_, ⊎-elim, _≢_}
 use mathlib.Core.Logic._⊎_.{inl, inr}
-use mathlib.Core.List.{List, [], _∷_}
-use Prim.Native.Nat.{ℕ, zero, suc, _+_, _≤_, _<_, pred}
+use mathlib.Core.List.{List}
+use Prim.Native.Nat.{ℕ, suc, _+_, _≤_, _<_, pred}
 use native.Mathlib.Omega.{arith}
 use native.Mathlib.Decide.{ℕ-discrete, decLe}
 use lib.ListN.{length, getD, set, length-set}
 use lib.Seq.{getD-set-same, getD-set-other}
 use Rattle.search.specs.Search.{decided}
 use Rattle.layout.specs.Order.{Laws, InOrder, Direction}
-use Rattle.layout.specs.Held.{Unique, Free, Elsewhere, copied}
+use Rattle.layout.specs.Held.{Unique, Free, copied}
 use Rattle.layout.specs.Cost.{InWindow, Costs, WindowOrPast}
 use Rattle.layout.specs.Write.{Write}
 use Rattle.layout.specs.Class.{Sequence}

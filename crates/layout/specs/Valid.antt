@@ -5,17 +5,16 @@ use mathlib.Core.Bool.{Bool, true, false, true≢false}
 use mathlib.Core.Logic.{_↔_, _⊎_, ⊎-elim, _≢_}
 use mathlib.Core.Logic._⊎_.{inl, inr}
 use mathlib.Core.List.{List, [], _∷_, _++_}
-use Prim.Native.Nat.{ℕ, zero, suc, _+_, _≤_, _<_}
+use Prim.Native.Nat.{ℕ, zero, suc, _≤_, _<_}
 use native.Mathlib.Omega.{arith}
 use native.Mathlib.Decide.{ℕ-discrete, decLe}
-use lib.ListN.{length, getD, set, take, length-set, length-append}
+use lib.ListN.{length, getD, take, length-set, length-append}
 use lib.Seq.{getD-set-same, getD-set-other, take-append-le, take-all, take-nil, append-snoc}
-use Rattle.search.specs.Search.{decided}
 use Rattle.layout.specs.Order.{Laws, InOrder, Direction}
 use Rattle.layout.specs.Held.{Held, Unique, Coherent, NewId, OnePair, Free, copied, filled, same-turned, unique-coherent, held-filled}
 use Rattle.layout.specs.Cost.{InWindow}
 use Rattle.layout.specs.Chain.{Chain, chain-inside}
-use Rattle.layout.specs.Write.{Write, copy, put, clear, carried, Fits, moves, moves-length, carried-append}
+use Rattle.layout.specs.Write.{Write, copy, put, clear, carried, Fits, moves, carried-append}
 use Rattle.layout.specs.Class.{Sequence, last, more}
 
 -- what holds of each layout between two writes of a plan
