@@ -88,7 +88,7 @@ module _ {S : Type 0} (empty : S) (occupied : S → Bool) (misordered : S → S 
         to = omega (arith, l .below, l .from);
         cost = l .value;
         least = best-down r;
-        tie = λ j a b c d. l .before j a d;
+        tie = λ j a b c d. l .tie j a (omega arith) d;
         walk = down-walk empty occupied misordered t _ (omega (arith, l .below, l .from)) (omega (arith, l .value));
       }
 
@@ -109,7 +109,7 @@ module _ {S : Type 0} (empty : S) (occupied : S → Bool) (misordered : S → S 
         to = omega (arith, l .below, l .from);
         cost = l .value;
         least = best-up r;
-        tie = λ j a b c d. l .after j d (omega arith);
+        tie = λ j a b c d. l .tie j a (omega arith) d;
         walk = up-walk empty occupied misordered t _ (omega (arith, l .below, l .from)) (omega (arith, l .value));
       }
 

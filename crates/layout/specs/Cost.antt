@@ -11,9 +11,9 @@ use native.Mathlib.Omega.{arith}
 use native.Mathlib.Decide.{decLt}
 use lib.ListN.{length, getD, drop, length-drop}
 use lib.Seq.{getD-drop}
-use Rattle.search.specs.Search.{least, Least, least-law, decided}
+use Rattle.search.specs.Search.{least, Least, least-law, least-shift, decided}
 use Rattle.layout.specs.Order.{Higher, swapped}
-use Rattle.layout.specs.Minimum.{minimum, minimum-law, minimum-shift, lowest, lowest-law}
+use Rattle.layout.specs.Minimum.{minimum, Minimum, minimum-law, minimum-shift, lowest, lowest-law}
 
 -- Slot j is in the window of slot i: it comes after i, and no slot between the two holds a dependant of i's rule.
 -- So the window reaches up to and including the nearest dependant, or to the layout's end.
@@ -30,85 +30,64 @@ WindowOrPast empty toward misplaced t =
     ⊎ ((y : ℕ) × InWindow empty toward misplaced t i y × toward y j × (misplaced (getD t y empty) (getD t i empty) ≡ true))
 
 module _ {S : Type 0} (empty : S) (misplaced : S → S → Bool) where
-  -- of the entries after e, how many are in its window
-  unfoldable pub window : S → List S → ℕ
-  window e rest = min (suc (least (λ k. misplaced (getD rest k empty) e) (length rest) 0)) (length rest)
+  -- one past the last slot of i's window, going toward higher slots: the last is the nearest dependant, or the layout's last slot
+  unfoldable pub windowEnd : List S → ℕ → ℕ
+  windowEnd t i = min (suc (least (λ y. misplaced (getD t y empty) (getD t i empty)) (length t - suc i) (suc i))) (length t)
 
-  -- the number is right: the slots counted are those with no dependant of e before them
-  pub window-law : (e : S) (rest : List S) (k : ℕ)
-      → (k < window e rest) ↔ ((k < length rest) × ((y : ℕ) → y < k → misplaced (getD rest y empty) e ≡ false))
-  unfolding window
-  window-law e rest k = (λ h. (omega arith, λ y l. nearest .before y (omega arith) (omega arith)), λ h. pick (h .0) (h .1) (decLt at k))
+  -- the slots from i + 1 up to there are those of the window
+  pub window-end : (t : List S) (i j : ℕ) → InWindow empty Higher misplaced t i j ↔ ((i < j) × (j < windowEnd t i))
+  unfolding windowEnd
+  window-end t i j = (forth, λ h. record { inside = omega (arith, h .1); after = h .0; between = λ y a u v. law .before y u (omega (arith, h .1)) })
     where
-      at : ℕ
-      at = least (λ k. misplaced (getD rest k empty) e) (length rest) 0
+      test : ℕ → Bool
+      test y = misplaced (getD t y empty) (getD t i empty)
 
-      nearest : Least (λ k. misplaced (getD rest k empty) e) 0 (length rest) at
-      nearest = rw zero-add at (least-law (λ k. misplaced (getD rest k empty) e) (length rest) 0)
+      nearest : ℕ
+      nearest = least test (length t - suc i) (suc i)
 
-      pick : k < length rest → ((y : ℕ) → y < k → misplaced (getD rest y empty) e ≡ false) → Dec (at < k) → k < min (suc at) (length rest)
-      pick h f (yes l) = absurd (true≢false (sym (nearest .hit (omega arith)) ∙ f at l))
-      pick h f (no l) = omega arith
+      law : Least test (suc i) (suc i + (length t - suc i)) nearest
+      law = least-law test (length t - suc i) (suc i)
+
+      forth : InWindow empty Higher misplaced t i j → (i < j) × (j < windowEnd t i)
+      forth w = pick (decLt nearest j)
+        where
+          pick : Dec (nearest < j) → (i < j) × (j < windowEnd t i)
+          pick (yes h) = absurd (true≢false (sym (law .hit (omega (arith, w .inside))) ∙ w .between nearest (omega (arith, w .inside)) (law .low) h))
+          pick (no h) = (w .after, omega (arith, w .inside))
+
+  pub window-end-low : (t : List S) (i : ℕ) → i < length t → i < windowEnd t i
+  unfolding windowEnd
+  window-end-low t i b = omega (arith, least-law (λ y. misplaced (getD t y empty) (getD t i empty)) (length t - suc i) (suc i) .low)
+
+  -- slots may be counted from one further on
+  window-shift : (e : S) (rest : List S) (i : ℕ) → windowEnd (e ∷ rest) (suc i) ≡ suc (windowEnd rest i)
+  unfolding windowEnd
+  window-shift e rest i =
+      let n : suc (length rest) - suc (suc i) ≡ length rest - suc i = omega arith in
+      rw (n, least-shift (λ y. misplaced (getD (e ∷ rest) y empty) (getD rest i empty)) (length rest - suc i) (suc i)) (omega arith)
 
 module _ {S : Type 0} (empty : S) (occupied : S → Bool) (misplaced : S → S → Bool) where
-  -- Of each slot: 0 if empty, else 1 + the least cost in its window. A cost of top or more is infinite.
+  -- Of each slot: 0 if empty, else 1 + the least cost in its window; slot k + 1 is the rest's slot k. A cost of top or more is infinite.
   unfoldable pub costs : ℕ → List S → List ℕ
   costs top [] = []
   costs top (e ∷ rest) =
       let after = costs top rest in
-      cond (occupied e) (suc (minimum (λ k. getD after k top) top (window empty misplaced e rest) 0)) 0 ∷ after
-
-  pub costs-length : (top : ℕ) (t : List S) → length (costs top t) ≡ length t
-  unfolding costs
-  costs-length top [] = refl
-  costs-length top (e ∷ rest) = ap suc (costs-length top rest)
+      cond (occupied e) (suc (minimum (λ k. getD after k top) top (windowEnd empty misplaced (e ∷ rest) 0 - 1) 0)) 0 ∷ after
 
   -- the cost of slot i; past the end it is infinite
   abbrev pub slotCost : ℕ → List S → ℕ → ℕ
   slotCost top t i = getD (costs top t) i top
 
-  -- the definition by slot number
+  -- the same by slot number
   pub cost-at : (top : ℕ) (t : List S) (i : ℕ) → i < length t
-      → slotCost top t i
-      ≡ cond (occupied (getD t i empty)) (suc (minimum (slotCost top t) top (window empty misplaced (getD t i empty) (drop (suc i) t)) (suc i))) 0
+      → slotCost top t i ≡ cond (occupied (getD t i empty)) (suc (minimum (slotCost top t) top (windowEnd empty misplaced t i - suc i) (suc i))) 0
   unfolding costs
   cost-at top [] i h = absurd (omega arith)
   cost-at top (e ∷ rest) zero h = rw minimum-shift
-  cost-at top (e ∷ rest) (suc i) h = rw minimum-shift (cost-at top rest i (omega arith))
-
-module _ {S : Type 0} (empty : S) (misplaced : S → S → Bool) (t : List S) (i : ℕ) where
-  -- the window of slot i, going down, as a stretch of slots
-  pub window-slots : (j : ℕ)
-      → InWindow empty Higher misplaced t i j ↔ ((i < j) × (j < suc i + window empty misplaced (getD t i empty) (drop (suc i) t)))
-  window-slots j = (forth, back)
-    where
-      rest : List S
-      rest = drop (suc i) t
-
-      e : S
-      e = getD t i empty
-
-      long : length rest ≡ length t - suc i
-      long = length-drop (suc i) t
-
-      law : (k : ℕ) → (k < window empty misplaced e rest) ↔ ((k < length rest) × ((y : ℕ) → y < k → misplaced (getD rest y empty) e ≡ false))
-      law = window-law empty misplaced e rest
-
-      forth : InWindow empty Higher misplaced t i j → (i < j) × (j < suc i + window empty misplaced e rest)
-      forth w =
-          let h = law (j - suc i) .1 (omega (arith, long, w .inside, w .after), λ y l. rw getD-drop (w .between (suc i + y) (omega (arith, w .inside)) (omega arith) (omega (arith, w .after)))) in
-          (w .after, omega (arith, w .after))
-
-      back : (i < j) × (j < suc i + window empty misplaced e rest) → InWindow empty Higher misplaced t i j
-      back (l, r) =
-          let h = law (j - suc i) .0 (omega arith) in
-          record {
-            inside = omega (arith, h .0, long);
-            after = l;
-            between = λ y b u v.
-                let q : suc i + (y - suc i) ≡ y = omega arith in
-                subst (λ (z : ℕ). misplaced (getD t z empty) e ≡ false) q (rw getD-drop at (h .1 (y - suc i) (omega arith)));
-          }
+  cost-at top (e ∷ rest) (suc i) h =
+      let w = windowEnd empty misplaced rest i in
+      let n : suc w - suc (suc i) ≡ w - suc i = omega arith in
+      rw (window-shift empty misplaced e rest i, n, minimum-shift (slotCost top (e ∷ rest)) top (w - suc i) (suc i)) (cost-at top rest i (omega arith))
 
 pub window-or-past : {S : Type 0} (empty : S) (misplaced : S → S → Bool) (t : List S) → WindowOrPast empty Higher misplaced t
 window-or-past empty misplaced t i j a b l = pick (decLt place j)
@@ -141,17 +120,22 @@ pub record Costs {S : Type 0} (empty : S) (occupied : S → Bool) (toward : ℕ 
 module _ {S : Type 0} (empty : S) (occupied : S → Bool) (misplaced : S → S → Bool) (top : ℕ) (t : List S) where
   -- the slot to which the rule of slot s moves: the lowest of least cost in its window
   unfoldable pub nextSlot : ℕ → ℕ
-  nextSlot s = lowest (slotCost empty occupied misplaced top t) top (window empty misplaced (getD t s empty) (drop (suc s) t)) (suc s)
+  nextSlot s = lowest (slotCost empty occupied misplaced top t) top (windowEnd empty misplaced t s - suc s) (suc s)
 
   -- the least cost in the window of slot s
-  abbrev after : ℕ → ℕ
-  after s = minimum (slotCost empty occupied misplaced top t) top (window empty misplaced (getD t s empty) (drop (suc s) t)) (suc s)
+  abbrev least-after : ℕ → ℕ
+  least-after s = minimum (slotCost empty occupied misplaced top t) top (windowEnd empty misplaced t s - suc s) (suc s)
+
+  least-after-law : (s : ℕ) → s < length t → Minimum (slotCost empty occupied misplaced top t) top (suc s) (windowEnd empty misplaced t s) (least-after s)
+  least-after-law s b =
+      let whole : suc s + (windowEnd empty misplaced t s - suc s) ≡ windowEnd empty misplaced t s = omega (arith, window-end-low empty misplaced t s b) in
+      rw whole at (minimum-law (slotCost empty occupied misplaced top t) top (windowEnd empty misplaced t s - suc s) (suc s))
 
   cost-vacant : (s : ℕ) → s < length t → occupied (getD t s empty) ≡ false → slotCost empty occupied misplaced top t s ≡ 0
-  cost-vacant s b o = cost-at empty occupied misplaced top t s b ∙ ap (λ (x : Bool). cond x (suc (after s)) 0) o
+  cost-vacant s b o = cost-at empty occupied misplaced top t s b ∙ ap (λ (x : Bool). cond x (suc (least-after s)) 0) o
 
-  cost-occupied : (s : ℕ) → s < length t → occupied (getD t s empty) ≡ true → slotCost empty occupied misplaced top t s ≡ suc (after s)
-  cost-occupied s b o = cost-at empty occupied misplaced top t s b ∙ ap (λ (x : Bool). cond x (suc (after s)) 0) o
+  cost-occupied : (s : ℕ) → s < length t → occupied (getD t s empty) ≡ true → slotCost empty occupied misplaced top t s ≡ suc (least-after s)
+  cost-occupied s b o = cost-at empty occupied misplaced top t s b ∙ ap (λ (x : Bool). cond x (suc (least-after s)) 0) o
 
   pub next-law : (s : ℕ) → s < length t → occupied (getD t s empty) ≡ true → slotCost empty occupied misplaced top t s ≤ top
       → InWindow empty Higher misplaced t s (nextSlot s)
@@ -160,20 +144,18 @@ module _ {S : Type 0} (empty : S) (occupied : S → Bool) (misplaced : S → S �
   unfolding nextSlot
   next-law s b o h =
       let e = cost-occupied s b o in
-      let r = lowest-law (slotCost empty occupied misplaced top t) top (window empty misplaced (getD t s empty) (drop (suc s) t)) (suc s) (omega arith) in (
-        window-slots empty misplaced t s _ .1 (r .from, r .below),
+      let r = lowest-law (slotCost empty occupied misplaced top t) top (windowEnd empty misplaced t s - suc s) (suc s) (omega arith) in (
+        window-end empty misplaced t s (nextSlot s) .1 (r .from, omega (arith, r .below, r .from)),
         e ∙ ap suc (sym (r .value)),
-        λ y a l u. omega (arith, r .before y l u, r .value),
+        λ y a l u. omega (arith, r .tie y l (omega (arith, r .below)) u, r .value),
       )
 
   pub costs-law : Costs empty occupied Higher misplaced t top (slotCost empty occupied misplaced top t)
   costs-law = record {
     vacant = cost-vacant;
     within = λ i j b o w.
-        let v = window-slots empty misplaced t i j .0 w in
-        omega (arith, cost-occupied i b o, minimum-law (slotCost empty occupied misplaced top t) top (window empty misplaced (getD t i empty) (drop (suc i) t)) (suc i) .low j (v .0) (v .1));
-    bounded = λ i b. ⊎-elim
-        (λ o. omega (arith, cost-occupied i b o, minimum-law (slotCost empty occupied misplaced top t) top (window empty misplaced (getD t i empty) (drop (suc i) t)) (suc i) .high))
-        (λ o. omega (arith, cost-vacant i b o)) (decided (occupied (getD t i empty)));
+        let v = window-end empty misplaced t i j .0 w in
+        omega (arith, cost-occupied i b o, least-after-law i b .low j (v .0) (v .1));
+    bounded = λ i b. ⊎-elim (λ o. omega (arith, cost-occupied i b o, least-after-law i b .high)) (λ o. omega (arith, cost-vacant i b o)) (decided (occupied (getD t i empty)));
     next = λ i b o h. let r = next-law i b o h in (nextSlot i, r .0, r .1, r .2);
   }

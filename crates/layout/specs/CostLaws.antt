@@ -9,13 +9,13 @@ use Prim.Native.Nat.{ℕ, suc, _+_, _-_, _≤_, _<_, pred}
 use native.Mathlib.Omega.{arith}
 use native.Mathlib.Decide.{decLt, decLe}
 use lib.ListN.{length, getD, length-reverse}
-use Rattle.search.specs.Search.{least, Least, least-law, afterLast, AfterLast, after-last-law, decided}
+use Rattle.search.specs.Search.{afterLast, AfterLast, after-last-law, decided}
 use Rattle.layout.specs.Order.{Higher, Lower, swapped}
 use Rattle.layout.specs.Minimum.{minimum, Minimum, minimum-law, minimum-unique}
-use Rattle.layout.specs.Cost.{InWindow, Costs, WindowOrPast, costs, costs-law, window-or-past}
+use Rattle.layout.specs.Cost.{InWindow, Costs, WindowOrPast, costs, costs-law, window-or-past, windowEnd, cost-at}
 use Rattle.layout.specs.Mirror.{mirror, mirror-twice, costs-mirrored, past-mirrored}
 use Rattle.layout.specs.Chain.{Chain, Walk, walk-law, walk-mirrored, walk-chain, walk-length, chain-cost, cost-below, finite-chain, stepsDown, stepsUp, walk-down, walk-up}
-use Rattle.layout.specs.Plan.{windowEnd, windowStart, downCost, upCost, downChain, upChain}
+use Rattle.layout.specs.Plan.{windowStart, downCost, upCost, downChain, upChain}
 
 -- where the window is a stretch of slots, a cost is 0 or 1 + the least over it
 cost-stretch :
@@ -49,29 +49,7 @@ cost-stretch {empty = empty} {occupied} {t = t} {top = top} {c = c} law i b lo h
 
 module _ {S : Type 0} (empty : S) (misordered : S → S → Bool) (t : List S) where
   module _ (i : ℕ) (b : i < length t) where
-    -- the window of slot i, going down and going up, as a stretch of slots
-    pub window-end : (j : ℕ) → InWindow empty Higher misordered t i j ↔ ((suc i ≤ j) × (j < windowEnd empty misordered t i))
-    unfolding windowEnd
-    window-end j = (forth, λ h. record { inside = omega (arith, h .1); after = h .0; between = λ y a u v. law .before y u (omega (arith, h .1)) })
-      where
-        test : ℕ → Bool
-        test y = misordered (getD t y empty) (getD t i empty)
-
-        law : Least test (suc i) (suc i + (length t - suc i)) (least test (length t - suc i) (suc i))
-        law = least-law test (length t - suc i) (suc i)
-
-        forth : InWindow empty Higher misordered t i j → (suc i ≤ j) × (j < windowEnd empty misordered t i)
-        forth w = pick (decLt (least test (length t - suc i) (suc i)) j)
-          where
-            pick : Dec (least test (length t - suc i) (suc i) < j) → (suc i ≤ j) × (j < windowEnd empty misordered t i)
-            pick (yes h) =
-                absurd (true≢false (sym (law .hit (omega (arith, w .inside))) ∙ w .between (least test (length t - suc i) (suc i)) (omega (arith, w .inside)) (law .low) h))
-            pick (no h) = (w .after, omega (arith, w .inside))
-
-    pub window-end-low : suc i ≤ windowEnd empty misordered t i
-    unfolding windowEnd
-    window-end-low = omega (arith, least-law (λ y. misordered (getD t y empty) (getD t i empty)) (length t - suc i) (suc i) .low)
-
+    -- the window of slot i going up: the slots from there up to i − 1
     pub window-start : (j : ℕ) → InWindow empty Lower (swapped misordered) t i j ↔ ((windowStart empty misordered t i ≤ j) × (j < i))
     unfolding windowStart
     window-start j = (forth, λ h. record { inside = omega (arith, h .1); after = h .1; between = λ y a u v. law .after y (omega (arith, h .0)) u })
@@ -173,7 +151,8 @@ module _ {S : Type 0} (empty : S) (occupied : S → Bool) (misordered : S → S 
       → downCost empty occupied misordered t i
       ≡ cond (occupied (getD t i empty))
       (suc (minimum (downCost empty occupied misordered t) (length t) (windowEnd empty misordered t i - suc i) (suc i))) 0
-  down-cost-at i b = cost-stretch down-costs i b (suc i) (windowEnd empty misordered t i) (window-end-low empty misordered t i b) (window-end empty misordered t i b)
+  unfolding downCost
+  down-cost-at i b = cost-at empty occupied misordered (length t) t i b
 
   -- "the mirror: slots before it, back to and including the nearest rule that precedes it, or to 0"
   pub up-cost-at : (i : ℕ) → i < length t

@@ -9,6 +9,7 @@ use native.Mathlib.Decide.{ℕ-discrete, decLe, decLt}
 use lib.Dec.{eqb}
 use borrow.Author.Tests.{eqb-true, eqb-false, eq-eqb}
 use Rattle.search.specs.Search.{least, Least, least-law, afterLast, AfterLast, after-last-law}
+use Rattle.layout.specs.Order.{Higher, Lower}
 
 -- the least of top and the values of c at the k indices from i on
 unfoldable pub minimum : (ℕ → ℕ) → ℕ → ℕ → ℕ → ℕ
@@ -68,30 +69,24 @@ unfolding minimum
 minimum-shift c top zero i = refl
 minimum-shift c top (suc k) i = ap (min (c (suc i))) (minimum-shift c top k (suc i))
 
--- where the least is below top, it stands at an index, and before the lowest such index (after the highest) every value is greater
-pub record LowestAt (c : ℕ → ℕ) (i e m j : ℕ) : Type 0 where
+-- where the least is below top, it stands at an index j, and every value that comes before j, along a direction, is greater
+pub record LeastAt (toward : ℕ → ℕ → Type 0) (c : ℕ → ℕ) (i e m j : ℕ) : Type 0 where
   pub from : i ≤ j
   pub below : j < e
   pub value : c j ≡ m
-  pub before : (y : ℕ) → i ≤ y → y < j → m < c y
-
-pub record HighestAt (c : ℕ → ℕ) (i e m j : ℕ) : Type 0 where
-  pub from : i ≤ j
-  pub below : j < e
-  pub value : c j ≡ m
-  pub after : (y : ℕ) → j < y → y < e → m < c y
+  pub tie : (y : ℕ) → i ≤ y → y < e → toward y j → m < c y
 
 module _ {c : ℕ → ℕ} {top i e m : ℕ} (minimal : Minimum c top i e m) (finite : m < top) where
   -- a value in the stretch that is not the least is greater
   greater : (y : ℕ) → i ≤ y → y < e → eqb (c y) m ≡ false → m < c y
   greater y l r n = let d : c y ≢ m = eqb-false (c y) m n in omega (arith, minimal .low y l r)
 
-  lowest-of : {j : ℕ} → Least (λ y. eqb (c y) m) i e j → LowestAt c i e m j
+  lowest-of : {j : ℕ} → Least (λ y. eqb (c y) m) i e j → LeastAt Higher c i e m j
   lowest-of {j} l = record {
     from = l .low;
     below = below (decLt j e);
     value = eqb-true (c j) m (l .hit (below (decLt j e)));
-    before = λ y a b. greater y a (omega (arith, l .high)) (l .before y a b);
+    tie = λ y a r b. greater y a r (l .before y a b);
   }
     where
       below : Dec (j < e) → j < e
@@ -100,28 +95,25 @@ module _ {c : ℕ → ℕ} {top i e m : ℕ} (minimal : Minimum c top i e m) (fi
           let w = minimal .hit finite in
           absurd (true≢false (sym (eq-eqb (c (w .0)) m (w .3)) ∙ l .before (w .0) (w .1) (omega (arith, w .2))))
 
-  highest-of : {a : ℕ} → AfterLast (λ y. eqb (c y) m) e a → HighestAt c i e m (a - 1)
+  highest-of : {a : ℕ} → AfterLast (λ y. eqb (c y) m) e a → LeastAt Lower c i e m (a - 1)
   highest-of {a} l = record {
-    from = omega (arith, past);
-    below = omega (arith, past, l .high);
-    value = eqb-true (c (a - 1)) m (l .hit (a - 1) (omega (arith, past)));
-    after = λ y b r. greater y (omega (arith, past)) r (l .after y (omega arith) r);
+    from = omega (arith, past (decLt i a));
+    below = omega (arith, past (decLt i a), l .high);
+    value = eqb-true (c (a - 1)) m (l .hit (a - 1) (omega (arith, past (decLt i a))));
+    tie = λ y a r b. greater y a r (l .after y (omega arith) r);
   }
     where
-      past : i < a
-      past = pick (decLt i a)
-        where
-          pick : Dec (i < a) → i < a
-          pick (yes h) = h
-          pick (no h) =
-              let w = minimal .hit finite in
-              absurd (true≢false (sym (eq-eqb (c (w .0)) m (w .3)) ∙ l .after (w .0) (omega (arith, w .1)) (w .2)))
+      past : Dec (i < a) → i < a
+      past (yes h) = h
+      past (no h) =
+          let w = minimal .hit finite in
+          absurd (true≢false (sym (eq-eqb (c (w .0)) m (w .3)) ∙ l .after (w .0) (omega (arith, w .1)) (w .2)))
 
 module _ (c : ℕ → ℕ) (top k i : ℕ) (finite : minimum c top k i < top) where
-  pub lowest-law : LowestAt c i (i + k) (minimum c top k i) (lowest c top k i)
+  pub lowest-law : LeastAt Higher c i (i + k) (minimum c top k i) (lowest c top k i)
   unfolding lowest
   lowest-law = lowest-of (minimum-law c top k i) finite (least-law (λ j. eqb (c j) (minimum c top k i)) k i)
 
-  pub highest-law : HighestAt c i (i + k) (minimum c top k i) (highest c top k i)
+  pub highest-law : LeastAt Lower c i (i + k) (minimum c top k i) (highest c top k i)
   unfolding highest
   highest-law = highest-of (minimum-law c top k i) finite (after-last-law (λ j. eqb (c j) (minimum c top k i)) (i + k))

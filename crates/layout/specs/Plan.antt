@@ -26,11 +26,7 @@ pub record Choice : Type 0 where
   pub chain : List ℕ
 
 module _ {S : Type 0} (empty : S) (misordered : S → S → Bool) where
-  -- one past the last slot of i's window going down: its nearest dependant, or N − 1, is the last
-  unfoldable pub windowEnd : List S → ℕ → ℕ
-  windowEnd t i = min (suc (least (λ y. misordered (getD t y empty) (getD t i empty)) (length t - suc i) (suc i))) (length t)
-
-  -- the first slot of its window going up: the nearest rule that precedes it, or 0
+  -- the first slot of i's window going up: the nearest rule that precedes it, or 0
   unfoldable pub windowStart : List S → ℕ → ℕ
   windowStart t i = afterLast (λ y. misordered (getD t i empty) (getD t y empty)) i - 1
 

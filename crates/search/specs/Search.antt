@@ -160,6 +160,17 @@ unfolding least
 least-cong zero i h = refl
 least-cong (suc k) i h = rw (h i (omega arith) (omega arith), least-cong k (suc i) (λ j l r. h j (omega arith) (omega arith)))
 
+-- indices may be counted from one further on
+pub least-shift : (p : ℕ → Bool) (k i : ℕ) → least p k (suc i) ≡ suc (least (λ j. p (suc j)) k i)
+unfolding least
+least-shift p zero i = refl
+least-shift p (suc k) i = pick (decided (p (suc i))) (least-shift p k (suc i))
+  where
+    pick : (p (suc i) ≡ true) ⊎ (p (suc i) ≡ false) → least p k (suc (suc i)) ≡ suc (least (λ j. p (suc j)) k (suc i))
+        → cond (p (suc i)) (suc i) (least p k (suc (suc i))) ≡ suc (cond (p (suc i)) i (least (λ j. p (suc j)) k (suc i)))
+    pick (inl t) e = rw t
+    pick (inr t) e = rw t e
+
 -- the invariant of a search loop that counts up: the test has held nowhere below i
 abbrev pub NoneBelow : (ℕ → Bool) → ℕ → ℕ → Type 0
 NoneBelow p n i = (i ≤ n) × ((k : ℕ) → k < i → p k ≡ false)
