@@ -67,29 +67,14 @@ module _ {S : Type 0} {empty : S} {occupied : S → Bool} {toward : ℕ → ℕ 
     walk-length {s} (Walk.stop b o) = sym (law .vacant s b o)
     walk-length {s} (Walk.link b o w e f k) = ap suc (walk-length k) ∙ sym e
 
-    -- a finite cost is attained by a walk
-    pub walk-exists : (k s : ℕ) → s < length t → c s ≡ k → k ≤ top → (rest : List ℕ) × Walk empty occupied toward misplaced t c s rest
-    walk-exists zero s b e h = ([], stop b (cost-zero s b .0 e))
-    walk-exists (suc k) s b e h =
-        let o = cost-positive s k b e in
-        let r = law .next s b o (omega arith) in
-        let w = walk-exists k (r .0) (r .1 .inside) (omega (arith, r .2)) (omega arith) in
-        (r .0 ∷ w .0, link {rest = w .0} b o (r .1) (r .2) (r .3) (w .1))
-
     module _ (rank : ℕ → ℕ) (low : (i : ℕ) → i < length t → rank i < length t)
         (rises : (i j : ℕ) → i < length t → j < length t → toward i j → rank i < rank j) where
-      -- a finite cost is below the number of slots, by as many as come before
-      pub cost-below : (s : ℕ) → s < length t → c s ≤ top → c s + rank s < length t
-      cost-below s b h =
-          let w = walk-exists (c s) s b refl h in
-          omega (arith, chain-length rank low rises (walk-chain (w .1)), walk-length (w .1))
+      -- a cost that is walked is below the number of slots, by as many as come before
+      pub walk-below : {s : ℕ} {rest : List ℕ} → Walk empty occupied toward misplaced t c s rest → c s + rank s < length t
+      walk-below w = omega (arith, chain-length rank low rises (walk-chain w), walk-length w)
 
-      -- where that number stands for infinity, a cost is finite exactly when there is a chain
-      pub finite-chain : top ≡ length t → (s : ℕ) → s < length t → (c s < length t) ↔ ((rest : List ℕ) × Chain empty occupied toward misplaced t s rest)
-      finite-chain e s b = (
-        λ h. let w = walk-exists (c s) s b refl (omega arith) in (w .0, walk-chain (w .1)),
-        λ w. omega (arith, chain-cost (w .1), chain-length rank low rises (w .1)),
-      )
+      pub chain-below : {s : ℕ} {rest : List ℕ} → Chain empty occupied toward misplaced t s rest → c s < length t
+      chain-below k = omega (arith, chain-cost k, chain-length rank low rises k)
 
   -- only one chain from a slot follows the tie rule
   pub walk-unique : {misordered : S → S → Bool} → Direction empty misordered toward misplaced → {c : ℕ → ℕ} {s : ℕ} {rest other : List ℕ}
@@ -108,21 +93,31 @@ module _ {S : Type 0} {empty : S} {occupied : S → Bool} {toward : ℕ → ℕ 
       pick (no q) ih =
           absurd (⊎-elim (λ l. earlier i j e′ e (f′ j (w .inside) (w .after) l)) (λ l. earlier j i e e′ (f i (w′ .inside) (w′ .after) l)) (d .total j i q))
 
-module _ {S : Type 0} (empty : S) (occupied : S → Bool) (misplaced : S → S → Bool) (top : ℕ) (t : List S) where
-  -- the slots walked from s with k moves to make, toward higher slots
-  unfoldable pub walk : ℕ → ℕ → List ℕ
-  walk zero s = []
-  walk (suc k) s = let j = nextSlot empty occupied misplaced top t s in j ∷ walk k j
+-- the slots walked from s with k moves to make; next k s is the slot after s where k moves are left
+unfoldable pub steps : (ℕ → ℕ → ℕ) → ℕ → ℕ → List ℕ
+steps next zero s = []
+steps next (suc k) s = let j = next k s in j ∷ steps next k j
 
-  -- from a slot of finite cost it is the tie rule's chain
-  pub walk-law : (k s : ℕ) → s < length t → slotCost empty occupied misplaced top t s ≡ k → k ≤ top
-      → Walk empty occupied Higher misplaced t (slotCost empty occupied misplaced top t) s (walk k s)
-  unfolding walk
-  walk-law zero s b e h = stop b (cost-zero (costs-law empty occupied misplaced top t) s b .0 e)
-  walk-law (suc k) s b e h =
-      let o = cost-positive (costs-law empty occupied misplaced top t) s k b e in
-      let r = next-law empty occupied misplaced top t s b o (omega arith) in
-      link b o (r .0) (r .1) (r .2) (walk-law k (nextSlot empty occupied misplaced top t s) (r .0 .inside) (omega (arith, r .1)) (omega arith))
+-- it is enough that two ways to step agree on the slots walked
+pub steps-cong : {next other : ℕ → ℕ → ℕ} (P : ℕ → Type 0) → ((k s : ℕ) → P s → (next k s ≡ other k s) × P (other k s))
+    → (k s : ℕ) → P s → steps next k s ≡ steps other k s
+unfolding steps
+steps-cong P f zero s p = refl
+steps-cong {next} {other} P f (suc k) s p =
+    let q = f k s p in
+    rw (q .0) (ap (λ (r : List ℕ). other k s ∷ r) (steps-cong P f k (other k s) (q .1)))
+
+-- stepping to the lowest slot of least cost in each window, from a slot of finite cost, is the tie rule's walk
+pub steps-walk : {S : Type 0} (empty : S) (occupied : S → Bool) (misplaced : S → S → Bool) (top : ℕ) (t : List S)
+    → (k s : ℕ) → s < length t → slotCost empty occupied misplaced top t s ≡ k → k ≤ top
+    → Walk empty occupied Higher misplaced t (slotCost empty occupied misplaced top t) s (steps (λ k. nextSlot empty occupied misplaced top t) k s)
+unfolding steps
+steps-walk empty occupied misplaced top t zero s b e h = stop b (cost-zero (costs-law empty occupied misplaced top t) s b .0 e)
+steps-walk empty occupied misplaced top t (suc k) s b e h =
+    let o = cost-positive (costs-law empty occupied misplaced top t) s k b e in
+    let r = next-law empty occupied misplaced top t s b o (omega arith) in
+    let j = nextSlot empty occupied misplaced top t s in
+    link b o (r .0) (r .1) (r .2) (steps-walk empty occupied misplaced top t k j (r .0 .inside) (omega (arith, r .1)) (omega arith))
 
 module _ {S : Type 0} {empty : S} {occupied : S → Bool} {misplaced : S → S → Bool} {t : List S} {c : ℕ → ℕ} where
   -- a walk of the mirror image, slot for slot, is one of the layout itself
@@ -141,67 +136,50 @@ module _ {S : Type 0} {empty : S} {occupied : S → Bool} {misplaced : S → S �
       (window-mirrored empty t misplaced (mirror (length t) s) (mirror (length t) j) (omega arith) (omega arith) .1 (rw (at-s, at-j) w))
       (rw (at-s, at-j) e) (λ y a l u. rw at-j (f (mirror (length t) y) (omega arith) (omega arith) (omega arith))) (walk-mirrored k)
 
--- The same slots found by costs alone, as code walks: going down the first slot after s whose cost is one less, going up the last before s.
--- k is the number of moves left, c the costs, n the number of slots.
-unfoldable pub stepsDown : (ℕ → ℕ) → ℕ → ℕ → ℕ → List ℕ
-stepsDown c n zero s = []
-stepsDown c n (suc k) s = let j = least (λ y. eqb (c y) k) (n - suc s) (suc s) in j ∷ stepsDown c n k j
+-- Code steps by costs alone: with k moves left, going down to the first slot after s of cost k, going up to the last before s.
+abbrev pub firstOfCost : (ℕ → ℕ) → ℕ → ℕ → ℕ → ℕ
+firstOfCost c n k s = least (λ y. eqb (c y) k) (n - suc s) (suc s)
 
-unfoldable pub stepsUp : (ℕ → ℕ) → ℕ → ℕ → List ℕ
-stepsUp c zero s = []
-stepsUp c (suc k) s = let j = afterLast (λ y. eqb (c y) k) s - 1 in j ∷ stepsUp c k j
+abbrev pub lastOfCost : (ℕ → ℕ) → ℕ → ℕ → ℕ
+lastOfCost c k s = afterLast (λ y. eqb (c y) k) s - 1
 
 -- of the costs they see those of the slots
-pub steps-down-cong : {c d : ℕ → ℕ} (n : ℕ) → ((j : ℕ) → j < n → c j ≡ d j) → (k s : ℕ) → stepsDown c n k s ≡ stepsDown d n k s
-unfolding stepsDown
-steps-down-cong n h zero s = refl
-steps-down-cong {c} {d} n h (suc k) s =
-    let e : least (λ y. eqb (c y) k) (n - suc s) (suc s) ≡ least (λ y. eqb (d y) k) (n - suc s) (suc s)
-    = least-cong (n - suc s) (suc s) (λ j l r. ap (λ (x : ℕ). eqb x k) (h j (omega arith))) in
-    rw e (ap (λ (r : List ℕ). least (λ y. eqb (d y) k) (n - suc s) (suc s) ∷ r) (steps-down-cong n h k (least (λ y. eqb (d y) k) (n - suc s) (suc s))))
+pub first-of-cost-cong : {c d : ℕ → ℕ} (n : ℕ) → ((j : ℕ) → j < n → c j ≡ d j) → (k s : ℕ) → firstOfCost c n k s ≡ firstOfCost d n k s
+first-of-cost-cong n h k s = least-cong (n - suc s) (suc s) (λ j l r. ap (λ (x : ℕ). eqb x k) (h j (omega arith)))
 
-pub steps-up-cong : {c d : ℕ → ℕ} (k s : ℕ) → ((j : ℕ) → j < s → c j ≡ d j) → stepsUp c k s ≡ stepsUp d k s
-unfolding stepsUp
-steps-up-cong zero s h = refl
-steps-up-cong {c} {d} (suc k) s h =
-    let e : afterLast (λ y. eqb (c y) k) s ≡ afterLast (λ y. eqb (d y) k) s = after-last-cong s (λ j l. ap (λ (x : ℕ). eqb x k) (h j l)) in
-    rw e (ap (λ (r : List ℕ). (afterLast (λ y. eqb (d y) k) s - 1) ∷ r)
-    (steps-up-cong k (afterLast (λ y. eqb (d y) k) s - 1) (λ j l. h j (omega (arith, after-last-law (λ y. eqb (d y) k) s .high)))))
+pub last-of-cost-cong : {c d : ℕ → ℕ} (k s : ℕ) → ((j : ℕ) → j < s → c j ≡ d j) → lastOfCost c k s ≡ lastOfCost d k s
+last-of-cost-cong k s h = ap (λ (x : ℕ). x - 1) (after-last-cong s (λ j l. ap (λ (x : ℕ). eqb x k) (h j l)))
 
-module _ {S : Type 0} {empty : S} {occupied : S → Bool} {misplaced : S → S → Bool} {t : List S} {c : ℕ → ℕ} where
-  next-down : {s j : ℕ} {rest : List ℕ} → Walk empty occupied Higher misplaced t c s (j ∷ rest)
-      → (k : ℕ) → c s ≡ suc k → least (λ y. eqb (c y) k) (length t - suc s) (suc s) ≡ j
-  next-down {s} {j} (Walk.link b o w e f x) k q =
+-- the walk is found by stepping, where each step is
+pub walk-steps : {S : Type 0} {empty : S} {occupied : S → Bool} {toward : ℕ → ℕ → Type 0} {misplaced : S → S → Bool} {t : List S} {top : ℕ} {c : ℕ → ℕ}
+    → Costs empty occupied toward misplaced t top c → (next : ℕ → ℕ → ℕ)
+    → ((s j k : ℕ) → s < length t → InWindow empty toward misplaced t s j → c j ≡ k → ((y : ℕ) → y < length t → toward s y → toward y j → c j < c y) → next k s ≡ j)
+    → {s : ℕ} {rest : List ℕ} → Walk empty occupied toward misplaced t c s rest → (k : ℕ) → c s ≡ k → rest ≡ steps next k s
+unfolding steps
+walk-steps law next f {s} (Walk.stop b o) zero e = refl
+walk-steps law next f {s} (Walk.stop b o) (suc k) e = absurd (omega (arith, law .vacant s b o))
+walk-steps law next f {s} (Walk.link b o w q g x) zero e = absurd (omega arith)
+walk-steps law next f {s} (Walk.link {j = j} b o w q g x) (suc k) e =
+    rw (f s j k b w (omega arith) g, walk-steps law next f x k (omega arith))
+
+module _ {S : Type 0} {empty : S} {misplaced : S → S → Bool} {t : List S} {c : ℕ → ℕ} where
+  pub first-of-cost : (s j k : ℕ) → s < length t → InWindow empty Higher misplaced t s j → c j ≡ k → ((y : ℕ) → y < length t → s < y → y < j → c j < c y)
+      → firstOfCost c (length t) k s ≡ j
+  first-of-cost s j k b w e f =
       least-unique (least-law (λ y. eqb (c y) k) (length t - suc s) (suc s)) (record {
         low = w .after;
         high = omega (arith, w .inside);
         before = λ y l r. ne-eqb (c y) k (λ z. omega (arith, f y (omega (arith, w .inside)) l r));
-        hit = λ l. eq-eqb (c j) k (omega arith);
+        hit = λ l. eq-eqb (c j) k e;
       })
 
-  next-up : {s j : ℕ} {rest : List ℕ} → Walk empty occupied Lower misplaced t c s (j ∷ rest)
-      → (k : ℕ) → c s ≡ suc k → afterLast (λ y. eqb (c y) k) s ≡ suc j
-  next-up {s} {j} (Walk.link b o w e f x) k q =
+  pub last-of-cost : (s j k : ℕ) → s < length t → InWindow empty Lower misplaced t s j → c j ≡ k → ((y : ℕ) → y < length t → y < s → j < y → c j < c y)
+      → lastOfCost c k s ≡ j
+  last-of-cost s j k b w e f =
+      let past : afterLast (λ y. eqb (c y) k) s ≡ suc j =
       after-last-unique (after-last-law (λ y. eqb (c y) k) s) (record {
         high = w .after;
         after = λ y l r. ne-eqb (c y) k (λ z. omega (arith, f y (omega arith) r l));
-        hit = λ y z. let same : y ≡ j = omega arith in rw same (eq-eqb (c j) k (omega arith));
-      })
-
-  pub walk-down : {top : ℕ} → Costs empty occupied Higher misplaced t top c → {s : ℕ} {rest : List ℕ} → Walk empty occupied Higher misplaced t c s rest
-      → (k : ℕ) → c s ≡ k → rest ≡ stepsDown c (length t) k s
-  unfolding stepsDown
-  walk-down law {s} (Walk.stop b o) zero e = refl
-  walk-down law {s} (Walk.stop b o) (suc k) e = absurd (omega (arith, law .vacant s b o))
-  walk-down law {s} (Walk.link b o w q f x) zero e = absurd (omega arith)
-  walk-down law {s} (Walk.link b o w q f x) (suc k) e = rw (next-down (Walk.link b o w q f x) k e, walk-down law x k (omega arith))
-
-  pub walk-up : {top : ℕ} → Costs empty occupied Lower misplaced t top c → {s : ℕ} {rest : List ℕ} → Walk empty occupied Lower misplaced t c s rest
-      → (k : ℕ) → c s ≡ k → rest ≡ stepsUp c k s
-  unfolding stepsUp
-  walk-up law {s} (Walk.stop b o) zero e = refl
-  walk-up law {s} (Walk.stop b o) (suc k) e = absurd (omega (arith, law .vacant s b o))
-  walk-up law {s} (Walk.link b o w q f x) zero e = absurd (omega arith)
-  walk-up law {s} (Walk.link {j = j} b o w q f x) (suc k) e =
-      let at-j : afterLast (λ y. eqb (c y) k) s - 1 ≡ j = omega (arith, next-up (Walk.link b o w q f x) k e) in
-      rw (at-j, walk-up law x k (omega arith))
+        hit = λ y z. let here : y ≡ j = omega arith in rw here (eq-eqb (c j) k e);
+      }) in
+      omega arith

@@ -14,7 +14,7 @@ use Rattle.layout.specs.Order.{Higher, Lower, swapped}
 use Rattle.layout.specs.Minimum.{minimum, Minimum, minimum-law, minimum-unique}
 use Rattle.layout.specs.Cost.{InWindow, Costs, WindowOrPast, costs, costs-law, window-or-past, windowEnd, cost-at}
 use Rattle.layout.specs.Mirror.{mirror, mirror-twice, costs-mirrored, past-mirrored}
-use Rattle.layout.specs.Chain.{Chain, Walk, walk-law, walk-mirrored, walk-chain, walk-length, chain-cost, cost-below, finite-chain, stepsDown, stepsUp, walk-down, walk-up}
+use Rattle.layout.specs.Chain.{Chain, Walk, chain-cost, chain-below, walk-chain, walk-length, walk-below, walk-mirrored, steps, steps-walk, walk-steps, firstOfCost, lastOfCost, first-of-cost, last-of-cost}
 use Rattle.layout.specs.Plan.{windowStart, downCost, upCost, downChain, upChain}
 
 -- where the window is a stretch of slots, a cost is 0 or 1 + the least over it
@@ -94,7 +94,7 @@ module _ {S : Type 0} (empty : S) (occupied : S → Bool) (misordered : S → S 
   pub down-walk : (s : ℕ) → s < length t → downCost empty occupied misordered t s ≤ length t
       → Walk empty occupied Higher misordered t (downCost empty occupied misordered t) s (downChain empty occupied misordered t s)
   unfolding downCost downChain
-  down-walk s b h = walk-law empty occupied misordered (length t) t _ s b refl h
+  down-walk s b h = steps-walk empty occupied misordered (length t) t _ s b refl h
 
   pub up-walk : (s : ℕ) → s < length t → upCost empty occupied misordered t s ≤ length t
       → Walk empty occupied Lower (swapped misordered) t (upCost empty occupied misordered t) s (upChain empty occupied misordered t s)
@@ -102,7 +102,7 @@ module _ {S : Type 0} (empty : S) (occupied : S → Bool) (misordered : S → S 
   up-walk s b h =
       subst (λ (z : ℕ). Walk empty occupied Lower (swapped misordered) t (upCost empty occupied misordered t) z (upChain empty occupied misordered t s))
       (mirror-twice (length t) s b)
-      (walk-mirrored (walk-law empty occupied (swapped misordered) (length t) (reverse t) _ (mirror (length t) s) (omega (arith, length-reverse t)) refl h))
+      (walk-mirrored (steps-walk empty occupied (swapped misordered) (length t) (reverse t) _ (mirror (length t) s) (omega (arith, length-reverse t)) refl h))
 
   -- a finite cost is attained by that chain, and no chain is shorter
   pub down-attained : (s : ℕ) → s < length t → downCost empty occupied misordered t s < length t
@@ -124,27 +124,36 @@ module _ {S : Type 0} (empty : S) (occupied : S → Bool) (misordered : S → S 
   -- code finds it by costs alone
   pub down-steps : (s : ℕ) → s < length t → downCost empty occupied misordered t s < length t
       → downChain empty occupied misordered t s
-      ≡ stepsDown (downCost empty occupied misordered t) (length t) (downCost empty occupied misordered t s) s
-  down-steps s b h = walk-down down-costs (down-walk s b (omega arith)) (downCost empty occupied misordered t s) refl
+      ≡ steps (firstOfCost (downCost empty occupied misordered t) (length t)) (downCost empty occupied misordered t s) s
+  down-steps s b h =
+      walk-steps down-costs (firstOfCost (downCost empty occupied misordered t) (length t)) first-of-cost (down-walk s b (omega arith)) (downCost empty occupied misordered t s) refl
 
   pub up-steps : (s : ℕ) → s < length t → upCost empty occupied misordered t s < length t
-      → upChain empty occupied misordered t s ≡ stepsUp (upCost empty occupied misordered t) (upCost empty occupied misordered t s) s
-  up-steps s b h = walk-up up-costs (up-walk s b (omega arith)) (upCost empty occupied misordered t s) refl
+      → upChain empty occupied misordered t s ≡ steps (lastOfCost (upCost empty occupied misordered t)) (upCost empty occupied misordered t s) s
+  up-steps s b h =
+      walk-steps up-costs (lastOfCost (upCost empty occupied misordered t)) last-of-cost (up-walk s b (omega arith)) (upCost empty occupied misordered t s) refl
 
-  -- a finite cost is below N, and leaves room for the slots on the other side
+  -- a cost that is not above N is below it, and leaves room for the slots on the other side
   pub down-below : (s : ℕ) → s < length t → downCost empty occupied misordered t s ≤ length t → downCost empty occupied misordered t s + s < length t
-  down-below s b h = cost-below down-costs (λ i. i) (λ i l. l) (λ i j l r u. u) s b h
+  down-below s b h = walk-below down-costs (λ i. i) (λ i l. l) (λ i j l r u. u) (down-walk s b h)
 
   pub up-below : (s : ℕ) → s < length t → upCost empty occupied misordered t s ≤ length t → upCost empty occupied misordered t s ≤ s
-  up-below s b h = omega (arith, cost-below up-costs (mirror (length t)) (λ i l. omega arith) (λ i j l r u. omega arith) s b h)
+  up-below s b h = omega (arith, walk-below up-costs (mirror (length t)) (λ i l. omega arith) (λ i j l r u. omega arith) (up-walk s b h))
 
+  -- a cost is finite, below N, exactly where there is a chain
   pub down-finite : (s : ℕ) → s < length t
       → (downCost empty occupied misordered t s < length t) ↔ ((rest : List ℕ) × Chain empty occupied Higher misordered t s rest)
-  down-finite s b = finite-chain down-costs (λ i. i) (λ i l. l) (λ i j l r u. u) refl s b
+  down-finite s b = (
+    λ h. (downChain empty occupied misordered t s, down-attained s b h .0),
+    λ w. chain-below down-costs (λ i. i) (λ i l. l) (λ i j l r u. u) (w .1),
+  )
 
   pub up-finite : (s : ℕ) → s < length t
       → (upCost empty occupied misordered t s < length t) ↔ ((rest : List ℕ) × Chain empty occupied Lower (swapped misordered) t s rest)
-  up-finite s b = finite-chain up-costs (mirror (length t)) (λ i l. omega arith) (λ i j l r u. omega arith) refl s b
+  up-finite s b = (
+    λ h. (upChain empty occupied misordered t s, up-attained s b h .0),
+    λ w. chain-below up-costs (mirror (length t)) (λ i l. omega arith) (λ i j l r u. omega arith) (w .1),
+  )
 
   -- "0 if empty, else 1 + the least down cost of the slots after it, up to and including the nearest dependant of its rule, or up to N − 1"
   pub down-cost-at : (i : ℕ) → i < length t

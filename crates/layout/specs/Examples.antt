@@ -13,7 +13,7 @@ use Rattle.layout.specs.Order.{Laws, inOrder, in-order-law}
 use Rattle.layout.specs.Held.{free, unique-earlier}
 use Rattle.layout.specs.Minimum.{minimum, lowest, highest}
 use Rattle.layout.specs.Cost.{windowEnd, costs, nextSlot}
-use Rattle.layout.specs.Chain.{walk}
+use Rattle.layout.specs.Chain.{steps}
 use Rattle.layout.specs.Write.{Write, copy, put, moves}
 use Rattle.layout.specs.Class.{Sequence, InClass}
 use Rattle.layout.specs.ClassTest.{copyFits, lastFits, sequence, tested-sequence}
@@ -57,7 +57,7 @@ laws ps = record {
 }
 
 plan : List Pair → List ℕ → ℕ → List Write
-unfolding all any least afterLast minimum lowest highest windowEnd costs nextSlot walk moves downCost upCost downChain upChain bestDown bestUp slotDown slotUp choose afterPreceding firstDependant insertChoice listed
+unfolding all any least afterLast minimum lowest highest windowEnd costs nextSlot steps moves downCost upCost downChain upChain bestDown bestUp slotDown slotUp choose afterPreceding firstDependant insertChoice listed
 plan ps t new = writes (insertChoice 0 occupied (misordered ps) t new)
 
 -- one empty slot: one write, to 0

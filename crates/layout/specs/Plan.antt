@@ -8,9 +8,9 @@ use lib.ListN.{length, getD}
 use Rattle.search.specs.Search.{least, afterLast}
 use Rattle.layout.specs.Order.{swapped}
 use Rattle.layout.specs.Minimum.{minimum, lowest, highest}
-use Rattle.layout.specs.Cost.{slotCost}
+use Rattle.layout.specs.Cost.{slotCost, nextSlot}
 use Rattle.layout.specs.Mirror.{mirror}
-use Rattle.layout.specs.Chain.{walk}
+use Rattle.layout.specs.Chain.{steps}
 use Rattle.layout.specs.Write.{Write, put, moves}
 
 -- the slots from the one number up to, not including, the other
@@ -59,10 +59,11 @@ module _ {S : Type 0} (empty : S) (occupied : S → Bool) (misordered : S → S 
 
   -- the slots to which the rule of slot s and the rules it displaces move in turn
   unfoldable pub downChain : List S → ℕ → List ℕ
-  downChain t s = walk empty occupied misordered (length t) t (downCost t s) s
+  downChain t s = steps (λ k. nextSlot empty occupied misordered (length t) t) (downCost t s) s
 
   unfoldable pub upChain : List S → ℕ → List ℕ
-  upChain t s = map (mirror (length t)) (walk empty occupied (swapped misordered) (length t) (reverse t) (upCost t s) (mirror (length t) s))
+  upChain t s =
+      map (mirror (length t)) (steps (λ k. nextSlot empty occupied (swapped misordered) (length t) (reverse t)) (upCost t s) (mirror (length t) s))
 
   -- the least cost in a range, within the layout, and the slot where it is: the lowest going down, the highest going up
   unfoldable pub bestDown : List S → Range → ℕ
