@@ -5,13 +5,13 @@ use mathlib.Core.Bool.{Bool, true, false}
 use mathlib.Core.Logic.{_⊎_}
 use mathlib.Core.Logic._⊎_.{inl, inr}
 use mathlib.Core.List.{List}
-use Prim.Native.Nat.{ℕ, _-_, _≤_, _<_, min}
+use Prim.Native.Nat.{ℕ, _+_, _-_, _≤_, _<_, min}
 use native.Mathlib.Omega.{arith}
 use native.Mathlib.Decide.{decLe}
 use lib.ListN.{length}
 use borrow.Author.Tests.{le-leb, lt-leb}
 use Rattle.layout.specs.Order.{Higher, Lower, swapped}
-use Rattle.layout.specs.Minimum.{minimum-law, lowest-law, highest-law}
+use Rattle.layout.specs.Minimum.{minimum-law, LeastAt, lowest-law, highest-law}
 use Rattle.layout.specs.Chain.{Walk}
 use Rattle.layout.specs.Plan.{Range, Choice, downCost, upCost, downChain, upChain, bestDown, bestUp, slotDown, slotUp, choose}
 use Rattle.layout.specs.CostLaws.{down-walk, up-walk}
@@ -71,46 +71,34 @@ module _ {S : Type 0} (empty : S) (occupied : S → Bool) (misordered : S → S 
       pick (yes h) = ap (λ (c : Choice). c .cost) (choose-down below above h) ∙ omega arith
       pick (no h) = ap (λ (c : Choice). c .cost) (choose-up below above (omega arith)) ∙ omega arith
 
-  chosen-down : (r : Range) → bestDown empty occupied misordered t r < length t
-      → Chosen empty occupied Higher misordered t (downCost empty occupied misordered t) r
-      (record {
-        down = true;
-        cost = bestDown empty occupied misordered t r;
-        slot = slotDown empty occupied misordered t r;
-        chain = downChain empty occupied misordered t (slotDown empty occupied misordered t r);
-      })
+  lowest-at : (r : Range) → bestDown empty occupied misordered t r < length t
+      → LeastAt Higher (downCost empty occupied misordered t) (r .from) (r .from + (min (r .to) (length t) - r .from))
+      (bestDown empty occupied misordered t r) (slotDown empty occupied misordered t r)
   unfolding bestDown slotDown
-  chosen-down r h =
-      let l = lowest-law (downCost empty occupied misordered t) (length t) (min (r .to) (length t) - r .from) (r .from) h in
-      record {
-        inside = omega (arith, l .below, l .from);
-        from = l .from;
-        to = omega (arith, l .below, l .from);
-        cost = l .value;
-        least = best-down r;
-        tie = λ j a b c d. l .tie j a (omega arith) d;
-        walk = down-walk empty occupied misordered t _ (omega (arith, l .below, l .from)) (omega (arith, l .value));
-      }
+  lowest-at r h = lowest-law (downCost empty occupied misordered t) (length t) (min (r .to) (length t) - r .from) (r .from) h
 
-  chosen-up : (r : Range) → bestUp empty occupied misordered t r < length t
-      → Chosen empty occupied Lower (swapped misordered) t (upCost empty occupied misordered t) r
-      (record {
-        down = false;
-        cost = bestUp empty occupied misordered t r;
-        slot = slotUp empty occupied misordered t r;
-        chain = upChain empty occupied misordered t (slotUp empty occupied misordered t r);
-      })
+  highest-at : (r : Range) → bestUp empty occupied misordered t r < length t
+      → LeastAt Lower (upCost empty occupied misordered t) (r .from) (r .from + (min (r .to) (length t) - r .from))
+      (bestUp empty occupied misordered t r) (slotUp empty occupied misordered t r)
   unfolding bestUp slotUp
-  chosen-up r h =
-      let l = highest-law (upCost empty occupied misordered t) (length t) (min (r .to) (length t) - r .from) (r .from) h in
+  highest-at r h = highest-law (upCost empty occupied misordered t) (length t) (min (r .to) (length t) - r .from) (r .from) h
+
+  -- in either direction: a slot of least cost by the tie rule, and its walk
+  chosen-along : {toward : ℕ → ℕ → Type 0} {misplaced : S → S → Bool} {c : ℕ → ℕ} (r : Range) (choice : Choice)
+      → LeastAt toward c (r .from) (r .from + (min (r .to) (length t) - r .from)) (choice .cost) (choice .slot)
+      → ((j : ℕ) → r .from ≤ j → j < r .to → j < length t → choice .cost ≤ c j)
+      → (choice .slot < length t → Walk empty occupied toward misplaced t c (choice .slot) (choice .chain))
+      → Chosen empty occupied toward misplaced t c r choice
+  chosen-along r choice l least walk =
+      let inside : choice .slot < length t = omega (arith, l .below, l .from) in
       record {
-        inside = omega (arith, l .below, l .from);
+        inside = inside;
         from = l .from;
         to = omega (arith, l .below, l .from);
         cost = l .value;
-        least = best-up r;
+        least = least;
         tie = λ j a b c d. l .tie j a (omega arith) d;
-        walk = up-walk empty occupied misordered t _ (omega (arith, l .below, l .from)) (omega (arith, l .value));
+        walk = walk inside;
       }
 
   -- a choice of finite cost, down or up
@@ -122,5 +110,9 @@ module _ {S : Type 0} (empty : S) (occupied : S → Bool) (misordered : S → S 
       pick : Dec (bestDown empty occupied misordered t below ≤ bestUp empty occupied misordered t above)
           → Chosen empty occupied Higher misordered t (downCost empty occupied misordered t) below (choose empty occupied misordered t below above)
           ⊎ Chosen empty occupied Lower (swapped misordered) t (upCost empty occupied misordered t) above (choose empty occupied misordered t below above)
-      pick (yes l) = inl (rw (choose-down below above l) (chosen-down below (omega (arith, choose-least below above))))
-      pick (no l) = inr (rw (choose-up below above (omega arith)) (chosen-up above (omega (arith, choose-least below above))))
+      pick (yes l) =
+          let h′ : bestDown empty occupied misordered t below < length t = omega (arith, choose-least below above) in
+          inl (rw (choose-down below above l) (chosen-along below _ (lowest-at below h′) (best-down below) (λ b. down-walk empty occupied misordered t _ b (omega (arith, lowest-at below h′ .value)))))
+      pick (no l) =
+          let h′ : bestUp empty occupied misordered t above < length t = omega (arith, choose-least below above) in
+          inr (rw (choose-up below above (omega arith)) (chosen-along above _ (highest-at above h′) (best-up above) (λ b. up-walk empty occupied misordered t _ b (omega (arith, highest-at above h′ .value)))))
