@@ -13,6 +13,7 @@ use lib.ListN.{length, getD, set, length-set}
 use lib.Seq.{getD-set-same, getD-set-other}
 use borrow.Author.Tests.{not-true, eqb-false, ne-eqb}
 use Rattle.search.specs.Search.{any, any-yes, any-some, and-both, and-left, and-right, decided}
+use Rattle.layout.specs.Written.{pairs-written}
 use Rattle.layout.specs.Order.{Laws}
 
 module _ {S : Type 0} (empty : S) where
@@ -111,50 +112,35 @@ module _ {S : Type 0} {empty : S} {occupied : S → Bool} {same misordered : S �
 
   -- emptying a slot keeps each id where it is
   pub unique-emptied : (t : List S) (j : ℕ) → j < length t → Unique empty same t → Unique empty same (emptied empty t j)
-  unique-emptied t j h u i k a b d = pick (ℕ-discrete i j) (ℕ-discrete k j)
-    where
-      n : length (set t j empty) ≡ length t
-      n = length-set t j empty
-
-      gone : getD (set t j empty) j empty ≡ empty
-      gone = getD-set-same t j empty empty h
-
-      pick : Dec (i ≡ j) → Dec (k ≡ j) → same (getD (set t j empty) i empty) (getD (set t j empty) k empty) ≡ false
-      pick p (yes q) = rw (q, gone) (same-vacant (getD (set t j empty) i empty) empty (laws .vacant))
-      pick (yes p) (no q) = rw (p, gone) (same-turned _ empty (same-vacant _ empty (laws .vacant)))
-      pick (no p) (no q) = rw (getD-set-other t j i empty empty p, getD-set-other t j k empty empty q) (u i k (omega (arith, n)) (omega (arith, n)) d)
+  unique-emptied t j h u i k a b d =
+      let n : length (set t j empty) ≡ length t = length-set t j empty in
+      pairs-written empty t j empty h (λ x y a b. same a b ≡ false)
+      (λ x l q. same-vacant (getD t x empty) empty (laws .vacant))
+      (λ x l q. same-turned (getD t x empty) empty (same-vacant (getD t x empty) empty (laws .vacant)))
+      (λ x y l r p q f. u x y l r f) i k (omega arith) (omega arith) d
 
   -- a write keeps a layout coherent if its entry is equal to each entry of its id
-  pub coherent-written : (t : List S) (j : ℕ) (e : S) → Coherent empty same t
+  pub coherent-written : (t : List S) (j : ℕ) (e : S) → j < length t → Coherent empty same t
       → ((k : ℕ) → k < length t → same (getD t k empty) e ≡ true → getD t k empty ≡ e) → Coherent empty same (set t j e)
-  coherent-written t j e c f i k a b s = pick (ℕ-discrete i j) (ℕ-discrete k j)
+  coherent-written t j e h c f i k a b = pick (ℕ-discrete i k)
     where
       n : length (set t j e) ≡ length t
       n = length-set t j e
 
-      pick : Dec (i ≡ j) → Dec (k ≡ j) → getD (set t j e) i empty ≡ getD (set t j e) k empty
-      pick (yes p) (yes q) = rw (p, q)
-      pick (yes p) (no q) =
-          let w : getD (set t j e) i empty ≡ e = rw p (getD-set-same t j e empty (omega (arith, n))) in
-          let v : getD (set t j e) k empty ≡ getD t k empty = getD-set-other t j k e empty q in
-          w ∙ (sym (f k (omega (arith, n)) (laws .same-symmetric _ _ (rw (w, v) at s))) ∙ sym v)
-      pick (no p) (yes q) =
-          let w : getD (set t j e) k empty ≡ e = rw q (getD-set-same t j e empty (omega (arith, n))) in
-          let v : getD (set t j e) i empty ≡ getD t i empty = getD-set-other t j i e empty p in
-          v ∙ (f i (omega (arith, n)) (rw (w, v) at s) ∙ sym w)
-      pick (no p) (no q) =
-          let w : getD (set t j e) i empty ≡ getD t i empty = getD-set-other t j i e empty p in
-          let v : getD (set t j e) k empty ≡ getD t k empty = getD-set-other t j k e empty q in
-          w ∙ (c i k (omega (arith, n)) (omega (arith, n)) (rw (w, v) at s) ∙ sym v)
+      pick : Dec (i ≡ k) → same (getD (set t j e) i empty) (getD (set t j e) k empty) ≡ true → getD (set t j e) i empty ≡ getD (set t j e) k empty
+      pick (yes d) s = rw d
+      pick (no d) s =
+          pairs-written empty t j e h (λ x y a b. same a b ≡ true → a ≡ b) (λ x l q. f x l) (λ x l q s. sym (f x l (laws .same-symmetric e (getD t x empty) s)))
+          (λ x y l r p q g. c x y l r) i k (omega (arith, n)) (omega (arith, n)) d s
 
-  pub coherent-copied : (t : List S) (f j : ℕ) → f < length t → Coherent empty same t → Coherent empty same (copied empty t f j)
-  coherent-copied t f j h c = coherent-written t j (getD t f empty) c (λ k b s. c k f b h s)
+  pub coherent-copied : (t : List S) (f j : ℕ) → f < length t → j < length t → Coherent empty same t → Coherent empty same (copied empty t f j)
+  coherent-copied t f j b h c = coherent-written t j (getD t f empty) h c (λ k l s. c k f l b s)
 
-  pub coherent-emptied : (t : List S) (j : ℕ) → Coherent empty same t → Coherent empty same (emptied empty t j)
-  coherent-emptied t j c = coherent-written t j empty c (λ k b s. absurd (true≢false (sym s ∙ same-vacant _ _ (laws .vacant))))
+  pub coherent-emptied : (t : List S) (j : ℕ) → j < length t → Coherent empty same t → Coherent empty same (emptied empty t j)
+  coherent-emptied t j h c = coherent-written t j empty h c (λ k b s. absurd (true≢false (sym s ∙ same-vacant _ _ (laws .vacant))))
 
-  pub coherent-filled : (t : List S) (j : ℕ) (e : S) → NewId empty same t e → Coherent empty same t → Coherent empty same (filled empty t j e)
-  coherent-filled t j e new c = coherent-written t j e c (λ k b s. absurd (true≢false (sym s ∙ new k b)))
+  pub coherent-filled : (t : List S) (j : ℕ) (e : S) → j < length t → NewId empty same t e → Coherent empty same t → Coherent empty same (filled empty t j e)
+  coherent-filled t j e h new c = coherent-written t j e h c (λ k b s. absurd (true≢false (sym s ∙ new k b)))
 
   -- of each entry held, a slot that may be written is not the only one
   pub held-outside : (t : List S) (j : ℕ) (x : S) → Coherent empty same t → j < length t → Free empty occupied same t j → Held empty occupied t x

@@ -1,5 +1,6 @@
 -- The mathematics of moving rules, over any entries with tests for "occupied", "same id" and "out of order", and any number of slots.
 -- Definitions: Order, Held, Replies, Cost, Chain, Write, Class, Plan. The theorems on an insert's plan are in Insert.
+pub mod Written
 pub mod Order
 pub mod Held
 pub mod Replies

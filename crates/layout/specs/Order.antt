@@ -2,16 +2,17 @@
 -- A layout is the list of its slots' entries, an empty slot's included; reading past its end gives the empty entry.
 use mathlib.Core.Path.{_≡_, refl, sym, ap}
 use mathlib.Core.Bool.{Bool, true, false, not, _&&_, and-true, true≢false}
-use mathlib.Core.Logic.{_↔_, _⊎_, _≢_}
+use mathlib.Core.Logic.{_↔_, _⊎_, ⊎-elim, _≢_}
 use mathlib.Core.Logic._⊎_.{inl, inr}
 use mathlib.Core.List.{List}
 use Prim.Native.Nat.{ℕ, _<_}
 use native.Mathlib.Omega.{arith}
-use native.Mathlib.Decide.{ℕ-discrete, decLt}
+use native.Mathlib.Decide.{decLt}
 use lib.ListN.{length, getD, set, length-set}
 use lib.Seq.{getD-set-same, getD-set-other, set-out}
 use borrow.Author.Tests.{not-true}
 use Rattle.search.specs.Search.{all, all-law, decided}
+use Rattle.layout.specs.Written.{pairs-written}
 
 -- misordered a b: a standing in a lower slot than b is out of order, that is, b precedes a or the two tie.
 -- same a b: both are occupied and have one id.
@@ -82,36 +83,32 @@ module _ {S : Type 0} {empty : S} {occupied : S → Bool} {same misordered : S �
   -- after a write the layout is in order exactly when the others were and the entry written stands right against each of them
   pub in-order-written : (t : List S) (j : ℕ) (e : S) → j < length t
       → InOrder empty misordered (set t j e) ↔ (OthersInOrder empty misordered t j × StandsRight empty misordered same t j e)
-  in-order-written t j e h = (λ o. (λ x y l r p q. others o x y l r p q, λ k b s. (λ l. left o k b l, λ l. right o k b l)), λ w. back (w .0) (w .1))
+  in-order-written t j e h = (forth, λ w. back (w .0) (w .1))
     where
       n : length (set t j e) ≡ length t
       n = length-set t j e
 
-      others : InOrder empty misordered (set t j e) → OthersInOrder empty misordered t j
-      others o x y l r p q = rw (getD-set-other t j x e empty p, getD-set-other t j y e empty q) at (o x y l (omega (arith, n)))
+      other : (x : ℕ) → x ≢ j → getD (set t j e) x empty ≡ getD t x empty
+      other x d = getD-set-other t j x e empty d
 
-      left : InOrder empty misordered (set t j e) → (k : ℕ) → k < length t → k < j → misordered (getD t k empty) e ≡ false
-      left o k b l = rw (getD-set-other t j k e empty (omega arith), getD-set-same t j e empty h) at (o k j l (omega (arith, n)))
+      here : getD (set t j e) j empty ≡ e
+      here = getD-set-same t j e empty h
 
-      right : InOrder empty misordered (set t j e) → (k : ℕ) → k < length t → j < k → misordered e (getD t k empty) ≡ false
-      right o k b l = rw (getD-set-other t j k e empty (omega arith), getD-set-same t j e empty h) at (o j k l (omega (arith, n)))
+      forth : InOrder empty misordered (set t j e) → OthersInOrder empty misordered t j × StandsRight empty misordered same t j e
+      forth o = (
+        λ x y l r p q. rw (other x p, other y q) at (o x y l (omega (arith, n))),
+        λ k b s. (λ l. rw (other k (omega arith), here) at (o k j l (omega (arith, n))), λ l. rw (other k (omega arith), here) at (o j k l (omega (arith, n)))),
+      )
 
       back : OthersInOrder empty misordered t j → StandsRight empty misordered same t j e → InOrder empty misordered (set t j e)
-      back o s x y l r = pick (ℕ-discrete x j) (ℕ-discrete y j)
+      back o s x y l r =
+          pairs-written empty t j e h (λ x y a b. x < y → misordered a b ≡ false) (λ k b d. against k b .0) (λ k b d. against k b .1)
+          (λ x y a b p q d l. o x y l b p q) x y (omega (arith, n)) (omega (arith, n)) (omega arith) l
         where
-          pick : Dec (x ≡ j) → Dec (y ≡ j) → misordered (getD (set t j e) x empty) (getD (set t j e) y empty) ≡ false
-          pick (yes p) (yes q) = absurd (omega arith)
-          pick (yes p) (no q) = rw (p, getD-set-same t j e empty h, getD-set-other t j y e empty q) (compare (decided (same (getD t y empty) e)))
-            where
-              compare : (same (getD t y empty) e ≡ true) ⊎ (same (getD t y empty) e ≡ false) → misordered e (getD t y empty) ≡ false
-              compare (inl a) = copies-not-compared _ _ a .1
-              compare (inr a) = s y (omega (arith, n)) a .1 (omega arith)
-          pick (no p) (yes q) = rw (q, getD-set-same t j e empty h, getD-set-other t j x e empty p) (compare (decided (same (getD t x empty) e)))
-            where
-              compare : (same (getD t x empty) e ≡ true) ⊎ (same (getD t x empty) e ≡ false) → misordered (getD t x empty) e ≡ false
-              compare (inl a) = copies-not-compared _ _ a .0
-              compare (inr a) = s x (omega (arith, n)) a .0 (omega arith)
-          pick (no p) (no q) = rw (getD-set-other t j x e empty p, getD-set-other t j y e empty q) (o x y l (omega (arith, n)) p q)
+          -- entries of one id are in order anyway
+          against : (k : ℕ) → k < length t → (k < j → misordered (getD t k empty) e ≡ false) × (j < k → misordered e (getD t k empty) ≡ false)
+          against k b = ⊎-elim
+              (λ a. let c = copies-not-compared (getD t k empty) e a in (λ l. c .0, λ l. c .1)) (λ a. s k b a) (decided (same (getD t k empty) e))
 
   -- order is hereditary: emptying any slot keeps it
   pub in-order-emptied : (t : List S) (j : ℕ) → InOrder empty misordered t → InOrder empty misordered (set t j empty)
