@@ -1,16 +1,14 @@
 -- The cost of a slot: how many moves empty it, each entry moving within its window. Document 01, "How a plan is found".
 -- One definition serves both directions: up costs are those of the reversed layout with the relation swapped.
-use mathlib.Core.Path.{_≡_, refl, sym, ap, _∙_, subst}
+use mathlib.Core.Path.{_≡_, sym, ap, _∙_}
 use mathlib.Core.Bool.{Bool, true, false, cond, true≢false}
 use mathlib.Core.Logic.{_↔_, _⊎_, ⊎-elim}
 use mathlib.Core.Logic._⊎_.{inl, inr}
 use mathlib.Core.List.{List, [], _∷_}
 use Prim.Native.Nat.{ℕ, zero, suc, _+_, _-_, _≤_, _<_, min}
-use native.Mathlib.Nat.{zero-add}
 use native.Mathlib.Omega.{arith}
 use native.Mathlib.Decide.{decLt}
-use lib.ListN.{length, getD, drop, length-drop}
-use lib.Seq.{getD-drop}
+use lib.ListN.{length, getD}
 use Rattle.search.specs.Search.{least, Least, least-law, least-shift, decided}
 use Rattle.layout.specs.Order.{Higher, swapped}
 use Rattle.layout.specs.Minimum.{minimum, Minimum, minimum-law, minimum-shift, lowest, lowest-law}

@@ -1,6 +1,6 @@
 -- Order of a layout, as document 01 words it, and what one write does to it.
 -- A layout is the list of its slots' entries, an empty slot's included; reading past its end gives the empty entry.
-use mathlib.Core.Path.{_≡_, refl, sym, ap}
+use mathlib.Core.Path.{_≡_, refl, sym, ap, subst}
 use mathlib.Core.Bool.{Bool, true, false, not, _&&_, and-true, true≢false}
 use mathlib.Core.Logic.{_↔_, _⊎_, ⊎-elim, _≢_}
 use mathlib.Core.Logic._⊎_.{inl, inr}
@@ -167,6 +167,33 @@ up empty misordered = record {
   along = λ t o x y a b l. o y x l a;
   ordered = λ t o x y l b. o y x b (omega arith) l;
 }
+
+module _ {S : Type 0} {empty : S} {misordered misplaced : S → S → Bool} {toward : ℕ → ℕ → Type 0} (direction : Direction empty misordered toward misplaced) where
+  pub asymmetric : (x y : ℕ) → toward x y → toward y x → ⊥
+  asymmetric x y l r = direction .irreflexive x (direction .transitive x y x l r)
+
+  pub distinct : (x y : ℕ) → toward x y → x ≢ y
+  distinct x y l d = direction .irreflexive y (subst (λ (z : ℕ). toward z y) d l)
+
+  -- a write keeps order if its entry stands right against what comes before it and after it
+  pub in-order-put : (t : List S) (j : ℕ) (e : S) → j < length t → InOrder empty misordered t
+      → ((k : ℕ) → k < length t → toward k j → misplaced (getD t k empty) e ≡ false)
+      → ((k : ℕ) → k < length t → toward j k → misplaced e (getD t k empty) ≡ false) → InOrder empty misordered (set t j e)
+  in-order-put t j e h o before after =
+      let n : length (set t j e) ≡ length t = length-set t j e in
+      direction .ordered (set t j e) (λ x y a b l.
+      pairs-written empty t j e h (λ x y a b. toward x y → misplaced a b ≡ false) (λ k b d. before k b) (λ k b d. after k b)
+      (λ x y a b p q d l. direction .along t o x y a b l) x y (omega arith) (omega arith) (distinct x y l) l)
+
+  -- and only then
+  pub in-order-shows : (t : List S) (j : ℕ) (e : S) → j < length t → InOrder empty misordered (set t j e) → (k : ℕ) → k < length t
+      → (toward k j → misplaced (getD t k empty) e ≡ false) × (toward j k → misplaced e (getD t k empty) ≡ false)
+  in-order-shows t j e h o k b =
+      let n : length (set t j e) ≡ length t = length-set t j e in
+      let here : getD (set t j e) j empty ≡ e = getD-set-same t j e empty h in (
+        λ l. rw (getD-set-other t j k e empty (distinct k j l), here) at (direction .along (set t j e) o k j (omega arith) (omega arith) l),
+        λ l. rw (getD-set-other t j k e empty (λ d. distinct j k l (sym d)), here) at (direction .along (set t j e) o j k (omega arith) (omega arith) l),
+      )
 
 -- the laws are the same in both directions
 pub laws-swapped : {S : Type 0} {empty : S} {occupied : S → Bool} {same misordered : S → S → Bool}

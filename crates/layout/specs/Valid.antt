@@ -1,6 +1,6 @@
 -- A chain's writes, far end first, are valid at every prefix: each fits, and leaves the layout in order with each old entry held.
 -- Costs play no part here; any chain will do.
-use mathlib.Core.Path.{_≡_, refl, sym, ap, _∙_, subst, subst₂}
+use mathlib.Core.Path.{_≡_, refl, sym, ap, _∙_, subst}
 use mathlib.Core.Bool.{Bool, true, false, true≢false}
 use mathlib.Core.Logic.{_↔_, _⊎_, ⊎-elim, _≢_}
 use mathlib.Core.Logic._⊎_.{inl, inr}
@@ -10,7 +10,8 @@ use native.Mathlib.Omega.{arith}
 use native.Mathlib.Decide.{ℕ-discrete, decLe}
 use lib.ListN.{length, getD, take, length-set, length-append}
 use lib.Seq.{getD-set-same, getD-set-other, take-append-le, take-all, take-nil, append-snoc}
-use Rattle.layout.specs.Order.{Laws, InOrder, Direction}
+use Rattle.layout.specs.Written.{pairs-written}
+use Rattle.layout.specs.Order.{Laws, InOrder, Direction, asymmetric, distinct, in-order-put}
 use Rattle.layout.specs.Held.{Held, Unique, Coherent, NewId, OnePair, Free, copied, filled, same-turned, unique-coherent, held-filled}
 use Rattle.layout.specs.Cost.{InWindow}
 use Rattle.layout.specs.Chain.{Chain, chain-inside}
@@ -61,91 +62,75 @@ module _
 
   -- one copy more: from s to j, where the chain from j has been carried out
   module _ (s j : ℕ) (u : List S) (b : s < length first) (full : occupied (getD first s empty) ≡ true) (w : InWindow empty toward misplaced first s j) (m : Moved j u) where
-    asymmetric : (x y : ℕ) → toward x y → toward y x → ⊥
-    asymmetric x y l r = direction .irreflexive x (direction .transitive x y x l r)
+    onward : s ≢ j
+    onward = distinct direction s j (w .after)
 
-    distinct : (x y : ℕ) → toward x y → x ≢ y
-    distinct x y l d = direction .irreflexive y (subst (λ (z : ℕ). toward z y) d l)
+    inside : j < length u
+    inside = omega (arith, m .slots, w .inside)
 
     source : getD u s empty ≡ getD first s empty
-    source = m .before s b (asymmetric s j (w .after))
+    source = m .before s b (asymmetric direction s j (w .after))
 
     abbrev v : List S
     v = copied empty u s j
 
     there : getD v j empty ≡ getD first s empty
-    there = getD-set-same u j (getD u s empty) empty (omega (arith, m .slots, w .inside)) ∙ source
+    there = getD-set-same u j (getD u s empty) empty inside ∙ source
 
     elsewhere : (y : ℕ) → y ≢ j → getD v y empty ≡ getD u y empty
     elsewhere y d = getD-set-other u j y (getD u s empty) empty d
 
-    at-s : getD v s empty ≡ getD first s empty
-    at-s = elsewhere s (distinct s j (w .after)) ∙ source
-
     itself : same (getD first s empty) (getD first s empty) ≡ true
     itself = laws .same-self (getD first s empty) full
 
-    -- u is in order along the direction
-    along : (x y : ℕ) → x < length first → y < length first → toward x y → misplaced (getD u x empty) (getD u y empty) ≡ false
-    along x y a g l = direction .along u (m .order) x y (omega (arith, m .slots)) (omega (arith, m .slots)) l
-
-    -- the copy stands right against each slot that comes before it, and after it
-    arrives : (x : ℕ) → x < length first → toward x j → Dec (x ≡ s) → misplaced (getD u x empty) (getD first s empty) ≡ false
-    arrives x a l (yes d) = rw (d, source) (laws .misordered-same (getD first s empty) (getD first s empty) itself)
-    arrives x a l (no d) = ⊎-elim
-        (λ r. rw source at (along x s a b r))
-        (λ r. rw (m .before x a (asymmetric x j l)) (w .between x a r l)) (direction .total x s d)
-
-    departs : (y : ℕ) → y < length first → toward j y → misplaced (getD first s empty) (getD u y empty) ≡ false
-    departs y g l = rw source at (along s y b g (direction .transitive s j y (w .after) l))
-
+    -- the copy stands right: before s and past j as the entry of s does, between the two by the window
     in-order : InOrder empty misordered v
-    in-order = direction .ordered v (λ x y a g l. pick x y (omega (arith, n)) (omega (arith, n)) l (ℕ-discrete x j) (ℕ-discrete y j))
+    in-order =
+        in-order-put direction u j (getD u s empty) inside (m .order) (λ x a l. before x a l (ℕ-discrete x s))
+        (λ y a l. direction .along u (m .order) s y (omega (arith, m .slots)) a (direction .transitive s j y (w .after) l))
       where
-        n : length v ≡ length first
-        n = length-set u j (getD u s empty) ∙ m .slots
-
-        pick : (x y : ℕ) → x < length first → y < length first → toward x y → Dec (x ≡ j) → Dec (y ≡ j) → misplaced (getD v x empty) (getD v y empty) ≡ false
-        pick x y a g l (yes d) (yes e) = absurd (distinct x y l (d ∙ sym e))
-        pick x y a g l (yes d) (no e) = rw (d, there, elsewhere y e) (departs y g (subst (λ (z : ℕ). toward z y) d l))
-        pick x y a g l (no d) (yes e) = rw (e, there, elsewhere x d) (arrives x a (subst (toward x) e l) (ℕ-discrete x s))
-        pick x y a g l (no d) (no e) = rw (elsewhere x d, elsewhere y e) (along x y a g l)
+        before : (x : ℕ) → x < length u → toward x j → Dec (x ≡ s) → misplaced (getD u x empty) (getD u s empty) ≡ false
+        before x a l (yes d) = rw (d, source) (laws .misordered-same (getD first s empty) (getD first s empty) itself)
+        before x a l (no d) = ⊎-elim (λ r. direction .along u (m .order) x s a (omega (arith, m .slots)) r) (λ r. between r) (direction .total x s d)
+          where
+            between : toward s x → misplaced (getD u x empty) (getD u s empty) ≡ false
+            between r =
+                let h : x < length first = omega (arith, m .slots) in
+                rw (m .before x h (asymmetric direction x j l), source) (w .between x h r l)
 
     moved-link : Moved s v
     moved-link = record {
       slots = length-set u j (getD u s empty) ∙ m .slots;
       order = in-order;
-      free = inr (j, omega (arith, w .inside, length-set u j (getD u s empty), m .slots), λ d. distinct s j (w .after) (sym d), rw (there, at-s) itself);
+      free = inr (j, omega (arith, inside, length-set u j (getD u s empty)), λ d. onward (sym d), rw (there, elsewhere s onward, source) itself);
       before = λ y g l. elsewhere y (λ d. l (subst (toward s) (sym d) (w .after))) ∙ m .before y g (λ r. l (direction .transitive s j y (w .after) r));
       origin = λ y g. from y g (ℕ-discrete y j);
-      apart = λ i k a g d l r. alone i k a g d l r (ℕ-discrete i j) (ℕ-discrete k j);
-      kept = λ i a o. held i a o (m .kept i a o);
+      apart = λ i k a g d.
+          pairs-written empty u j (getD u s empty) inside (λ i k a b. i ≢ s → k ≢ s → same a b ≡ false)
+          (λ k g q l r. same-turned laws (getD u s empty) (getD u k empty) (copy-alone k (omega (arith, m .slots)) l q))
+          (λ k g q l r. copy-alone k (omega (arith, m .slots)) r q)
+          (λ i k a g p q d l r. m .apart i k (omega (arith, m .slots)) (omega (arith, m .slots)) d p q) i k (omega (arith, m .slots)) (omega (arith, m .slots)) d;
+      kept = λ i a o. held i (m .kept i a o);
     }
       where
         from : (y : ℕ) → y < length first → Dec (y ≡ j) → (z : ℕ) × (z < length first) × (getD v y empty ≡ getD first z empty) × ((toward y s → ⊥) → toward z s → ⊥)
         from y g (yes d) = (s, b, rw d there, λ l. direction .irreflexive s)
         from y g (no d) = ⊎-elim
-            (λ l. (y, g, elsewhere y d ∙ m .before y g (asymmetric y j l), λ r. r))
-            (λ l. let q = m .origin y g in (q .0, q .1, elsewhere y d ∙ q .2, λ r x. q .3 (λ z. asymmetric y j z l) (direction .transitive (q .0) s j x (w .after))))
+            (λ l. (y, g, elsewhere y d ∙ m .before y g (asymmetric direction y j l), λ r. r))
+            (λ l. let q = m .origin y g in (q .0, q .1, elsewhere y d ∙ q .2, λ r x. q .3 (asymmetric direction j y l) (direction .transitive (q .0) s j x (w .after))))
             (direction .total y j d)
 
-        -- the copy at j is of no other id than s's, which stands nowhere else but at s
-        copy-alone : (k : ℕ) → k < length first → k ≢ s → k ≢ j → same (getD first s empty) (getD u k empty) ≡ false
-        copy-alone k g l r = rw source at (m .apart s k b g (λ e. l (sym e)) (distinct s j (w .after)) r)
+        -- the id of s stands at s and j only
+        copy-alone : (k : ℕ) → k < length first → k ≢ s → k ≢ j → same (getD u s empty) (getD u k empty) ≡ false
+        copy-alone k g l r = m .apart s k b g (λ e. l (sym e)) onward r
 
-        alone : (i k : ℕ) → i < length first → k < length first → i ≢ k → i ≢ s → k ≢ s → Dec (i ≡ j) → Dec (k ≡ j) → same (getD v i empty) (getD v k empty) ≡ false
-        alone i k a g d l r (yes p) (yes q) = absurd (d (p ∙ sym q))
-        alone i k a g d l r (yes p) (no q) = rw (p, there, elsewhere k q) (copy-alone k g r q)
-        alone i k a g d l r (no p) (yes q) = rw (q, there, elsewhere i p) (same-turned laws _ _ (copy-alone i a l p))
-        alone i k a g d l r (no p) (no q) = rw (elsewhere i p, elsewhere k q) (m .apart i k a g d p q)
-
-        held : (i : ℕ) → i < length first → occupied (getD first i empty) ≡ true → (k : ℕ) × (k < length first) × (k ≢ j) × (getD u k empty ≡ getD first i empty)
+        held : (i : ℕ) → (k : ℕ) × (k < length first) × (k ≢ j) × (getD u k empty ≡ getD first i empty)
             → (k : ℕ) × (k < length first) × (k ≢ s) × (getD v k empty ≡ getD first i empty)
-        held i a o (k, g, d, e) = pick (ℕ-discrete k s)
+        held i (k, g, d, e) = pick (ℕ-discrete k s)
           where
             pick : Dec (k ≡ s) → (k : ℕ) × (k < length first) × (k ≢ s) × (getD v k empty ≡ getD first i empty)
             pick (no l) = (k, g, l, elsewhere k d ∙ e)
-            pick (yes l) = (j, w .inside, λ q. distinct s j (w .after) (sym q), there ∙ (sym source ∙ (ap (λ (z : ℕ). getD u z empty) (sym l) ∙ e)))
+            pick (yes l) = (j, w .inside, λ q. onward (sym q), there ∙ (sym source ∙ (ap (λ (z : ℕ). getD u z empty) (sym l) ∙ e)))
 
   module _ (s : ℕ) (b : s < length first) (u : List S) (m : Moved s u) where
     -- the slot that shares the id of s is one only
@@ -227,47 +212,29 @@ module _
     -- the put-in after the chain's copies
     placed : (u : List S) → s < length first → Moved s u → Placed empty occupied same misordered first new s (filled empty u s new)
     placed u b m = record {
-      slots = n;
-      order = direction .ordered (filled empty u s new) (λ x y a g l. right x y (omega (arith, n)) (omega (arith, n)) l (ℕ-discrete x s) (ℕ-discrete y s));
-      unique = λ i k a g d. alone i k (omega (arith, n)) (omega (arith, n)) d (ℕ-discrete i s) (ℕ-discrete k s);
+      slots = length-set u s new ∙ n;
+      order =
+          in-order-put direction u s new (omega arith) (m .order)
+          (λ x a l. let h : x < length first = omega arith in rw (m .before x h (asymmetric direction x s l)) (earlier x h l))
+          (λ y a l. let z = m .origin y (omega arith) in rw (z .2) (later (z .0) (z .1) (z .3 (asymmetric direction s y l))));
+      unique = λ i k a g d.
+          pairs-written empty u s new (omega arith) (λ i k a b. same a b ≡ false) (λ k g q. fresh-u k g)
+          (λ k g q. same-turned laws (getD u k empty) new (fresh-u k g)) (λ i k a g p q d. m .apart i k (omega arith) (omega arith) d p q)
+          i k (omega (arith, length-set u s new)) (omega (arith, length-set u s new)) d;
       held = λ x.
-          let f = held-filled laws u s new (between .coherent) (omega (arith, m .slots)) (m .free) full x in
+          let f = held-filled laws u s new (between .coherent) (omega arith) (m .free) full x in
           (λ h. ⊎-elim (λ a. inl (between .held x .0 a)) (λ a. inr a) (f .0 h), λ h. f .1 (⊎-elim (λ a. inl (between .held x .1 a)) (λ a. inr a) h));
-      entry = here;
+      entry = getD-set-same u s new empty (omega arith);
     }
       where
-        n : length (filled empty u s new) ≡ length first
-        n = length-set u s new ∙ m .slots
-
-        here : getD (filled empty u s new) s empty ≡ new
-        here = getD-set-same u s new empty (omega (arith, m .slots))
-
         between : Between empty occupied same misordered first u
         between = moved-between s b u m
 
-        other : (y : ℕ) → y ≢ s → getD (filled empty u s new) y empty ≡ getD u y empty
-        other y d = getD-set-other u s y new empty d
+        n : length u ≡ length first
+        n = m .slots
 
-        right : (x y : ℕ) → x < length first → y < length first → toward x y → Dec (x ≡ s) → Dec (y ≡ s)
-            → misplaced (getD (filled empty u s new) x empty) (getD (filled empty u s new) y empty) ≡ false
-        right x y a g l (yes d) (yes e) = absurd (direction .irreflexive s (subst₂ toward d e l))
-        right x y a g l (yes d) (no e) =
-            let z = m .origin y g in
-            rw (d, here, other y e, z .2) (later (z .0) (z .1) (z .3 (λ r. direction .irreflexive y (direction .transitive y s y r (subst (λ (q : ℕ). toward q y) d l)))))
-        right x y a g l (no d) (yes e) =
-            let q : toward x s = subst (toward x) e l in
-            rw (e, here, other x d, m .before x a (λ r. direction .irreflexive x (direction .transitive x s x q r))) (earlier x a q)
-        right x y a g l (no d) (no e) = rw (other x d, other y e) (direction .along u (m .order) x y (omega (arith, m .slots)) (omega (arith, m .slots)) l)
-
-        fresh-u : (k : ℕ) → k < length first → same (getD u k empty) new ≡ false
-        fresh-u k g = let z = m .origin k g in rw (z .2) (fresh (z .0) (z .1))
-
-        alone : (i k : ℕ) → i < length first → k < length first → i ≢ k → Dec (i ≡ s) → Dec (k ≡ s)
-            → same (getD (filled empty u s new) i empty) (getD (filled empty u s new) k empty) ≡ false
-        alone i k a g d (yes p) (yes q) = absurd (d (p ∙ sym q))
-        alone i k a g d (yes p) (no q) = rw (p, here, other k q) (same-turned laws _ _ (fresh-u k g))
-        alone i k a g d (no p) (yes q) = rw (q, here, other i p) (fresh-u i a)
-        alone i k a g d (no p) (no q) = rw (other i p, other k q) (m .apart i k a g d p q)
+        fresh-u : (k : ℕ) → k < length u → same (getD u k empty) new ≡ false
+        fresh-u k g = let z = m .origin k (omega (arith, n)) in rw (z .2) (fresh (z .0) (z .1))
 
     -- the whole plan ends with each old entry once and the new one once, in order
     pub plan-placed : {rest : List ℕ} → Chain empty occupied toward misplaced first s rest
