@@ -12,8 +12,7 @@ use lib.ListN.{length, getD, take, length-append}
 use lib.Seq.{take-append-le}
 use Rattle.search.specs.Search.{Least, AfterLast}
 use Rattle.layout.specs.Order.{Laws, InOrder, Direction, Higher, Lower, down, up, laws-swapped}
-use Rattle.layout.specs.Held.{Unique, Coherent, NewId}
-use Rattle.layout.specs.Replies.{ConflictOrAlike, reply, equal-replies}
+use Rattle.layout.specs.Held.{Unique, NewId}
 use Rattle.layout.specs.Chain.{Chain, walk-chain, walk-length}
 use Rattle.layout.specs.Cost.{Costs}
 use Rattle.layout.specs.Write.{Write, put, clear, carried, Fits, moves, moves-length}
@@ -173,11 +172,3 @@ module _
         let h = choice-exists empty misordered t new occupied e b o uncrossed in
         let v = insert-valid h in
         record { valid = v; short = omega (arith, v .count); least = λ ws q. omega (arith, v .count, least-count uncrossed q) }
-
--- until the new rule is put in, each key has its old reply
-pub between-reply :
-    {S O : Type 0} {empty : S} {occupied : S → Bool} {same misordered : S → S → Bool} → Laws empty occupied same misordered
-    → (matches : S → Bool) (observed : S → O) → ConflictOrAlike occupied same misordered matches observed
-    → (first u : List S) → InOrder empty misordered first → Coherent empty same first → Between empty occupied same misordered first u
-    → reply empty occupied matches observed u ≡ reply empty occupied matches observed first
-between-reply laws matches observed tell first u o c b = equal-replies laws matches observed tell u first (b .order) o (b .coherent) c (b .held)

@@ -18,4 +18,5 @@ pub mod CostLaws
 pub mod Choose
 pub mod Exists
 pub mod Insert
+pub mod Changes
 pub mod Examples

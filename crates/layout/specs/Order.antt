@@ -50,7 +50,7 @@ module _ {S : Type 0} (empty : S) (misordered : S → S → Bool) where
     λ o. all-law _ (length t) .1 (λ y h. all-law _ y .1 (λ x l. ap not (o x y l h))),
   )
 
-  -- So where document 01 asks which rules precede or depend, one relation answers: of two slots of a table in order, ..
+  -- Where document 01 asks which rules precede or depend, one relation answers: of two slots of a table in order, ..
   pub precedes-later : (t : List S) → InOrder t → (x y : ℕ) → x < y → y < length t
       → precedes misordered (getD t x empty) (getD t y empty) ≡ misordered (getD t y empty) (getD t x empty)
   precedes-later t o x y l h = rw (o x y l h) (and-true (misordered (getD t y empty) (getD t x empty)))
@@ -120,12 +120,13 @@ module _ {S : Type 0} {empty : S} {occupied : S → Bool} {same misordered : S �
           (λ x y l r p q. o x y l r, λ k b s. (λ l. laws .misordered-right _ _ (laws .vacant), λ l. laws .misordered-left _ _ (laws .vacant)))
       pick (no h) = rw (set-out t j empty (omega arith)) o
 
--- A direction of moving: toward i j says that slot j is met after slot i, and misplaced a b that a met before b is out of order.
--- Going down it is (<, misordered), going up (>, misordered with its arguments changed). What both need is proved once, over this record.
+-- order read along a direction: of two slots, where the one that comes first is x
 abbrev pub InOrderAlong : {S : Type 0} → S → (ℕ → ℕ → Type 0) → (S → S → Bool) → List S → Type 0
 InOrderAlong empty toward misplaced t =
     (x y : ℕ) → x < length t → y < length t → toward x y → misplaced (getD t x empty) (getD t y empty) ≡ false
 
+-- A direction of moving: toward i j says that slot j comes after slot i, and misplaced a b that a coming before b is out of order.
+-- Going down it is (<, misordered), going up (>, misordered with its arguments swapped). What both need is proved once, over this record.
 pub record Direction {S : Type 0} (empty : S) (misordered : S → S → Bool) (toward : ℕ → ℕ → Type 0) (misplaced : S → S → Bool) : Type 0 where
   pub irreflexive : (i : ℕ) → toward i i → ⊥
   pub transitive : (i j k : ℕ) → toward i j → toward j k → toward i k

@@ -7,9 +7,9 @@ use mathlib.Core.Logic._⊎_.{inl, inr}
 use mathlib.Core.List.{List, [], _∷_, _++_}
 use Prim.Native.Nat.{ℕ, zero, suc, _≤_, _<_}
 use native.Mathlib.Omega.{arith}
-use native.Mathlib.Decide.{ℕ-discrete, decLe}
-use lib.ListN.{length, getD, take, length-set, length-append}
-use lib.Seq.{getD-set-same, getD-set-other, take-append-le, take-all, take-nil, append-snoc}
+use native.Mathlib.Decide.{ℕ-discrete, decLe, decLt}
+use lib.ListN.{length, getD, take, length-set, length-append, List·getD-append}
+use lib.Seq.{getD-set-same, getD-set-other, take-append-le, take-all, take-nil, take-at, getD-at, append-snoc}
 use Rattle.layout.specs.Written.{pairs-written}
 use Rattle.layout.specs.Order.{Laws, InOrder, Direction, asymmetric, distinct, in-order-put}
 use Rattle.layout.specs.Held.{Held, Unique, Coherent, NewId, OnePair, Free, copied, filled, same-turned, unique-coherent, held-filled}
@@ -204,6 +204,38 @@ module _
       pick (no h) r =
           let n : length (moves s (j ∷ rest)) ≤ k = omega (arith, length-append (moves j rest) (copy s j ∷ [])) in
           rw (take-all k (moves s (j ∷ rest)) n) (moved-between s b _ (chain-moved new (Chain.link b o w x)))
+
+  -- each of them is a copy toward the chain's end that fits
+  pub chain-fits : (new : S) {s : ℕ} {rest : List ℕ} → Chain empty occupied toward misplaced first s rest → (k : ℕ) → k < length (moves s rest)
+      → (from : ℕ) × (to : ℕ) × (getD (moves s rest) k (clear 0) ≡ copy from to) × toward from to
+      × Fits empty occupied same (carried empty new first (take k (moves s rest))) (copy from to)
+  unfolding moves
+  chain-fits new (Chain.stop b o) k h = absurd (omega arith)
+  chain-fits new {s} (Chain.link {j = j} {rest = rest} b o w x) k h = pick (decLt k (length ws)) (chain-fits new x k)
+    where
+      ws : List Write
+      ws = moves j rest
+
+      u : List S
+      u = carried empty new first ws
+
+      m : Moved j u
+      m = chain-moved new x
+
+      here : Fits empty occupied same u (copy s j)
+      here = (omega (arith, m .slots), omega (arith, m .slots, w .inside), distinct direction s j (w .after), ap occupied (source s j u b o w m) ∙ o, m .free)
+
+      Stepped : List Write → Type 0
+      Stepped vs =
+          (from : ℕ) × (to : ℕ) × (getD vs k (clear 0) ≡ copy from to) × toward from to × Fits empty occupied same (carried empty new first (take k vs)) (copy from to)
+
+      pick : Dec (k < length ws) → (k < length ws → Stepped ws) → Stepped (ws ++ (copy s j ∷ []))
+      pick (yes l) ih =
+          let r = ih l in
+          (r .0, r .1, List·getD-append ws (copy s j ∷ []) (clear 0) k l ∙ r .2, r .3, rw (take-append-le k ws (copy s j ∷ []) (omega arith)) (r .4))
+      pick (no l) ih =
+          let n : length ws ≡ k = omega (arith, length-append ws (copy s j ∷ [])) in
+          (s, j, getD-at ws (copy s j) [] (clear 0) k n, w .after, rw (take-at ws (copy s j ∷ []) k n) here)
 
   -- what the new rule must be for slot s: right against each entry, by where it stood first
   module _ (new : S) (fresh : NewId empty same first new) (full : occupied new ≡ true) (s : ℕ)

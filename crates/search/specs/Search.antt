@@ -45,6 +45,9 @@ pub and-right : (a b : Bool) → a && b ≡ true → b ≡ true
 and-right true b p = p
 and-right false b p = absurd (false≢true p)
 
+pub and-law : (a b : Bool) → (a && b ≡ true) ↔ ((a ≡ true) × (b ≡ true))
+and-law a b = (λ e. (and-left a b e, and-right a b e), λ e. and-both a b (e .0) (e .1))
+
 -- the code's `if a { return b; } false`, a test x for a and a test y for b
 pub and-more : {a b x y : Bool} → a ≡ x → a ≡ true → b ≡ y → b ≡ x && y
 and-more {x = true} {y} p t q = q
