@@ -17,13 +17,15 @@ use Rattle.layout.specs.Cost.{InWindow, Costs, slotCost, costs-law, next
 use Rattle.layout.specs.Mirror.{mirror, mirror-twice, getD-reverse, window-mirrored}
 
 -- a chain from slot s: the slots to which the rules of s and of each slot after it are moved in turn
-pub data Chain {S : Type 0} (empty : S) (occupied : S → Bool) (toward : ℕ → ℕ → Type 0) (misplaced : S → S → Bool) (t : List S) : ℕ → List ℕ → Type 0 where
+pub data Chain {S : Type 0} (empty : S) (occupied : S → Bool) (toward : ℕ → ℕ → Type 0) (misplaced : S → S → Bool) (t : List S)
+    : ℕ → List ℕ → Type 0 where
   stop : {s : ℕ} → s < length t → occupied (getD t s empty) ≡ false → Chain empty occupied toward misplaced t s []
   link : {s j : ℕ} {rest : List ℕ} → s < length t → occupied (getD t s empty) ≡ true → InWindow empty toward misplaced t s j
       → Chain empty occupied toward misplaced t j rest → Chain empty occupied toward misplaced t s (j ∷ rest)
 
 -- the chain that the tie rule walks: each rule goes to the slot of least cost in its window, and of several to the one that comes first
-pub data Walk {S : Type 0} (empty : S) (occupied : S → Bool) (toward : ℕ → ℕ → Type 0) (misplaced : S → S → Bool) (t : List S) (c : ℕ → ℕ) : ℕ → List ℕ → Type 0 where
+pub data Walk {S : Type 0} (empty : S) (occupied : S → Bool) (toward : ℕ → ℕ → Type 0) (misplaced : S → S → Bool) (t : List S) (c : ℕ → ℕ)
+    : ℕ → List ℕ → Type 0 where
   stop : {s : ℕ} → s < length t → occupied (getD t s empty) ≡ false → Walk empty occupied toward misplaced t c s []
   link : {s j : ℕ} {rest : List ℕ} → s < length t → occupied (getD t s empty) ≡ true → InWindow empty toward misplaced t s j
       → c s ≡ suc (c j) → ((y : ℕ) → y < length t → toward s y → toward y j → c j < c y)

@@ -33,7 +33,8 @@ module _
 
   -- after a delete
   pub removed-reply : (t : List S) (j : ℕ) → InOrder empty misordered t → Unique empty same t → j < length t
-      → Answers misordered matches observed (λ x. Held empty occupied t x × (same x (getD t j empty) ≡ false)) (reply empty occupied matches observed (emptied empty t j))
+      → Answers misordered matches observed (λ x. Held empty occupied t x × (same x (getD t j empty) ≡ false))
+      (reply empty occupied matches observed (emptied empty t j))
   removed-reply t j o u b =
-      answers-as (emptied empty t j) (in-order-emptied laws t j o) (unique-emptied laws t j b u) (λ x. Held empty occupied t x × (same x (getD t j empty) ≡ false))
-      (held-removed laws t j b (λ k l d. u k j l b d))
+      answers-as (emptied empty t j) (in-order-emptied laws t j o) (unique-emptied laws t j b u)
+      (λ x. Held empty occupied t x × (same x (getD t j empty) ≡ false)) (held-removed laws t j b (λ k l d. u k j l b d))

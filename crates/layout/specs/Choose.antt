@@ -112,7 +112,11 @@ module _ {S : Type 0} (empty : S) (occupied : S → Bool) (misordered : S → S 
           ⊎ Chosen empty occupied Lower (swapped misordered) t (upCost empty occupied misordered t) above (choose empty occupied misordered t below above)
       pick (yes l) =
           let h′ : bestDown empty occupied misordered t below < length t = omega (arith, choose-least below above) in
-          inl (rw (choose-down below above l) (chosen-along below _ (lowest-at below h′) (best-down below) (λ b. down-walk empty occupied misordered t _ b (omega (arith, lowest-at below h′ .value)))))
+          let at = lowest-at below h′ in
+          inl (rw (choose-down below above l)
+          (chosen-along below _ at (best-down below) (λ b. down-walk empty occupied misordered t _ b (omega (arith, at .value)))))
       pick (no l) =
           let h′ : bestUp empty occupied misordered t above < length t = omega (arith, choose-least below above) in
-          inr (rw (choose-up below above (omega arith)) (chosen-along above _ (highest-at above h′) (best-up above) (λ b. up-walk empty occupied misordered t _ b (omega (arith, highest-at above h′ .value)))))
+          let at = highest-at above h′ in
+          inr (rw (choose-up below above (omega arith))
+          (chosen-along above _ at (best-up above) (λ b. up-walk empty occupied misordered t _ b (omega (arith, at .value)))))

@@ -106,7 +106,8 @@ window-or-past empty misplaced t i j a b l = pick (decLt place j)
     pick (no h) = inl (record { inside = b; after = l; between = λ y a u v. nearest .before y u (omega arith) })
 
 -- What a cost is, by slot number and in either direction: this says all that document 01 says of it.
-pub record Costs {S : Type 0} (empty : S) (occupied : S → Bool) (toward : ℕ → ℕ → Type 0) (misplaced : S → S → Bool) (t : List S) (top : ℕ) (c : ℕ → ℕ) : Type 0 where
+pub record Costs {S : Type 0} (empty : S) (occupied : S → Bool) (toward : ℕ → ℕ → Type 0) (misplaced : S → S → Bool) (t : List S) (top : ℕ)
+    (c : ℕ → ℕ) : Type 0 where
   pub vacant : (i : ℕ) → i < length t → occupied (getD t i empty) ≡ false → c i ≡ 0
   -- no slot of the window costs less
   pub within : (i j : ℕ) → i < length t → occupied (getD t i empty) ≡ true → InWindow empty toward misplaced t i j → c i ≤ suc (c j)
@@ -154,6 +155,8 @@ module _ {S : Type 0} (empty : S) (occupied : S → Bool) (misplaced : S → S �
     within = λ i j b o w.
         let v = window-end empty misplaced t i j .0 w in
         omega (arith, cost-occupied i b o, least-after-law i b .low j (v .0) (v .1));
-    bounded = λ i b. ⊎-elim (λ o. omega (arith, cost-occupied i b o, least-after-law i b .high)) (λ o. omega (arith, cost-vacant i b o)) (decided (occupied (getD t i empty)));
+    bounded = λ i b. ⊎-elim
+        (λ o. omega (arith, cost-occupied i b o, least-after-law i b .high))
+        (λ o. omega (arith, cost-vacant i b o)) (decided (occupied (getD t i empty)));
     next = λ i b o h. let r = next-law i b o h in (nextSlot i, r .0, r .1, r .2);
   }

@@ -14,7 +14,8 @@ use Rattle.layout.specs.Order.{Higher, Lower, swapped}
 use Rattle.layout.specs.Minimum.{minimum, Minimum, minimum-law, minimum-unique}
 use Rattle.layout.specs.Cost.{InWindow, Costs, WindowOrPast, costs, costs-law, window-or-past, windowEnd, cost-at}
 use Rattle.layout.specs.Mirror.{mirror, mirror-twice, costs-mirrored, past-mirrored}
-use Rattle.layout.specs.Chain.{Chain, Walk, chain-cost, chain-below, walk-chain, walk-length, walk-below, walk-mirrored, steps, steps-walk, walk-steps, firstOfCost, lastOfCost, first-of-cost, last-of-cost}
+use Rattle.layout.specs.Chain.{Chain, Walk, chain-cost, chain-below, walk-chain, walk-length, walk-below, walk-mirrored, steps, steps-walk}
+use Rattle.layout.specs.Chain.{walk-steps, firstOfCost, lastOfCost, first-of-cost, last-of-cost}
 use Rattle.layout.specs.Plan.{windowStart, downCost, upCost, downChain, upChain}
 
 -- where the window is a stretch of slots, a cost is 0 or 1 + the least over it
@@ -126,7 +127,8 @@ module _ {S : Type 0} (empty : S) (occupied : S → Bool) (misordered : S → S 
       → downChain empty occupied misordered t s
       ≡ steps (firstOfCost (downCost empty occupied misordered t) (length t)) (downCost empty occupied misordered t s) s
   down-steps s b h =
-      walk-steps down-costs (firstOfCost (downCost empty occupied misordered t) (length t)) first-of-cost (down-walk s b (omega arith)) (downCost empty occupied misordered t s) refl
+      walk-steps down-costs (firstOfCost (downCost empty occupied misordered t) (length t)) first-of-cost
+      (down-walk s b (omega arith)) (downCost empty occupied misordered t s) refl
 
   pub up-steps : (s : ℕ) → s < length t → upCost empty occupied misordered t s < length t
       → upChain empty occupied misordered t s ≡ steps (lastOfCost (upCost empty occupied misordered t)) (upCost empty occupied misordered t s) s

@@ -86,9 +86,14 @@ module _ {S : Type 0} (empty : S) (misordered : S → S → Bool) (t : List S) (
       f = firstDependant empty misordered t new
 
       smaller : Dec (a ≤ e) → Dec (e ≤ f)
-          → min (bestDown empty occupied misordered t (rangeDown empty misordered t new)) (bestUp empty occupied misordered t (rangeUp empty misordered t new)) < length t
+          → min (bestDown empty occupied misordered t (rangeDown empty misordered t new))
+          (bestUp empty occupied misordered t (rangeUp empty misordered t new)) < length t
       smaller (yes l) (yes r) =
-          omega (arith, best-down empty occupied misordered t (rangeDown empty misordered t new) e l (omega arith) b, down-near empty occupied misordered t e b o e (omega arith))
+          omega (
+            arith,
+            best-down empty occupied misordered t (rangeDown empty misordered t new) e l (omega arith) b,
+            down-near empty occupied misordered t e b o e (omega arith),
+          )
       smaller (yes l) (no r) =
           omega (
             arith,

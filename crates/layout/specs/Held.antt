@@ -12,7 +12,7 @@ use lib.Dec.{eqb}
 use lib.ListN.{length, getD, set, length-set}
 use lib.Seq.{getD-set-same, getD-set-other}
 use borrow.Author.Tests.{not-true, eqb-false, ne-eqb}
-use Rattle.search.specs.Search.{any, any-yes, any-some, and-both, and-left, and-right, decided}
+use Rattle.search.specs.Search.{any, any-yes, any-some, and-law, decided}
 use Rattle.layout.specs.Written.{pairs-written}
 use Rattle.layout.specs.Order.{Laws}
 
@@ -75,16 +75,19 @@ module _ {S : Type 0} (empty : S) (occupied : S → Bool) (same : S → S → Bo
       found e =
           let r = any-yes other (length t) e in
           let k : ℕ = r .0 in
-          (k, r .1, eqb-false k j (not-true (eqb k j) (and-left (not (eqb k j)) (same (getD t k empty) (getD t j empty)) (r .2))), and-right (not (eqb k j)) (same (getD t k empty) (getD t j empty)) (r .2))
+          let both = and-law (not (eqb k j)) (same (getD t k empty) (getD t j empty)) .0 (r .2) in
+          (k, r .1, eqb-false k j (not-true (eqb k j) (both .0)), both .1)
 
-      forth : (occupied (getD t j empty) ≡ true) ⊎ (occupied (getD t j empty) ≡ false) → not (occupied (getD t j empty)) || any other (length t) ≡ true → Free t j
+      forth : (occupied (getD t j empty) ≡ true) ⊎ (occupied (getD t j empty) ≡ false)
+          → not (occupied (getD t j empty)) || any other (length t) ≡ true → Free t j
       forth (inl o) e = inr (found (rw o at e))
       forth (inr o) e = inl o
 
       back : Free t j → not (occupied (getD t j empty)) || any other (length t) ≡ true
       back (inl o) = rw o
       back (inr (k, b, d, s)) =
-          let a : any other (length t) ≡ true = any-some other (length t) k b (and-both (not (eqb k j)) (same (getD t k empty) (getD t j empty)) (ap not (ne-eqb k j d)) s) in
+          let both = and-law (not (eqb k j)) (same (getD t k empty) (getD t j empty)) .1 (ap not (ne-eqb k j d), s) in
+          let a : any other (length t) ≡ true = any-some other (length t) k b both in
           ap (λ (x : Bool). not (occupied (getD t j empty)) || x) a ∙ or-true (not (occupied (getD t j empty)))
 
 module _ {S : Type 0} {empty : S} {occupied : S → Bool} {same misordered : S → S → Bool} (laws : Laws empty occupied same misordered) where
@@ -198,7 +201,10 @@ module _ {S : Type 0} {empty : S} {occupied : S → Bool} {same misordered : S �
   pub held-removed : (t : List S) (j : ℕ) → j < length t
       → ((k : ℕ) → k < length t → k ≢ j → same (getD t k empty) (getD t j empty) ≡ false)
       → (x : S) → Held empty occupied (emptied empty t j) x ↔ (Held empty occupied t x × (same x (getD t j empty) ≡ false))
-  held-removed t j h only x = (λ w. forth (w .0) (w .1 .0) (w .1 .1) (w .1 .2) (ℕ-discrete (w .1 .0) j), λ w. back (w .0 .0) (w .0 .1 .0) (w .0 .1 .1) (w .0 .1 .2) (w .1) (ℕ-discrete (w .0 .1 .0) j))
+  held-removed t j h only x = (
+    λ w. forth (w .0) (w .1 .0) (w .1 .1) (w .1 .2) (ℕ-discrete (w .1 .0) j),
+    λ w. back (w .0 .0) (w .0 .1 .0) (w .0 .1 .1) (w .0 .1 .2) (w .1) (ℕ-discrete (w .0 .1 .0) j),
+  )
     where
       n : length (set t j empty) ≡ length t
       n = length-set t j empty
@@ -206,7 +212,8 @@ module _ {S : Type 0} {empty : S} {occupied : S → Bool} {same misordered : S �
       forth : occupied x ≡ true → (i : ℕ) → i < length (set t j empty) → getD (set t j empty) i empty ≡ x → Dec (i ≡ j)
           → Held empty occupied t x × (same x (getD t j empty) ≡ false)
       forth o i b q (yes d) =
-          absurd (true≢false (sym o ∙ (ap occupied (sym q ∙ (ap (λ (i : ℕ). getD (set t j empty) i empty) d ∙ getD-set-same t j empty empty h)) ∙ laws .vacant)))
+          let gone : x ≡ empty = sym q ∙ (ap (λ (i : ℕ). getD (set t j empty) i empty) d ∙ getD-set-same t j empty empty h) in
+          absurd (true≢false (sym o ∙ (ap occupied gone ∙ laws .vacant)))
       forth o i b q (no d) =
           let w : getD t i empty ≡ x = sym (getD-set-other t j i empty empty d) ∙ q in
           ((o, (i, omega (arith, n), w)), rw w at (only i (omega (arith, n)) d))

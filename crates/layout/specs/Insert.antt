@@ -19,7 +19,8 @@ use Rattle.layout.specs.Write.{Write, put, clear, carried, Fits, moves, 
 use Rattle.layout.specs.Class.{Sequence, InClass}
 use Rattle.layout.specs.Least.{sequence-least}
 use Rattle.layout.specs.Valid.{Between, Placed, chain-between, plan-placed, plan-sequence, sequence-fits}
-use Rattle.layout.specs.Plan.{Range, Choice, downCost, upCost, bestDown, bestUp, choose, afterPreceding, firstDependant, rangeDown, rangeUp, Uncrossed, insertChoice, writes}
+use Rattle.layout.specs.Plan.{Range, Choice, downCost, upCost, bestDown, bestUp, choose, insertChoice, writes}
+use Rattle.layout.specs.Plan.{afterPreceding, firstDependant, rangeDown, rangeUp, Uncrossed}
 use Rattle.layout.specs.CostLaws.{down-costs, up-costs, down-past, up-past}
 use Rattle.layout.specs.Choose.{Chosen, chosen, best-down, best-up, choose-least}
 use Rattle.layout.specs.Exists.{after-preceding-law, first-dependant-law, choice-exists}
@@ -28,7 +29,8 @@ use Rattle.layout.specs.Exists.{after-preceding-law, first-dependant-law
 pub record Valid {S : Type 0} (empty : S) (occupied : S → Bool) (same misordered : S → S → Bool) (first : List S) (new : S) (choice : Choice) : Type 0 where
   pub count : length (writes choice) ≡ suc (choice .cost)
   pub member : InClass empty occupied same misordered new first (writes choice)
-  pub fits : (k : ℕ) → k < length (writes choice) → Fits empty occupied same (carried empty new first (take k (writes choice))) (getD (writes choice) k (clear 0))
+  pub fits : (k : ℕ) → k < length (writes choice)
+      → Fits empty occupied same (carried empty new first (take k (writes choice))) (getD (writes choice) k (clear 0))
   pub between : (k : ℕ) → k < length (writes choice) → Between empty occupied same misordered first (carried empty new first (take k (writes choice)))
   pub placed : Placed empty occupied same misordered first new (choice .slot) (carried empty new first (writes choice))
 
@@ -122,7 +124,8 @@ module _
       member = include sequence;
       fits = sequence-fits (direction .irreflexive) sequence;
       between = λ k h.
-          rw (take-append-le k (moves (choice .slot) (choice .chain)) (put (choice .slot) ∷ []) (omega (arith, length-append (moves (choice .slot) (choice .chain)) (put (choice .slot) ∷ []))))
+          let whole = length-append (moves (choice .slot) (choice .chain)) (put (choice .slot) ∷ []) in
+          rw (take-append-le k (moves (choice .slot) (choice .chain)) (put (choice .slot) ∷ []) (omega arith))
           (chain-between laws′ direction t ordered unique new chain k);
       placed = placed;
     }

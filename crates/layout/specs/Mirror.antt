@@ -47,7 +47,8 @@ module _ {S : Type 0} (empty : S) (t : List S) where
         inside = omega (arith, n);
         after = omega (arith, w .after);
         between = λ y h l r.
-            rw (getD-reverse t empty y (omega (arith, n)), mirror-entry i a) (w .between (mirror (length t) y) (omega (arith, n)) (omega (arith, n)) (omega (arith, n)));
+            rw (getD-reverse t empty y (omega (arith, n)), mirror-entry i a)
+            (w .between (mirror (length t) y) (omega (arith, n)) (omega (arith, n)) (omega (arith, n)));
       },
       λ w. record {
         inside = b;
@@ -100,9 +101,15 @@ module _ {S : Type 0} (empty : S) (t : List S) where
           m = mirror (length t)
 
           turn : (i : ℕ) → i < length t
-              → (j : ℕ) × InWindow empty Higher misplaced (reverse t) (m i) j × (c (m i) ≡ suc (c j)) × ((y : ℕ) → y < length (reverse t) → m i < y → y < j → c j < c y)
+              → (j : ℕ) × InWindow empty Higher misplaced (reverse t) (m i) j × (c (m i) ≡ suc (c j))
+              × ((y : ℕ) → y < length (reverse t) → m i < y → y < j → c j < c y)
               → (j : ℕ) × InWindow empty Lower misplaced t i j × (c (m i) ≡ suc (c (m j))) × ((y : ℕ) → y < length t → y < i → j < y → c (m j) < c (m y))
-          turn i b (j, w, e, f) = (m j, window-mirrored i (m j) b (omega (arith, n)) .1 (rw back w), rw back e, λ y a l r. rw back (f (m y) (omega (arith, n)) (omega arith) (omega (arith, n, w .inside))))
+          turn i b (j, w, e, f) = (
+            m j,
+            window-mirrored i (m j) b (omega (arith, n)) .1 (rw back w),
+            rw back e,
+            λ y a l r. rw back (f (m y) (omega (arith, n)) (omega arith) (omega (arith, n, w .inside))),
+          )
             where
               back : m (m j) ≡ j
               back = omega (arith, n, w .inside)

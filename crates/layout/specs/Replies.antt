@@ -177,4 +177,5 @@ pub equal-replies :
     → reply empty occupied matches observed t ≡ reply empty occupied matches observed u
 equal-replies {S} {O} {empty} {occupied} {same} {misordered} laws matches observed tell t u ot ou ct cu f =
     answers-reply laws matches u ou observed cu tell (reply empty occupied matches observed t)
-    (answers-equal misordered matches observed (Held empty occupied t) (Held empty occupied u) f (reply empty occupied matches observed t) (reply-answers laws matches t ot observed ct tell))
+    (answers-equal misordered matches observed (Held empty occupied t) (Held empty occupied u) f (reply empty occupied matches observed t)
+    (reply-answers laws matches t ot observed ct tell))

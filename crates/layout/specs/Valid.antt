@@ -61,7 +61,8 @@ module _
   }
 
   -- one copy more: from s to j, where the chain from j has been carried out
-  module _ (s j : ℕ) (u : List S) (b : s < length first) (full : occupied (getD first s empty) ≡ true) (w : InWindow empty toward misplaced first s j) (m : Moved j u) where
+  module _ (s j : ℕ) (u : List S) (b : s < length first) (full : occupied (getD first s empty) ≡ true)
+      (w : InWindow empty toward misplaced first s j) (m : Moved j u) where
     onward : s ≢ j
     onward = distinct direction s j (w .after)
 
@@ -152,7 +153,8 @@ module _
         pick (no p) (no q) = absurd (true≢false (sym e ∙ m .apart i k a g d p q))
 
     pairs : OnePair empty same u
-    pairs i k p q l a r c e f = pick (one-is i k (omega (arith, n)) (omega (arith, n)) (omega arith) e) (one-is p q (omega (arith, n)) (omega (arith, n)) (omega arith) f)
+    pairs i k p q l a r c e f =
+        pick (one-is i k (omega (arith, n)) (omega (arith, n)) (omega arith) e) (one-is p q (omega (arith, n)) (omega (arith, n)) (omega arith) f)
       where
         n : length u ≡ length first
         n = m .slots
@@ -166,8 +168,10 @@ module _
         pick : (i ≡ s) ⊎ (k ≡ s) → (p ≡ s) ⊎ (q ≡ s) → (i ≡ p) × (k ≡ q)
         pick (inl x) (inl y) = (x ∙ sym y, partner k q (omega (arith, n)) (omega (arith, n)) (omega arith) (omega arith) (turn i k x e) (turn p q y f))
         pick (inr x) (inr y) = (partner i p (omega (arith, n)) (omega (arith, n)) (omega arith) (omega arith) (keep i k x e) (keep p q y f), x ∙ sym y)
-        pick (inl x) (inr y) = let z = partner k p (omega (arith, n)) (omega (arith, n)) (omega arith) (omega arith) (turn i k x e) (keep p q y f) in absurd (omega arith)
-        pick (inr x) (inl y) = let z = partner i q (omega (arith, n)) (omega (arith, n)) (omega arith) (omega arith) (keep i k x e) (turn p q y f) in absurd (omega arith)
+        pick (inl x) (inr y) =
+            let z = partner k p (omega (arith, n)) (omega (arith, n)) (omega arith) (omega arith) (turn i k x e) (keep p q y f) in absurd (omega arith)
+        pick (inr x) (inl y) =
+            let z = partner i q (omega (arith, n)) (omega (arith, n)) (omega arith) (omega arith) (keep i k x e) (turn p q y f) in absurd (omega arith)
 
     moved-between : Between empty occupied same misordered first u
     moved-between = record {
