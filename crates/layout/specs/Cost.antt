@@ -57,6 +57,10 @@ module _ {S : Type 0} (empty : S) (misplaced : S → S → Bool) where
   unfolding windowEnd
   window-end-low t i b = omega (arith, least-law (λ y. misplaced (getD t y empty) (getD t i empty)) (length t - suc i) (suc i) .low)
 
+  pub window-end-high : (t : List S) (i : ℕ) → windowEnd t i ≤ length t
+  unfolding windowEnd
+  window-end-high t i = omega arith
+
   -- slots may be counted from one further on
   window-shift : (e : S) (rest : List S) (i : ℕ) → windowEnd (e ∷ rest) (suc i) ≡ suc (windowEnd rest i)
   unfolding windowEnd

@@ -5,14 +5,14 @@ use mathlib.Core.Bool.{Bool, true, false, cond, true≢false}
 use mathlib.Core.Logic.{_↔_, _⊎_}
 use mathlib.Core.Logic._⊎_.{inl, inr}
 use mathlib.Core.List.{List, reverse}
-use Prim.Native.Nat.{ℕ, suc, _+_, _-_, _≤_, _<_, pred}
+use Prim.Native.Nat.{ℕ, zero, suc, _+_, _-_, _≤_, _<_, pred}
 use native.Mathlib.Omega.{arith}
 use native.Mathlib.Decide.{decLt, decLe}
 use lib.ListN.{length, getD, length-reverse}
 use Rattle.search.specs.Search.{afterLast, AfterLast, after-last-law, decided}
 use Rattle.layout.specs.Order.{Higher, Lower, swapped}
-use Rattle.layout.specs.Minimum.{minimum, Minimum, minimum-law, minimum-unique}
-use Rattle.layout.specs.Cost.{InWindow, Costs, WindowOrPast, costs, costs-law, window-or-past, windowEnd, cost-at}
+use Rattle.layout.specs.Minimum.{minimum, Minimum, minimum-law, minimum-unique, minimum-cong}
+use Rattle.layout.specs.Cost.{InWindow, Costs, WindowOrPast, costs, costs-law, window-or-past, windowEnd, window-end-high, cost-at}
 use Rattle.layout.specs.Mirror.{mirror, mirror-twice, costs-mirrored, past-mirrored}
 use Rattle.layout.specs.Chain.{Chain, Walk, chain-cost, chain-below, walk-chain, walk-length, walk-below, walk-mirrored, steps, steps-walk}
 use Rattle.layout.specs.Chain.{walk-steps, firstOfCost, lastOfCost, first-of-cost, last-of-cost}
@@ -171,3 +171,29 @@ module _ {S : Type 0} (empty : S) (occupied : S → Bool) (misordered : S → S 
       ≡ cond (occupied (getD t i empty))
       (suc (minimum (upCost empty occupied misordered t) (length t) (i - windowStart empty misordered t i) (windowStart empty misordered t i))) 0
   up-cost-at i b = cost-stretch up-costs i b (windowStart empty misordered t i) i (window-start-high empty misordered t i b) (window-start empty misordered t i b)
+
+  -- these equations settle the costs, so that numbers computed by them from the ends of the windows are the costs
+  pub down-cost-only : (c : ℕ → ℕ)
+      → ((i : ℕ) → i < length t → c i ≡ cond (occupied (getD t i empty)) (suc (minimum c (length t) (windowEnd empty misordered t i - suc i) (suc i))) 0)
+      → (i : ℕ) → i < length t → c i ≡ downCost empty occupied misordered t i
+  down-cost-only c f i b = from (length t) i b (omega arith)
+    where
+      from : (n i : ℕ) → i < length t → length t ≤ n + i → c i ≡ downCost empty occupied misordered t i
+      from zero i b h = absurd (omega arith)
+      from (suc n) i b h =
+          let e = minimum-cong (length t) (windowEnd empty misordered t i - suc i) (suc i)
+          (λ j l r. from n j (omega (arith, window-end-high empty misordered t i)) (omega arith)) in
+          f i b ∙ (ap (λ (m : ℕ). cond (occupied (getD t i empty)) (suc m) 0) e ∙ sym (down-cost-at i b))
+
+  pub up-cost-only : (c : ℕ → ℕ)
+      → ((i : ℕ) → i < length t
+      → c i ≡ cond (occupied (getD t i empty)) (suc (minimum c (length t) (i - windowStart empty misordered t i) (windowStart empty misordered t i))) 0)
+      → (i : ℕ) → i < length t → c i ≡ upCost empty occupied misordered t i
+  up-cost-only c f i b = from (length t) i b b
+    where
+      from : (n i : ℕ) → i < length t → i < n → c i ≡ upCost empty occupied misordered t i
+      from zero i b h = absurd (omega arith)
+      from (suc n) i b h =
+          let e = minimum-cong (length t) (i - windowStart empty misordered t i) (windowStart empty misordered t i)
+          (λ j l r. from n j (omega (arith, window-start-high empty misordered t i b)) (omega (arith, window-start-high empty misordered t i b))) in
+          f i b ∙ (ap (λ (m : ℕ). cond (occupied (getD t i empty)) (suc m) 0) e ∙ sym (up-cost-at i b))
