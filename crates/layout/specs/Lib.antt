@@ -16,6 +16,7 @@ pub mod Least
 pub mod Valid
 pub mod CostLaws
 pub mod Choose
+pub mod InPlace
 pub mod Exists
 pub mod Insert
 pub mod Changes
