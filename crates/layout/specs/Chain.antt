@@ -36,7 +36,7 @@ module _ {S : Type 0} {empty : S} {occupied : S → Bool} {toward : ℕ → ℕ 
   chain-inside (Chain.stop b o) = b
   chain-inside (Chain.link b o w k) = b
 
-  -- a chain has as many slots as there are: along it, a rank below their number rises
+  -- along a chain a rank below the number of slots rises, so that it has no more slots than there are
   pub chain-length : (rank : ℕ → ℕ) → ((i : ℕ) → i < length t → rank i < length t)
       → ((i j : ℕ) → i < length t → j < length t → toward i j → rank i < rank j)
       → {s : ℕ} {rest : List ℕ} → Chain empty occupied toward misplaced t s rest → length rest + rank s < length t
@@ -152,7 +152,7 @@ first-of-cost-cong n h k s = least-cong (n - suc s) (suc s) (λ j l r. ap (λ (x
 pub last-of-cost-cong : {c d : ℕ → ℕ} (k s : ℕ) → ((j : ℕ) → j < s → c j ≡ d j) → lastOfCost c k s ≡ lastOfCost d k s
 last-of-cost-cong k s h = ap (λ (x : ℕ). x - 1) (after-last-cong s (λ j l. ap (λ (x : ℕ). eqb x k) (h j l)))
 
--- the walk is found by stepping, where each step is
+-- the walk is found by stepping, where each step goes to the slot that the tie rule takes
 pub walk-steps : {S : Type 0} {empty : S} {occupied : S → Bool} {toward : ℕ → ℕ → Type 0} {misplaced : S → S → Bool} {t : List S} {top : ℕ} {c : ℕ → ℕ}
     → Costs empty occupied toward misplaced t top c → (next : ℕ → ℕ → ℕ)
     → ((s j k : ℕ) → s < length t → InWindow empty toward misplaced t s j → c j ≡ k → ((y : ℕ) → y < length t → toward s y → toward y j → c j < c y) → next k s ≡ j)

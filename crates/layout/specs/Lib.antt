@@ -1,5 +1,5 @@
 -- The mathematics of moving rules, over any entries with tests for "occupied", "same id" and "out of order", and any number of slots.
--- Definitions: Order, Held, Replies, Cost, Chain, Write, Class, Plan. The theorems on an insert's plan are in Insert.
+-- Definitions: Order, Held, Replies, Cost, Chain, Write, Class, Plan. Insert has the theorems on an insert's plan, Changes what it does to replies.
 pub mod Written
 pub mod Order
 pub mod Held
