@@ -3,22 +3,22 @@
 use mathlib.Core.Path.{_≡_, refl, sym, ap, _∙_}
 use mathlib.Core.Bool.{Bool, true, false, not, _&&_, _||_, and-false}
 use mathlib.Core.List.{List, [], _∷_}
-use Prim.Native.Nat.{ℕ, _≤_}
+use Prim.Native.Nat.{ℕ}
 use native.Mathlib.Omega.{arith}
 use lib.Dec.{eqb, ltb}
-use lib.ListN.{length}
-use borrow.Author.Tests.{eqb-true, eq-eqb}
-use Rattle.search.specs.Search.{all, any, least, afterLast, and-both, and-left, and-right}
+use lib.ListN.{getD}
+use borrow.Author.Tests.{eqb-true, eq-eqb, not-true}
+use Rattle.search.specs.Search.{all, all-law, any, least, afterLast, and-both, and-left, and-right}
 use Rattle.layout.specs.Order.{Laws, inOrder, in-order-law}
 use Rattle.layout.specs.Held.{free, unique-earlier}
 use Rattle.layout.specs.Minimum.{minimum, lowest, highest}
 use Rattle.layout.specs.Cost.{windowEnd, costs, nextSlot}
 use Rattle.layout.specs.Chain.{steps}
 use Rattle.layout.specs.Write.{Write, copy, put, moves}
-use Rattle.layout.specs.Class.{Sequence, InClass}
+use Rattle.layout.specs.Class.{Sequence}
 use Rattle.layout.specs.ClassTest.{copyFits, lastFits, sequence, tested-sequence}
 use Rattle.layout.specs.Plan.{downCost, upCost, downChain, upChain, bestDown, bestUp, slotDown, slotUp, choose, afterPreceding, firstDependant, insertChoice, writes}
-use Rattle.layout.specs.Insert.{least-count}
+use Rattle.layout.specs.Insert.{LeastPlan, insert-plan}
 
 -- Entries are numbers, 0 for an empty slot. A list of pairs says which rule depends on which.
 pub record Pair : Type 0 where
@@ -76,11 +76,17 @@ five-plan : plan five-pairs five 5 ≡ copy 1 4 ∷ copy 0 1 ∷ put 0 ∷ []
 unfolding plan five five-pairs
 five-plan = refl
 
--- so each sequence of the class for it has three writes or more
-five-least : (ws : List Write) → InClass 0 occupied same (misordered five-pairs) 5 five ws → 3 ≤ length ws
+-- it is in the class, and by the theorem no sequence of the class is shorter; the premises are evaluated
+five-member : sequence 0 occupied same (misordered five-pairs) ltb 5 five (copy 1 4 ∷ copy 0 1 ∷ put 0 ∷ []) ≡ true
+unfolding plan five five-pairs sequence copyFits lastFits inOrder free
+five-member = refl
+
+five-least : LeastPlan 0 occupied same (misordered five-pairs) five 5 (insertChoice 0 occupied (misordered five-pairs) five 5)
 unfolding plan five five-pairs inOrder
-five-least ws q =
-    least-count (laws five-pairs) five (unique-earlier (laws five-pairs) five (in-order-law 0 same five .0 refl)) 5 (omega arith) q
+five-least =
+    insert-plan (laws five-pairs) five (unique-earlier (laws five-pairs) five (in-order-law 0 same five .0 refl)) 5
+    (in-order-law 0 (misordered five-pairs) five .0 refl)
+    (λ k h. not-true (same (getD five k 0) 5) (all-law (λ k. not (same (getD five k 0) 5)) 5 .0 refl k h)) refl 4 (omega arith) refl (omega arith)
 
 -- the third insert of document 01's script
 third-plan : plan (on 2 1 ∷ on 3 1 ∷ on 2 3 ∷ []) (1 ∷ 2 ∷ 0 ∷ 0 ∷ 0 ∷ 0 ∷ []) 3 ≡ copy 1 2 ∷ put 1 ∷ []
