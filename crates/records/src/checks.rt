@@ -48,7 +48,7 @@ fn id_before(table: &[u64], slot: usize) -> bool
 {
     let mut earlier = 0;
     while earlier < slot {
-        if same_id(table, earlier, slot) {
+        if same_id(table, earlier, table, slot) {
             return true;
         }
         earlier += 1;
@@ -79,7 +79,7 @@ fn disorder_before(table: &[u64], slot: usize) -> bool
 {
     let mut earlier = 0;
     while earlier < slot {
-        if misordered_pair(table, earlier, slot) {
+        if misordered_pair(table, earlier, table, slot) {
             return true;
         }
         earlier += 1;

@@ -103,33 +103,35 @@ pub fn slot_matches(table: &[u64], slot: usize, key_high: u64, key_low: u64) -> 
     false
 }
 
+// Pairs: a slot of one table and a slot of another, or of the same; a rule to be inserted is a table of one slot.
+
 // Whether two slots' patterns overlap, the slots read as rules.
-pub fn slots_overlap(table: &[u64], slot: usize, other: usize) -> bool
-    requires { ⌜ (slot < length (now table) / 6) × (other < length (now table) / 6) ⌝ }
-    ensures { λ r. ⌜ r ≡ overlapping 2 (slotWords 2 (now (table .entry)) slot) (slotWords 2 (now (table .entry)) other) ⌝ }
+pub fn slots_overlap(table: &[u64], slot: usize, others: &[u64], other: usize) -> bool
+    requires { ⌜ (slot < length (now table) / 6) × (other < length (now others) / 6) ⌝ }
+    ensures { λ r. ⌜ r ≡ overlapping 2 (slotWords 2 (now (table .entry)) slot) (slotWords 2 (now (others .entry)) other) ⌝ }
 {
     let high = ternary::words_overlap(
         slot_word(table, slot, 0),
         slot_word(table, slot, 2),
-        slot_word(table, other, 0),
-        slot_word(table, other, 2),
+        slot_word(others, other, 0),
+        slot_word(others, other, 2),
     );
     let low = ternary::words_overlap(
         slot_word(table, slot, 1),
         slot_word(table, slot, 3),
-        slot_word(table, other, 1),
-        slot_word(table, other, 3),
+        slot_word(others, other, 1),
+        slot_word(others, other, 3),
     );
     high & low
 }
 
 // Whether both slots are occupied.
-fn both_occupied(table: &[u64], slot: usize, other: usize) -> bool
-    requires { ⌜ (slot < length (now table) / 6) × (other < length (now table) / 6) ⌝ }
-    ensures { λ r. ⌜ r ≡ (occupied 2 (slotWords 2 (now (table .entry)) slot) && occupied 2 (slotWords 2 (now (table .entry)) other)) ⌝ }
+pub fn both_occupied(table: &[u64], slot: usize, others: &[u64], other: usize) -> bool
+    requires { ⌜ (slot < length (now table) / 6) × (other < length (now others) / 6) ⌝ }
+    ensures { λ r. ⌜ r ≡ (occupied 2 (slotWords 2 (now (table .entry)) slot) && occupied 2 (slotWords 2 (now (others .entry)) other)) ⌝ }
 {
     let slot_is_empty = slot_empty(table, slot);
-    let other_is_empty = slot_empty(table, other);
+    let other_is_empty = slot_empty(others, other);
     !slot_is_empty & !other_is_empty
 }
 
@@ -142,41 +144,41 @@ pub fn slot_id(table: &[u64], slot: usize) -> u64
 }
 
 // Whether one id stands in both slots.
-pub fn same_id(table: &[u64], slot: usize, other: usize) -> bool
-    requires { ⌜ (slot < length (now table) / 6) × (other < length (now table) / 6) ⌝ }
-    ensures { λ r. ⌜ r ≡ sameId 2 (slotWords 2 (now (table .entry)) slot) (slotWords 2 (now (table .entry)) other) ⌝ }
+pub fn same_id(table: &[u64], slot: usize, others: &[u64], other: usize) -> bool
+    requires { ⌜ (slot < length (now table) / 6) × (other < length (now others) / 6) ⌝ }
+    ensures { λ r. ⌜ r ≡ sameId 2 (slotWords 2 (now (table .entry)) slot) (slotWords 2 (now (others .entry)) other) ⌝ }
 {
-    if slot_id(table, slot) == slot_id(table, other) {
-        return both_occupied(table, slot, other);
+    if slot_id(table, slot) == slot_id(others, other) {
+        return both_occupied(table, slot, others, other);
     }
     false
 }
 
 // Whether the slots hold two rules of different ids.
-pub fn distinct_rules(table: &[u64], slot: usize, other: usize) -> bool
-    requires { ⌜ (slot < length (now table) / 6) × (other < length (now table) / 6) ⌝ }
-    ensures { λ r. ⌜ r ≡ distinct 2 (slotWords 2 (now (table .entry)) slot) (slotWords 2 (now (table .entry)) other) ⌝ }
+pub fn distinct_rules(table: &[u64], slot: usize, others: &[u64], other: usize) -> bool
+    requires { ⌜ (slot < length (now table) / 6) × (other < length (now others) / 6) ⌝ }
+    ensures { λ r. ⌜ r ≡ distinct 2 (slotWords 2 (now (table .entry)) slot) (slotWords 2 (now (others .entry)) other) ⌝ }
 {
-    let differ = slot_id(table, slot) != slot_id(table, other);
-    differ & both_occupied(table, slot, other)
+    let differ = slot_id(table, slot) != slot_id(others, other);
+    differ & both_occupied(table, slot, others, other)
 }
 
-// Whether a slot's patterns overlap another's and its priority is not the higher one.
-fn overlap_no_higher(table: &[u64], slot: usize, other: usize) -> bool
-    requires { ⌜ (slot < length (now table) / 6) × (other < length (now table) / 6) ⌝ }
-    ensures { λ r. ⌜ r ≡ (overlapping 2 (slotWords 2 (now (table .entry)) slot) (slotWords 2 (now (table .entry)) other) && leb (rank 2 (slotWords 2 (now (table .entry)) slot)) (rank 2 (slotWords 2 (now (table .entry)) other))) ⌝ }
+// Whether a slot's pattern overlaps another's and its priority is not the higher one.
+fn overlap_no_higher(table: &[u64], slot: usize, others: &[u64], other: usize) -> bool
+    requires { ⌜ (slot < length (now table) / 6) × (other < length (now others) / 6) ⌝ }
+    ensures { λ r. ⌜ r ≡ (overlapping 2 (slotWords 2 (now (table .entry)) slot) (slotWords 2 (now (others .entry)) other) && leb (rank 2 (slotWords 2 (now (table .entry)) slot)) (rank 2 (slotWords 2 (now (others .entry)) other))) ⌝ }
 {
-    let overlap = slots_overlap(table, slot, other);
-    overlap & (slot_word(table, slot, 5) <= slot_word(table, other, 5))
+    let overlap = slots_overlap(table, slot, others, other);
+    overlap & (slot_word(table, slot, 5) <= slot_word(others, other, 5))
 }
 
 // Whether a slot's standing before another is out of order.
-pub fn misordered_pair(table: &[u64], slot: usize, other: usize) -> bool
-    requires { ⌜ (slot < length (now table) / 6) × (other < length (now table) / 6) ⌝ }
-    ensures { λ r. ⌜ r ≡ misordered 2 (slotWords 2 (now (table .entry)) slot) (slotWords 2 (now (table .entry)) other) ⌝ }
+pub fn misordered_pair(table: &[u64], slot: usize, others: &[u64], other: usize) -> bool
+    requires { ⌜ (slot < length (now table) / 6) × (other < length (now others) / 6) ⌝ }
+    ensures { λ r. ⌜ r ≡ misordered 2 (slotWords 2 (now (table .entry)) slot) (slotWords 2 (now (others .entry)) other) ⌝ }
 {
-    if overlap_no_higher(table, slot, other) {
-        return distinct_rules(table, slot, other);
+    if overlap_no_higher(table, slot, others, other) {
+        return distinct_rules(table, slot, others, other);
     }
     false
 }
