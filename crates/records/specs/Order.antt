@@ -20,6 +20,10 @@ overlapping w a b = overlaps w (value a) (mask w a) (value b) (mask w b)
 unfoldable pub precedes : ℕ → Words → Words → Bool
 precedes w a b = (overlapping w a b && ltb (rank w b) (rank w a)) && (occupied w a && occupied w b)
 
+-- document 01: an overlap at equal priority
+unfoldable pub tied : ℕ → Words → Words → Bool
+tied w a b = (overlapping w a b && eqb (rank w a) (rank w b)) && (occupied w a && occupied w b)
+
 -- one id stands in both slots
 unfoldable pub sameId : ℕ → Words → Words → Bool
 sameId w a b = eqb (ident w a) (ident w b) && (occupied w a && occupied w b)

@@ -7,7 +7,7 @@ ghost use Prim.Native.Nat.{_<_, _/_};
 ghost use lib.Dec.{leb};
 ghost use lib.ListN.{length};
 ghost use Rattle.records.specs.Record.{word, slotWords, empty, occupied, ident, rank, sound, soundParts, patternMatches, slotMatches, listed, putSlot};
-ghost use Rattle.records.specs.Order.{sameId, distinct, misordered, overlapping};
+ghost use Rattle.records.specs.Order.{sameId, distinct, tied, precedes, misordered, overlapping};
 ghost use Rattle.records.specs.Checks.{unsoundAt};
 
 // Word `index` of a slot's record.
@@ -179,6 +179,32 @@ pub fn misordered_pair(table: &[u64], slot: usize, others: &[u64], other: usize)
 {
     if overlap_no_higher(table, slot, others, other) {
         return distinct_rules(table, slot, others, other);
+    }
+    false
+}
+
+// Whether two rules overlap at equal priority.
+pub fn tied_pair(table: &[u64], slot: usize, others: &[u64], other: usize) -> bool
+    requires { ⌜ (slot < length (now table) / 6) × (other < length (now others) / 6) ⌝ }
+    ensures { λ r. ⌜ r ≡ tied 2 (slotWords 2 (now (table .entry)) slot) (slotWords 2 (now (others .entry)) other) ⌝ }
+{
+    let overlap = slots_overlap(table, slot, others, other);
+    let equal = slot_word(table, slot, 5) == slot_word(others, other, 5);
+    if overlap & equal {
+        return both_occupied(table, slot, others, other);
+    }
+    false
+}
+
+// Whether a rule precedes another: they overlap, and its priority is the higher one.
+pub fn precedes_pair(table: &[u64], slot: usize, others: &[u64], other: usize) -> bool
+    requires { ⌜ (slot < length (now table) / 6) × (other < length (now others) / 6) ⌝ }
+    ensures { λ r. ⌜ r ≡ precedes 2 (slotWords 2 (now (table .entry)) slot) (slotWords 2 (now (others .entry)) other) ⌝ }
+{
+    let overlap = slots_overlap(table, slot, others, other);
+    let higher = slot_word(others, other, 5) < slot_word(table, slot, 5);
+    if overlap & higher {
+        return both_occupied(table, slot, others, other);
     }
     false
 }
