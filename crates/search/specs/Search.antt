@@ -224,3 +224,28 @@ pub after-last-cong : {p q : ℕ → Bool} (n : ℕ) → ((j : ℕ) → j < n �
 unfolding afterLast
 after-last-cong zero h = refl
 after-last-cong (suc n) h = rw (h n (omega arith), after-last-cong n (λ j l. h j (omega arith)))
+
+-- the invariant of a search loop that counts down: the test has held nowhere from i on
+abbrev pub NoneAbove : (ℕ → Bool) → ℕ → ℕ → Type 0
+NoneAbove p n i = (i ≤ n) × ((k : ℕ) → i ≤ k → k < n → p k ≡ false)
+
+pub none-above : (p : ℕ → Bool) (n : ℕ) → NoneAbove p n n
+none-above p n = (omega arith, λ k l r. absurd (omega arith))
+
+pub none-lower : (p : ℕ → Bool) (n i : ℕ) → NoneAbove p n i → 0 < i → p (i - 1) ≡ false → NoneAbove p n (i - 1)
+none-lower p n i inv h f = (omega (arith, inv .0), λ k l r. pick k l r (ℕ-discrete k (i - 1)))
+  where
+    pick : (k : ℕ) → i - 1 ≤ k → k < n → Dec (k ≡ i - 1) → p k ≡ false
+    pick k l r (yes e) = ap p e ∙ f
+    pick k l r (no e) = inv .1 k (omega arith) r
+
+-- such a loop ends in one of two ways
+pub after-last-at : (p : ℕ → Bool) (n i : ℕ) → NoneAbove p n i → 0 < i → p (i - 1) ≡ true → afterLast p n ≡ i
+after-last-at p n i inv h t =
+    after-last-unique (after-last-law p n)
+    (record { high = inv .0; after = inv .1; hit = λ j e. let f : j ≡ i - 1 = omega arith in ap p f ∙ t })
+
+pub after-last-none : (p : ℕ → Bool) (n i : ℕ) → NoneAbove p n i → i ≤ 0 → afterLast p n ≡ 0
+after-last-none p n i inv h =
+    after-last-unique (after-last-law p n)
+    (record { high = omega arith; after = λ j l r. inv .1 j (omega arith) r; hit = λ j e. absurd (omega arith) })

@@ -1,0 +1,53 @@
+-- A new rule against a table: is its id known, does it tie, is there room, and its neighbours A and B. Checks 5 to 10 of document 01.
+-- The new rule is given by its record's words, new.
+use mathlib.Core.Path.{_≡_, refl}
+use mathlib.Core.Bool.{Bool, true, false, cond}
+use mathlib.Core.List.{List}
+use Prim.Native.Nat.{ℕ, suc, _-_, _<_}
+use lib.Dec.{ltb}
+use Rattle.search.specs.Search.{any, any-some, any-none, least, afterLast}
+use Rattle.ternary.specs.Pattern.{Words}
+use Rattle.records.specs.Record.{slotWords, empty, soundRule}
+use Rattle.records.specs.Order.{slots, sameId, tied, precedes}
+use Rattle.records.specs.Checks.{lowest}
+use Rattle.records.specs.declared.Rule.{Rule}
+use Rattle.records.specs.declared.Cause.the-variants.{Rule as RuleCause, Known, Tie, Full, Crossed}
+use Rattle.records.specs.declared.Check.{Check}
+use Rattle.records.specs.declared.Check.the-variants.{Pass, Fail}
+
+-- 5: the rule is unsound
+unfoldable pub checkRule : ℕ → Rule → Check
+checkRule w rule = cond (soundRule w rule) Pass (Fail RuleCause 0)
+
+-- 6: the id is present, in the slot named
+unfoldable pub checkKnown : ℕ → List ℕ → Words → Check
+checkKnown w t new = lowest Known (λ (i : ℕ). sameId w (slotWords w t i) new) (slots w t)
+
+-- 8: overlap at equal priority, the lowest such slot
+unfoldable pub checkTie : ℕ → List ℕ → Words → Check
+checkTie w t new = lowest Tie (λ (i : ℕ). tied w (slotWords w t i) new) (slots w t)
+
+-- 9: no slot is empty
+unfoldable pub checkFull : ℕ → List ℕ → Check
+checkFull w t = cond (any (λ (i : ℕ). empty w (slotWords w t i)) (slots w t)) Pass (Fail Full 0)
+
+-- a loop over the slots ends in one of two ways
+pub room-at : (w : ℕ) (t : List ℕ) (i : ℕ) → i < slots w t → empty w (slotWords w t i) ≡ true → Pass ≡ checkFull w t
+unfolding checkFull
+room-at w t i h e = rw (any-some (λ (k : ℕ). empty w (slotWords w t k)) (slots w t) i h e)
+
+pub room-none : (w : ℕ) (t : List ℕ) → ((i : ℕ) → i < slots w t → empty w (slotWords w t i) ≡ false) → Fail Full 0 ≡ checkFull w t
+unfolding checkFull
+room-none w t f = rw (any-none (λ (k : ℕ). empty w (slotWords w t k)) (slots w t) f)
+
+-- A + 1, where A is the highest slot holding a rule that precedes the new one (−1 if none)
+unfoldable pub afterA : ℕ → List ℕ → Words → ℕ
+afterA w t new = afterLast (λ (i : ℕ). precedes w (slotWords w t i) new) (slots w t)
+
+-- B, the lowest slot holding a rule that depends on the new one (the number of slots if none)
+unfoldable pub slotB : ℕ → List ℕ → Words → ℕ
+slotB w t new = least (λ (i : ℕ). precedes w new (slotWords w t i)) (slots w t) 0
+
+-- 10: A > B, spot A
+unfoldable pub checkCrossed : ℕ → List ℕ → Words → Check
+checkCrossed w t new = cond (ltb (suc (slotB w t new)) (afterA w t new)) (Fail Crossed (afterA w t new - 1)) Pass
