@@ -2,3 +2,4 @@
 -- Lookup: a key's answer, and a slot's record as a part of the table.
 pub mod Lookup
 pub mod Neighbours
+pub mod Windows

@@ -2,6 +2,7 @@
 // Each contract is an equation for the reply on all inputs, refused ones too; specs/ has the definitions.
 pub mod lookup;
 pub mod neighbours;
+pub mod windows;
 
 use records::Cause;
 

@@ -1,0 +1,72 @@
+-- The windows of a table's rules, seen along one direction: position p is slot p going down, and slot n − 1 − p going up.
+-- One definition serves both directions; the planner works on these numbers alone.
+use mathlib.Core.Path.{_≡_, refl, sym, ap, _∙_}
+use mathlib.Core.Bool.{Bool, true, false, cond, false≢true, true≢false}
+use mathlib.Core.List.{List}
+use Prim.Native.Nat.{ℕ, suc, _+_, _-_, _≤_, _<_, min}
+use native.Mathlib.Omega.{arith}
+use Rattle.search.specs.Search.{least, Least, least-law, least-unique}
+use Rattle.records.specs.Record.{slotWords, empty}
+use Rattle.records.specs.Order.{slots, misordered}
+
+-- the slot at a position
+abbrev pub slotOf : ℕ → Bool → ℕ → ℕ
+slotOf n true p = n - suc p
+slotOf n false p = p
+
+-- the rule at position q, later along the direction, stands on the wrong side if it comes before the one at p
+unfoldable pub misplacedAt : ℕ → List ℕ → Bool → ℕ → ℕ → Bool
+misplacedAt w t true p q = misordered w (slotWords w t (slotOf (slots w t) true p)) (slotWords w t (slotOf (slots w t) true q))
+misplacedAt w t false p q = misordered w (slotWords w t (slotOf (slots w t) false q)) (slotWords w t (slotOf (slots w t) false p))
+
+-- one past the last position of p's window: the nearest such rule, or the last position
+unfoldable pub windowEndAt : ℕ → List ℕ → Bool → ℕ → ℕ
+windowEndAt w t up p = min (suc (least (misplacedAt w t up p) (slots w t - suc p) (suc p))) (slots w t)
+
+-- the planner's number for a position: 0 where it is empty, else the end of its window
+unfoldable pub endAt : ℕ → List ℕ → Bool → ℕ → ℕ
+endAt w t up p = cond (empty w (slotWords w t (slotOf (slots w t) up p))) 0 (windowEndAt w t up p)
+
+pub slot-of-inside : (n : ℕ) (up : Bool) (p : ℕ) → p < n → slotOf n up p < n
+slot-of-inside n true p h = omega arith
+slot-of-inside n false p h = h
+
+-- the pair that is tested going up, and going down
+pub misplaced-up : (w : ℕ) (t : List ℕ) (up : Bool) (p q : ℕ) → up ≡ true
+    → misordered w (slotWords w t (slotOf (slots w t) up p)) (slotWords w t (slotOf (slots w t) up q)) ≡ misplacedAt w t up p q
+unfolding misplacedAt
+misplaced-up w t true p q e = refl
+misplaced-up w t false p q e = absurd (false≢true e)
+
+pub misplaced-down : (w : ℕ) (t : List ℕ) (up : Bool) (p q : ℕ) → up ≡ false
+    → misordered w (slotWords w t (slotOf (slots w t) up q)) (slotWords w t (slotOf (slots w t) up p)) ≡ misplacedAt w t up p q
+unfolding misplacedAt
+misplaced-down w t true p q e = absurd (true≢false e)
+misplaced-down w t false p q e = refl
+
+-- a loop over the later positions ends in one of two ways
+pub window-found : (w : ℕ) (t : List ℕ) (up : Bool) (p q : ℕ) → p < q → q < slots w t
+    → ((k : ℕ) → suc p ≤ k → k < q → misplacedAt w t up p k ≡ false) → misplacedAt w t up p q ≡ true → windowEndAt w t up p ≡ q + 1
+unfolding windowEndAt
+window-found w t up p q l h f e =
+    let at : least (misplacedAt w t up p) (slots w t - suc p) (suc p) ≡ q =
+        least-unique (least-law (misplacedAt w t up p) (slots w t - suc p) (suc p))
+        (record { low = l; high = omega arith; before = f; hit = λ _. e }) in
+    omega arith
+
+pub window-open : (w : ℕ) (t : List ℕ) (up : Bool) (p : ℕ) → p < slots w t
+    → ((k : ℕ) → suc p ≤ k → k < slots w t → misplacedAt w t up p k ≡ false) → windowEndAt w t up p ≡ slots w t
+unfolding windowEndAt
+window-open w t up p h f =
+    let at : least (misplacedAt w t up p) (slots w t - suc p) (suc p) ≡ slots w t =
+        least-unique (least-law (misplacedAt w t up p) (slots w t - suc p) (suc p))
+        (record { low = h; high = omega arith; before = f; hit = λ l. absurd (omega arith) }) in
+    omega arith
+
+pub end-high : (w : ℕ) (t : List ℕ) (up : Bool) (p : ℕ) → endAt w t up p ≤ slots w t
+unfolding endAt windowEndAt
+end-high w t up p = pick (empty w (slotWords w t (slotOf (slots w t) up p)))
+  where
+    pick : (b : Bool) → cond b 0 (min (suc (least (misplacedAt w t up p) (slots w t - suc p) (suc p))) (slots w t)) ≤ slots w t
+    pick true = omega arith
+    pick false = omega arith

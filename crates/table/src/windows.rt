@@ -1,0 +1,50 @@
+// The windows of a table's rules along one direction, for the planner: position p is slot p going down, slot n − 1 − p going up.
+// Words are read in the table itself; the numbers go into a lent array.
+use records::slot::{misordered_pair, slot_empty};
+ghost use mathlib.Core.Path.{_≡_};
+ghost use mathlib.Core.List.{_++_};
+ghost use Prim.Native.Nat.{_≤_, _<_, _/_};
+ghost use lib.ListN.{length, drop};
+ghost use Rattle.records.specs.Record.{listed};
+ghost use Rattle.table.specs.Windows.{slotOf, misplacedAt, windowEndAt, endAt};
+
+// The slot at a position.
+pub fn slot_of(slots: usize, up: bool, position: usize) -> usize
+    requires { ⌜ position < slots ⌝ }
+    ensures { λ r. ⌜ r ≡ slotOf slots up position ⌝ }
+{
+    if up {
+        return slots - (position + 1);
+    }
+    position
+}
+
+// Whether the rule at a later position may not come before the one at a position.
+fn misplaced_pair(table: &[u64], up: bool, position: usize, later: usize) -> bool
+    requires { ⌜ (position < length (now table) / 6) × (later < length (now table) / 6) ⌝ }
+    ensures { λ r. ⌜ r ≡ misplacedAt 2 (now (table .entry)) up position later ⌝ }
+{
+    let slots = table.len() / 6;
+    let slot = slot_of(slots, up, position);
+    let other = slot_of(slots, up, later);
+    if up {
+        return misordered_pair(table, slot, table, other);
+    }
+    misordered_pair(table, other, table, slot)
+}
+
+// One past the last position of a window.
+fn window_end(table: &[u64], up: bool, position: usize) -> usize
+    requires { ⌜ position < length (now table) / 6 ⌝ }
+    ensures { λ r. ⌜ r ≡ windowEndAt 2 (now (table .entry)) up position ⌝ }
+{
+    let slots = table.len() / 6;
+    let mut later = position + 1;
+    while later < slots {
+        if misplaced_pair(table, up, position, later) {
+            return later + 1;
+        }
+        later += 1;
+    }
+    slots
+}
