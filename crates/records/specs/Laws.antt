@@ -13,10 +13,10 @@ use lib.Arith.{digits-div, digits-mod}
 use lib.Dec.{eqb, ltb, leb}
 use lib.ListN.{length, getD}
 use borrow.Author.Tests.{eqb-true, eqb-false, eq-eqb, ne-eqb, leb-true, le-leb, lt-ltb, le-ltb, ltb-true, ltb-false, leb-false, lt-leb, not-true}
-use Rattle.search.specs.Search.{all-law, least, Least, least-law, any, any-no, any-none, decided, and-left, and-right, and-both}
+use Rattle.search.specs.Search.{all-law, least, Least, least-law, any, any-no, any-none, decided, and-law, and-left, and-right, and-both}
 use Rattle.ternary.specs.Pattern.{Words, Overlap, overlaps, overlaps-law, Matches, matches, matches-law, matches-cong, Within, within, within-law}
 use Rattle.records.specs.Record.{recordWords, slotWords, value, mask, ident, rank, empty, occupied, sound, soundParts, slotMatches, patternMatches}
-use Rattle.records.specs.Order.{slots, overlapping, sameId, distinct, misordered, Ordered, InOrder}
+use Rattle.records.specs.Order.{slots, overlapping, sameId, distinct, precedes, tied, misordered, Ordered, InOrder}
 use Rattle.records.specs.Checks.{causeNumber, Told, refusal, unless, orElse, lowest, lowest-at, lowest-none, shaped, checkShape, slotChecks, tableChecks, unsoundAt, checkRecords, twiceAt, checkTwice, disorderAt, checkOrder, firstMatch}
 use Rattle.records.specs.declared.Cause.{Cause}
 use Rattle.records.specs.declared.Cause.the-variants.{Shape, Record, Twice, Order, Rule, Known, Unknown, Tie, Full, Crossed, Short, Write, Line, Image}
@@ -159,6 +159,12 @@ lowest-fail cause p n spot = (λ e. to (decided (ltb (least p n 0) n)) e, λ f. 
         (omega arith, ap p (sym at) ∙ l .hit (omega arith), λ i k. l .before i (omega arith) (omega arith))
     to (inr s) e = absurd (pass-fail (sym (sym (ap (λ (b : Bool). cond b (Fail cause (least p n 0)) Pass) s) ∙ e)))
 
+-- a row fails as its first failing part does
+pub or-else-fail : (x y : Check) (cause : Cause) (spot : ℕ)
+    → (orElse x y ≡ Fail cause spot) ↔ ((x ≡ Fail cause spot) ⊎ ((x ≡ Pass) × (y ≡ Fail cause spot)))
+or-else-fail Pass y cause spot = (λ e. inr (refl, e), λ p. ⊎-elim (λ e. absurd (pass-fail (sym e))) (λ e. e .1) p)
+or-else-fail (Fail c s) y cause spot = (λ e. inl e, λ p. ⊎-elim (λ e. e) (λ e. absurd (pass-fail (e .0))) p)
+
 -- an empty slot: each of its words is zero
 pub empty-law : (w : ℕ) (x : Words) → (empty w x ≡ true) ↔ ((j : ℕ) → j < recordWords w → x j ≡ 0)
 unfolding empty
@@ -223,6 +229,13 @@ records-law w t =
     from false false (inl h) = absurd (false≢true h)
     from false false (inr h) = absurd (false≢true h)
 
+-- and it names the lowest slot that is neither
+pub records-fail : (w : ℕ) (t : List ℕ) (spot : ℕ)
+    → (checkRecords w t ≡ Fail Record spot)
+    ↔ ((spot < slots w t) × (unsoundAt w t spot ≡ true) × ((i : ℕ) → i < spot → unsoundAt w t i ≡ false))
+unfolding checkRecords
+records-fail w t spot = lowest-fail Record (unsoundAt w t) (slots w t) spot
+
 -- a check of each slot against the earlier ones passes exactly when no two slots fail the test
 earlier-law : (cause : Cause) (p : ℕ → ℕ → Bool) (n : ℕ)
     → (lowest cause (λ (j : ℕ). any (λ (i : ℕ). p i j) j) n ≡ Pass) ↔ ((x y : ℕ) → x < y → y < n → p x y ≡ false)
@@ -236,6 +249,12 @@ pub twice-law : (w : ℕ) (t : List ℕ)
 unfolding checkTwice twiceAt
 twice-law w t = earlier-law Twice (λ (x y : ℕ). sameId w (slotWords w t x) (slotWords w t y)) (slots w t)
 
+pub twice-fail : (w : ℕ) (t : List ℕ) (spot : ℕ)
+    → (checkTwice w t ≡ Fail Twice spot)
+    ↔ ((spot < slots w t) × (twiceAt w t spot ≡ true) × ((i : ℕ) → i < spot → twiceAt w t i ≡ false))
+unfolding checkTwice
+twice-fail w t spot = lowest-fail Twice (twiceAt w t) (slots w t) spot
+
 -- one id in two slots: both occupied, the ids equal
 pub same-id-law : (w : ℕ) (a b : Words) → (sameId w a b ≡ true) ↔ ((occupied w a ≡ true) × (occupied w b ≡ true) × (ident w a ≡ ident w b))
 unfolding sameId
@@ -246,37 +265,58 @@ same-id-law w a b =
       λ s. and-both i o (eq-eqb _ _ (s .2)) (and-both (occupied w a) (occupied w b) (s .0) (s .1)),
     )
 
--- a pair out of order: two rules of different ids that overlap, the earlier with no higher priority
-pub misordered-law : (w : ℕ) (a b : Words)
-    → (misordered w a b ≡ true)
-    ↔ ((occupied w a ≡ true) × (occupied w b ≡ true) × (ident w a ≡ ident w b → ⊥)
-    × Overlap w (value a) (mask w a) (value b) (mask w b) × (rank w a ≤ rank w b))
-unfolding misordered distinct
-misordered-law w a b =
+-- Two rules of different ids that overlap: what every comparison of two slots asks besides their priorities.
+abbrev pub Overlapping : ℕ → Words → Words → Type 0
+Overlapping w a b =
+    (occupied w a ≡ true) × (occupied w b ≡ true) × (ident w a ≡ ident w b → ⊥) × Overlap w (value a) (mask w a) (value b) (mask w b)
+
+pair-law : (w : ℕ) (a b : Words) (test : Bool)
+    → ((overlapping w a b && test) && distinct w a b ≡ true) ↔ (Overlapping w a b × (test ≡ true))
+unfolding distinct
+pair-law w a b test =
     let over = overlapping w a b in
-    let low = leb (rank w a) (rank w b) in
     let same = eqb (ident w a) (ident w b) in
     let rules = occupied w a && occupied w b in
-    let law = overlaps-law w (value a) (mask w a) (value b) (mask w b) in (
-      λ e. let l = and-left (over && low) (not same && rules) e in
-          let r = and-right (over && low) (not same && rules) e in
-          let o = and-right (not same) rules r in (
-            and-left (occupied w a) (occupied w b) o,
-            and-right (occupied w a) (occupied w b) o,
-            eqb-false (ident w a) (ident w b) (not-true same (and-left (not same) rules r)),
-            law .0 (and-left over low l),
-            leb-true (rank w a) (rank w b) (and-right over low l),
-          ),
-      λ s. and-both (over && low) (not same && rules)
-          (and-both over low (law .1 (s .3)) (le-leb (rank w a) (rank w b) (s .4)))
-          (and-both (not same) rules (ap not (ne-eqb (ident w a) (ident w b) (s .2))) (and-both (occupied w a) (occupied w b) (s .0) (s .1))),
+    let law = overlaps-law w (value a) (mask w a) (value b) (mask w b) in
+    let whole = and-law (over && test) (not same && rules) in
+    let left = and-law over test in
+    let right = and-law (not same) rules in
+    let both = and-law (occupied w a) (occupied w b) in (
+      λ e. let p = whole .0 e in
+          let l = left .0 (p .0) in
+          let r = right .0 (p .1) in
+          let o = both .0 (r .1) in
+          ((o .0, o .1, eqb-false (ident w a) (ident w b) (not-true same (r .0)), law .0 (l .0)), l .1),
+      λ s. whole .1 (left .1 (law .1 (s .0 .3), s .1), right .1 (ap not (ne-eqb (ident w a) (ident w b) (s .0 .2)), both .1 (s .0 .0, s .0 .1))),
     )
+
+-- a pair out of order: the earlier of two overlapping rules has no higher priority
+pub misordered-law : (w : ℕ) (a b : Words) → (misordered w a b ≡ true) ↔ (Overlapping w a b × (rank w a ≤ rank w b))
+unfolding misordered
+misordered-law w a b =
+    let l = pair-law w a b (leb (rank w a) (rank w b)) in
+    (λ e. let p = l .0 e in (p .0, leb-true _ _ (p .1)), λ s. l .1 (s .0, le-leb _ _ (s .1)))
+
+-- document 01: the higher of an overlapping pair precedes the other
+pub precedes-law : (w : ℕ) (a b : Words) → (precedes w a b ≡ true) ↔ (Overlapping w a b × (rank w b < rank w a))
+unfolding precedes
+precedes-law w a b =
+    let l = pair-law w a b (ltb (rank w b) (rank w a)) in
+    (λ e. let p = l .0 e in (p .0, ltb-true _ _ (p .1)), λ s. l .1 (s .0, lt-ltb _ _ (s .1)))
+
+-- document 01: overlap at equal priority
+pub tied-law : (w : ℕ) (a b : Words) → (tied w a b ≡ true) ↔ (Overlapping w a b × (rank w a ≡ rank w b))
+unfolding tied
+tied-law w a b =
+    let l = pair-law w a b (eqb (rank w a) (rank w b)) in
+    (λ e. let p = l .0 e in (p .0, eqb-true _ _ (p .1)), λ s. l .1 (s .0, eq-eqb _ _ (s .1)))
 
 pub ordered-law : (w : ℕ) (a b : Words) → (misordered w a b ≡ false) ↔ Ordered w a b
 ordered-law w a b =
     let law = misordered-law w a b in (
-      λ e oa ob d o. higher (decLe (rank w a) (rank w b)) (λ l. true≢false (sym (law .1 (oa, ob, d, o, l)) ∙ e)),
-      λ f. ⊎-elim (λ e. absurd (let s = law .0 e in let h = f (s .0) (s .1) (s .2) (s .3) in omega (arith, s .4))) (λ e. e) (decided (misordered w a b)),
+      λ e oa ob d o. higher (decLe (rank w a) (rank w b)) (λ l. true≢false (sym (law .1 ((oa, ob, d, o), l)) ∙ e)),
+      λ f. ⊎-elim
+          (λ e. absurd (let s = law .0 e in let h = f (s .0 .0) (s .0 .1) (s .0 .2) (s .0 .3) in omega (arith, s .1))) (λ e. e) (decided (misordered w a b)),
     )
   where
     higher : Dec (rank w a ≤ rank w b) → (rank w a ≤ rank w b → ⊥) → rank w b < rank w a
@@ -291,3 +331,46 @@ order-law w t =
       λ e x y h k. ordered-law w (slotWords w t x) (slotWords w t y) .0 (l .0 e x y h k),
       λ f. l .1 (λ x y h k. ordered-law w (slotWords w t x) (slotWords w t y) .1 (f x y h k)),
     )
+
+pub order-fail : (w : ℕ) (t : List ℕ) (spot : ℕ)
+    → (checkOrder w t ≡ Fail Order spot)
+    ↔ ((spot < slots w t) × (disorderAt w t spot ≡ true) × ((i : ℕ) → i < spot → disorderAt w t i ≡ false))
+unfolding checkOrder
+order-fail w t spot = lowest-fail Order (disorderAt w t) (slots w t) spot
+
+-- of two rules one precedes the other exactly when the one order of them is out of order and the other is not
+pub precedes-misordered : (w : ℕ) (a b : Words) → precedes w a b ≡ true → (misordered w b a ≡ true) × (misordered w a b ≡ false)
+precedes-misordered w a b e =
+    let s = precedes-law w a b .0 e in
+    let o = s .0 in (
+      misordered-law w b a .1 ((o .1, o .0, λ i. o .2 (sym i), λ j h i c. o .3 j h i (c .1, c .0, λ f. c .2 (sym f))), omega (arith, s .1)),
+      ordered-law w a b .1 (λ oa ob d ov. s .1),
+    )
+
+-- a hit's id is not 0: so id 0 tells a miss
+pub hit-id : (w : ℕ) (t : List ℕ) (key : Words) → slotChecks w t ≡ Pass → firstMatch w t key < slots w t
+    → ident w (slotWords w t (firstMatch w t key)) ≡ 0 → ⊥
+unfolding slotChecks
+hit-id w t key e h =
+    let l = first-match-law w t key in
+    let m = slot-matches-law w key (slotWords w t (firstMatch w t key)) .0 (l .hit h) in
+    let r = records-law w t .0 (or-else-pass (checkShape w t) (checkRecords w t) .0 e .1) (firstMatch w t key) h in
+    pick r (m .0)
+  where
+    pick : (empty w (slotWords w t (firstMatch w t key)) ≡ true) ⊎ (sound w (slotWords w t (firstMatch w t key)) ≡ true)
+        → occupied w (slotWords w t (firstMatch w t key)) ≡ true → ident w (slotWords w t (firstMatch w t key)) ≡ 0 → ⊥
+    pick (inl a) o = absurd (true≢false (sym o ∙ ap not a))
+    pick (inr s) o = sound-law w _ _ _ _ .0 s .0
+
+-- document 01: highest priority match. In a table that passes checks 3 and 4 every other match has a lower priority than the first.
+pub highest-match : (w : ℕ) (t : List ℕ) (key : Words) → checkTwice w t ≡ Pass → checkOrder w t ≡ Pass → (j : ℕ) → j < slots w t
+    → slotMatches w key (slotWords w t j) ≡ true → firstMatch w t key < j → rank w (slotWords w t j) < rank w (slotWords w t (firstMatch w t key))
+highest-match w t key twice order j h m less =
+    let f = firstMatch w t key in
+    let l = first-match-law w t key in
+    let a = slot-matches-law w key (slotWords w t f) .0 (l .hit (omega arith)) in
+    let b = slot-matches-law w key (slotWords w t j) .0 m in
+    let d = twice-law w t .0 twice f j less h in
+    order-law w t .0 order f j less h (a .0) (b .0)
+    (λ same. true≢false (sym (same-id-law w (slotWords w t f) (slotWords w t j) .1 (a .0, b .0, same)) ∙ d))
+    (λ k hk i c. c .2 (sym (a .1 k hk i (c .0)) ∙ b .1 k hk i (c .1)))

@@ -16,21 +16,21 @@ slots w t = length t / recordWords w
 abbrev pub overlapping : ℕ → Words → Words → Bool
 overlapping w a b = overlaps w (value a) (mask w a) (value b) (mask w b)
 
+-- two rules of different ids: copies of one id are not compared with each other
+unfoldable pub distinct : ℕ → Words → Words → Bool
+distinct w a b = not (eqb (ident w a) (ident w b)) && (occupied w a && occupied w b)
+
 -- document 01: the higher of an overlapping pair precedes the other, which depends on it
 unfoldable pub precedes : ℕ → Words → Words → Bool
-precedes w a b = (overlapping w a b && ltb (rank w b) (rank w a)) && (occupied w a && occupied w b)
+precedes w a b = (overlapping w a b && ltb (rank w b) (rank w a)) && distinct w a b
 
 -- document 01: an overlap at equal priority
 unfoldable pub tied : ℕ → Words → Words → Bool
-tied w a b = (overlapping w a b && eqb (rank w a) (rank w b)) && (occupied w a && occupied w b)
+tied w a b = (overlapping w a b && eqb (rank w a) (rank w b)) && distinct w a b
 
 -- one id stands in both slots
 unfoldable pub sameId : ℕ → Words → Words → Bool
 sameId w a b = eqb (ident w a) (ident w b) && (occupied w a && occupied w b)
-
--- two rules of different ids: copies of one id are not compared with each other
-unfoldable pub distinct : ℕ → Words → Words → Bool
-distinct w a b = not (eqb (ident w a) (ident w b)) && (occupied w a && occupied w b)
 
 -- a standing before b is out of order: two rules that overlap, and a's priority is not higher
 unfoldable pub misordered : ℕ → Words → Words → Bool

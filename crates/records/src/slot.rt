@@ -191,7 +191,7 @@ pub fn tied_pair(table: &[u64], slot: usize, others: &[u64], other: usize) -> bo
     let overlap = slots_overlap(table, slot, others, other);
     let equal = slot_word(table, slot, 5) == slot_word(others, other, 5);
     if overlap & equal {
-        return both_occupied(table, slot, others, other);
+        return distinct_rules(table, slot, others, other);
     }
     false
 }
@@ -204,7 +204,7 @@ pub fn precedes_pair(table: &[u64], slot: usize, others: &[u64], other: usize) -
     let overlap = slots_overlap(table, slot, others, other);
     let higher = slot_word(others, other, 5) < slot_word(table, slot, 5);
     if overlap & higher {
-        return both_occupied(table, slot, others, other);
+        return distinct_rules(table, slot, others, other);
     }
     false
 }

@@ -50,8 +50,8 @@ pub window-found : (w : ℕ) (t : List ℕ) (up : Bool) (p q : ℕ) → p < q �
 unfolding windowEndAt
 window-found w t up p q l h f e =
     let at : least (misplacedAt w t up p) (slots w t - suc p) (suc p) ≡ q =
-        least-unique (least-law (misplacedAt w t up p) (slots w t - suc p) (suc p))
-        (record { low = l; high = omega arith; before = f; hit = λ _. e }) in
+    least-unique (least-law (misplacedAt w t up p) (slots w t - suc p) (suc p))
+    (record { low = l; high = omega arith; before = f; hit = λ _. e }) in
     omega arith
 
 pub window-open : (w : ℕ) (t : List ℕ) (up : Bool) (p : ℕ) → p < slots w t
@@ -59,8 +59,8 @@ pub window-open : (w : ℕ) (t : List ℕ) (up : Bool) (p : ℕ) → p < slots w
 unfolding windowEndAt
 window-open w t up p h f =
     let at : least (misplacedAt w t up p) (slots w t - suc p) (suc p) ≡ slots w t =
-        least-unique (least-law (misplacedAt w t up p) (slots w t - suc p) (suc p))
-        (record { low = h; high = omega arith; before = f; hit = λ l. absurd (omega arith) }) in
+    least-unique (least-law (misplacedAt w t up p) (slots w t - suc p) (suc p))
+    (record { low = h; high = omega arith; before = f; hit = λ l. absurd (omega arith) }) in
     omega arith
 
 pub end-high : (w : ℕ) (t : List ℕ) (up : Bool) (p : ℕ) → endAt w t up p ≤ slots w t

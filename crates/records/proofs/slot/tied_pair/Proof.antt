@@ -1,5 +1,5 @@
 -- `records::slot::tied_pair` meets its contract.
--- The cheap tests first; both slots occupied only where they hold.
+-- The cheap tests first; two rules of different ids only where they hold.
 use mathlib.Core.Bool.{_&&_}
 use mathlib.Core.Path.{ap₂}
 use lib.Dec.{eqb}
@@ -18,12 +18,12 @@ slot-word-requires c κs = search needs
 slot-word-requires-2 : tie.Need-slot-word-requires-2
 slot-word-requires-2 c κs = search needs
 
-both-occupied-requires : tie.Need-both-occupied-requires
-both-occupied-requires c κs = search needs
+distinct-rules-requires : tie.Need-distinct-rules-requires
+distinct-rules-requires c κs = search needs
 
 returns : tie.Need-returns
 unfolding tied
-returns c = and-more (ap₂ _&&_ (c .before .before .before .before .slots-overlap .ensures) (ap₂ eqb (c .before .before .before .slot-word .ensures) (c .before .before .slot-word2 .ensures))) (c .before .if1 .taken) (c .both-occupied .ensures)
+returns c = and-more (ap₂ _&&_ (c .before .before .before .before .slots-overlap .ensures) (ap₂ eqb (c .before .before .before .slot-word .ensures) (c .before .before .slot-word2 .ensures))) (c .before .if1 .taken) (c .distinct-rules .ensures)
 
 returns-2 : tie.Need-returns-2
 unfolding tied
@@ -36,6 +36,6 @@ tied-pair-spec =
     slots-overlap-requires
     slot-word-requires
     slot-word-requires-2
-    both-occupied-requires
+    distinct-rules-requires
     returns
     returns-2)

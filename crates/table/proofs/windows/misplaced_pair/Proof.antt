@@ -26,9 +26,10 @@ slot-of-requires-2 c κs = search needs
 -- both slots exist
 inside : (c : tie.After-slot-of2) → (c .before .slot-of .result < length (now (c .before .before .before .args .table)) / 6) × (c .slot-of2 .result < length (now (c .before .before .before .args .table)) / 6)
 inside c =
-    let a = c .before .before .before .args in
-    (omega (arith, c .before .slot-of .ensures, slot-of-inside (length (now (a .table)) / 6) (a .up) (a .position) (omega arith)),
-     omega (arith, c .slot-of2 .ensures, slot-of-inside (length (now (a .table)) / 6) (a .up) (a .later) (omega arith)))
+    let a = c .before .before .before .args in (
+      omega (arith, c .before .slot-of .ensures, slot-of-inside (length (now (a .table)) / 6) (a .up) (a .position) (omega arith)),
+      omega (arith, c .slot-of2 .ensures, slot-of-inside (length (now (a .table)) / 6) (a .up) (a .later) (omega arith)),
+    )
 
 misordered-pair-requires : tie.Need-misordered-pair-requires
 misordered-pair-requires c κs = inside (c .before)
