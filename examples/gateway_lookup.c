@@ -4,7 +4,7 @@
 #include <stdio.h>
 #include "tcam.h"
 
-/* destination / length with any port, or one port where port_mask is 0xFFFF */
+/* an address and a port, as a value, a mask or a key */
 #define KEY(a, b, c, d, port) \
     ((uint64_t)(a) << 56 | (uint64_t)(b) << 48 | (uint64_t)(c) << 40 | (uint64_t)(d) << 32 | (uint64_t)(port) << 16)
 #define RULE(id, priority, value, mask, action) (value), 0, (mask), 0, TCAM_ID_ACTION(id, action), (priority)

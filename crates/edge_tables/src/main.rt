@@ -1,5 +1,5 @@
 // Test program: tables at the edge of document 01, looked up and checked; what it prints is held to the file stdout.
-// Answers are printed as the script program prints them: A slot id action, M, R number spot; C for a table that passes checks 1 to 4.
+// A slot id action, M (miss), R number spot; C: passes checks 1 to 4; W words last: a slot's record; S 0 or 1: is a rule sound.
 ghost use mathlib.Core.Path.{_≡_};
 ghost use lib.ListN.{length};
 use records::Cause;
@@ -8,6 +8,8 @@ use records::Rule;
 use records::cause_number;
 use records::checks::check_table;
 use records::rules::record_of;
+use records::rules::rule_of;
+use records::rules::rule_sound;
 use records::slot::put_record;
 use table::LookupAnswer;
 use table::lookup::lookup;
@@ -128,6 +130,15 @@ fn soundness(table: &mut [u64]) {
     check_with(table, 1, rule(5, 65536, 4, 4));
 }
 
+// Whether a rule with this priority is sound, and whether the rule of its record is.
+fn show_sound(priority: u32) {
+    let given = rule(5, priority, 4, 4);
+    io::write_all(1, b"S");
+    number(rule_sound(given) as u64);
+    number(rule_sound(rule_of(record_of(given))) as u64);
+    io::write_all(1, b"\n");
+}
+
 fn id_zero(table: &mut [u64]) {
     show_record(table, 2);
     check_with(table, 1, rule(0, 5, 4, 4));
@@ -162,6 +173,9 @@ fn ids(table: &mut [u64]) {
 }
 
 fn small_tables() {
+    io::write_all(1, b"rules\n");
+    show_sound(65535);
+    show_sound(65536);
     let mut three = [0u64; 18];
     soundness(&mut three);
     id_zero(&mut three);

@@ -100,7 +100,7 @@ disorderAt w t j = any (λ (i : ℕ). misordered w (slotWords w t i) (slotWords 
 unfoldable pub checkOrder : ℕ → List ℕ → Check
 checkOrder w t = lowest Order (disorderAt w t) (slots w t)
 
--- checks 1 and 2, which every call makes first; checks 1 to 4, which a sound table passes
+-- checks 1 and 2, which lookup makes; checks 1 to 4, which a sound table passes
 unfoldable pub slotChecks : ℕ → List ℕ → Check
 slotChecks w t = orElse (checkShape w t) (checkRecords w t)
 

@@ -1,5 +1,5 @@
 -- What the words of a lent table mean: slot records, rules, order, the first match, and the checks that refuse a table.
--- Record: one slot. Order: two records, and a table's order. Checks: checks 1 to 4 of document 01 and the first match.
+-- Record: one slot. Order: two records, and a table's order. Checks: checks 1 to 4 and the first match. Laws, Rules: what these say.
 pub mod Record
 pub mod Order
 pub mod Checks

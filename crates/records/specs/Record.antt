@@ -3,7 +3,7 @@
 use mathlib.Core.Path.{_≡_, refl, sym, ap, _∙_}
 use mathlib.Core.Bool.{Bool, true, false, not, _&&_}
 use mathlib.Core.List.{List, [], _∷_, _++_}
-use Prim.Native.Nat.{ℕ, zero, suc, _+_, _*_, _/_, _%_, _^_, _<_, _≤_}
+use Prim.Native.Nat.{ℕ, zero, suc, _+_, _*_, _/_, _%_, min}
 use lib.Dec.{eqb, leb}
 use lib.ListN.{getD, take, drop}
 use Rattle.search.specs.Search.{all}
@@ -71,11 +71,11 @@ slotMatches w key x = patternMatches w key x && occupied w x
 unfoldable pub recordOf : ℕ → Rule → List ℕ
 recordOf w r = listed w (word (r .value)) ++ listed w (word (r .mask)) ++ (r .id * 4294967296 + r .action) ∷ r .priority ∷ []
 
--- the rule of a record
+-- the rule of a record; a priority word of more than 32 bits, which no sound record has, becomes the largest number of 32 bits
 unfoldable pub ruleOf : ℕ → Words → Rule
 ruleOf w x = record {
   id = ident w x;
-  priority = rank w x % 4294967296;
+  priority = min (rank w x) 4294967295;
   value = listed w (value x);
   mask = listed w (mask w x);
   action = action w x;

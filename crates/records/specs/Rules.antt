@@ -1,14 +1,15 @@
--- A rule and its slot record: each field of the record is the rule's, and there and back nothing is lost.
+-- A rule and its slot record: each field of the record is the rule's, and there and back nothing is lost where the priority has 32 bits.
 -- So the record, which a table holds, and the rule, which a call takes, say the same.
 use mathlib.Core.Path.{_≡_, refl, sym, ap, ap₂, _∙_}
 use mathlib.Core.Bool.{Bool, not, _&&_}
 use mathlib.Core.List.{List, [], _∷_, _++_}
-use Prim.Native.Nat.{ℕ, zero, suc, _+_, _-_, _*_, _/_, _%_, _≤_, _<_}
-use native.Mathlib.Nat.{div-add-mod', add-zero, mod-eq-of-lt}
-use native.Mathlib.Decide.{ℕ-discrete, decLt}
+use Prim.Native.Nat.{ℕ, zero, suc, _+_, _-_, _*_, _/_, _%_, _≤_, _<_, min}
+use native.Mathlib.Nat.{div-add-mod', add-zero}
+use native.Mathlib.Decide.{ℕ-discrete, decLt, decLe}
 use native.Mathlib.Omega.{arith}
 use lib.Arith.{digits-div, digits-mod}
 use lib.Dec.{eqb, leb}
+use borrow.Author.Tests.{le-leb, lt-leb}
 use lib.ListN.{length, getD, set, length-append, List·getD-append}
 use native.Mathlib.Numerals.{add-one, add-two, add-three, add-four, add-five}
 use lib.Seq.{getD-append-add, getD-at, ext-getD, sets-eq}
@@ -84,8 +85,11 @@ module _ (w : ℕ) (values masks : Words) (both priority : ℕ) where
       ap (λ (k : ℕ). getD parts (k + 1) 0) (sym front)
       ∙ getD-append-add (listed w values ++ listed w masks) (both ∷ priority ∷ []) 1 0
 
+kept : {x : ℕ} → x < 4294967296 → min x 4294967295 ≡ x
+kept h = omega arith
+
 -- a rule as the calls hold it: w words of value and of mask, id, priority and action of 32 bits
-pub record Held (w : ℕ) (r : Rule) : Type 0 where
+pub record Fields (w : ℕ) (r : Rule) : Type 0 where
   pub values : length (r .value) ≡ w
   pub masks : length (r .mask) ≡ w
   pub id32 : r .id < 4294967296
@@ -127,14 +131,14 @@ module _ (w : ℕ) (r : Rule) where
       ∙ sound-cong w (r .id) (r .priority) record-value record-mask
 
   -- there and back: the rule
-  pub rule-of-record : Held w r → ruleOf w (word (recordOf w r)) ≡ r
+  pub rule-of-record : Fields w r → ruleOf w (word (recordOf w r)) ≡ r
   unfolding ruleOf
   rule-of-record h =
       let v = listed-cong w record-value ∙ listed-words w (r .value) (h .values) in
       let m = listed-cong w record-mask ∙ listed-words w (r .mask) (h .masks) in
       let i = record-ident (h .action32) in
       let a = record-action (h .action32) in
-      let p = ap (λ (x : ℕ). x % 4294967296) record-rank ∙ mod-eq-of-lt (h .priority32) in
+      let p = ap (λ (x : ℕ). min x 4294967295) record-rank ∙ kept (h .priority32) in
       λ k. record { id = i k; priority = p k; value = v k; mask = m k; action = a k }
 
 -- back and there: the record
@@ -154,13 +158,27 @@ module _ (w : ℕ) (x : Words) (small : rank w x < 4294967296) where
           ap (λ (k : ℕ). word (recordOf w (ruleOf w x)) k) f ∙ (record-both w (ruleOf w x) ∙ (div-add-mod' (x (2 * w)) 4294967296 ∙ ap x (sym f)))
       pick (no l) (no d) (no f) =
           let last : j ≡ 2 * w + 1 = omega arith in
-          ap (λ (k : ℕ). word (recordOf w (ruleOf w x)) k) last ∙ (record-rank w (ruleOf w x) ∙ (mod-eq-of-lt small ∙ ap x (sym last)))
+          ap (λ (k : ℕ). word (recordOf w (ruleOf w x)) k) last ∙ (record-rank w (ruleOf w x) ∙ (kept small ∙ ap x (sym last)))
 
   pub record-of-rule : recordOf w (ruleOf w x) ≡ listed (recordWords w) x
   record-of-rule =
       ext-getD 0 (recordOf w (ruleOf w x)) (listed (recordWords w) x)
       (record-length w (ruleOf w x) ∙ sym (length-listed (recordWords w) x))
       (λ j l. let h : j < recordWords w = (let e = record-length w (ruleOf w x) in omega arith) in word-of-rule j h ∙ sym (word-listed (recordWords w) x j h))
+
+-- a record and its rule are sound alike, whatever the record's words
+pub rule-sound : (w : ℕ) (x : Words) → soundRule w (ruleOf w x) ≡ sound w x
+unfolding ruleOf soundParts
+rule-sound w x =
+    ap₂ (λ (p v : Bool). not (eqb (ident w x) 0) && p && v) (limit (rank w x))
+    (within-cong w (word-listed w (value x)) (word-listed w (mask w x)))
+  where
+    limit : (r : ℕ) → leb (min r 4294967295) 65535 ≡ leb r 65535
+    limit r = pick (decLe r 65535)
+      where
+        pick : Dec (r ≤ 65535) → leb (min r 4294967295) 65535 ≡ leb r 65535
+        pick (yes h) = le-leb (min r 4294967295) 65535 (omega arith) ∙ sym (le-leb r 65535 h)
+        pick (no h) = lt-leb (min r 4294967295) 65535 (omega arith) ∙ sym (lt-leb r 65535 (omega arith))
 
 -- six stores in a row put a record's words into a slot
 pub six-stores : (t : List ℕ) (i a b c d e f : ℕ) → i * 6 + 6 ≤ length t

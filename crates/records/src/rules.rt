@@ -3,7 +3,7 @@
 use crate::Rule;
 use crate::slot::parts_sound;
 ghost use mathlib.Core.Path.{_≡_};
-ghost use Prim.Native.Nat.{_/_, _%_};
+ghost use Prim.Native.Nat.{_/_, _%_, min};
 ghost use Rattle.records.specs.Record.{word, recordOf, ruleOf, soundRule};
 
 fn wide(number: u32) -> u64
@@ -26,19 +26,29 @@ pub fn lower_half(word: u64) -> u32
     (word % 4294967296) as u32
 }
 
+// A priority word as a rule's priority: more than 32 bits, as no sound record has, become the largest number of 32 bits.
+fn priority_of(word: u64) -> u32
+    ensures { λ r. ⌜ r ≡ min word 4294967295 ⌝ }
+{
+    if word < 4294967295 {
+        return word as u32;
+    }
+    4294967295
+}
+
 // The slot record of a rule.
 pub fn record_of(rule: Rule) -> [u64; 6]
     ensures { λ r. ⌜ r ≡ recordOf 2 rule ⌝ }
 {
     let value = rule.value;
     let mask = rule.mask;
-    let both = wide(rule.id) * 4294967296 + wide(rule.action);
+    let id_action = wide(rule.id) * 4294967296 + wide(rule.action);
     [
         value[0],
         value[1],
         mask[0],
         mask[1],
-        both,
+        id_action,
         wide(rule.priority),
     ]
 }
@@ -49,7 +59,7 @@ pub fn rule_of(words: [u64; 6]) -> Rule
 {
     Rule {
         id: upper_half(words[4]),
-        priority: lower_half(words[5]),
+        priority: priority_of(words[5]),
         value: [words[0], words[1]],
         mask: [words[2], words[3]],
         action: lower_half(words[4]),

@@ -1,5 +1,5 @@
 // One slot of a table, or two, read in the table itself.
-// Each function asks that the slots exist; the table may hold anything.
+// A function on slots asks that they exist; the table may hold anything.
 ghost use mathlib.Core.Path.{_≡_};
 ghost use mathlib.Core.List.{[], _∷_};
 ghost use mathlib.Core.Bool.{not, _&&_};

@@ -9,13 +9,15 @@ use Prim.Native.Nat.{ℕ, _+_, _*_, _<_}
 use native.Mathlib.Omega.{arith}
 use lib.Dec.{ltb}
 use lib.ListN.{length, take, drop, getD, length-take, length-drop}
-use borrow.Author.Tests.{lt-ltb, ltb-true}
-use Rattle.search.specs.Search.{decided, and-left, and-right, and-both}
+use native.Mathlib.Decide.{decLt}
+use borrow.Author.Tests.{lt-ltb, le-ltb, ltb-true}
+use Rattle.search.specs.Search.{Least, least-at, least-none, decided, and-left, and-right, and-both}
 use Rattle.ternary.specs.Pattern.{Words}
-use Rattle.records.specs.Record.{recordWords, slotWords, ident, action, occupied}
+use Rattle.records.specs.Record.{recordWords, slotWords, slotMatches, ident, action, occupied}
 use Rattle.records.specs.Order.{slots}
 use Rattle.records.specs.Checks.{Told, success, refusal, unless, passes, slotChecks, firstMatch}
-use Rattle.records.specs.Laws.{cause-number-once, slot-within}
+use Rattle.records.specs.Laws.{cause-number-once, slot-within, first-match-law, hit-id}
+use Rattle.records.specs.declared.Cause.{Cause}
 use Rattle.records.specs.declared.Check.{Check}
 use Rattle.records.specs.declared.Check.the-variants.{Pass, Fail}
 use Rattle.table.specs.declared.Hit.{Hit}
@@ -117,3 +119,73 @@ lookup-told-once (Refused c s) (Found g) e = absurd (counts e (λ n. omega arith
 lookup-told-once (Refused c s) Miss e = absurd (counts e (λ n. omega arith))
 lookup-told-once (Refused c s) (Refused d u) e =
     ap₂ Refused (cause-number-once c d (ap (λ (t : Told). t .number) e)) (ap (λ (t : Told). getD (t .values) 0 0) e)
+
+-- What lookup answers, in words: each case has its answer, and one of the cases holds.
+module _ (w : ℕ) (t : List ℕ) (key : Words) where
+  -- slot i is the lowest that matches
+  abbrev pub FirstAt : ℕ → Type 0
+  FirstAt i = (i < slots w t) × (slotMatches w key (slotWords w t i) ≡ true) × ((j : ℕ) → j < i → slotMatches w key (slotWords w t j) ≡ false)
+
+  abbrev pub NoMatch : Type 0
+  NoMatch = (j : ℕ) → j < slots w t → slotMatches w key (slotWords w t j) ≡ false
+
+  first-at : (i : ℕ) → FirstAt i → firstMatch w t key ≡ i
+  unfolding firstMatch
+  first-at i f = least-at (λ (k : ℕ). slotMatches w key (slotWords w t k)) (slots w t) i (f .0) (f .2) (f .1)
+
+  first-none : NoMatch → firstMatch w t key ≡ slots w t
+  unfolding firstMatch
+  first-none f = least-none (λ (k : ℕ). slotMatches w key (slotWords w t k)) (slots w t) f
+
+  match-hit : (i : ℕ) → FirstAt i → matchTold w t (firstMatch w t key) ≡ lookupTold (Found (hitAt w t i))
+  unfolding matchTold
+  match-hit i f = rw (first-at i f, lt-ltb i (slots w t) (f .0))
+
+  match-miss : NoMatch → matchTold w t (firstMatch w t key) ≡ lookupTold Miss
+  unfolding matchTold
+  match-miss f = rw (first-none f, le-ltb (slots w t) (slots w t) (omega arith))
+
+  pub lookup-hit : (i : ℕ) → slotChecks w t ≡ Pass → FirstAt i → lookupAnswer w t key ≡ lookupTold (Found (hitAt w t i))
+  unfolding lookupAnswer
+  lookup-hit i e f = rw e (match-hit i f)
+
+  pub lookup-miss : slotChecks w t ≡ Pass → NoMatch → lookupAnswer w t key ≡ lookupTold Miss
+  unfolding lookupAnswer
+  lookup-miss e f = rw e (match-miss f)
+
+  pub lookup-refused : (cause : Cause) (spot : ℕ) → slotChecks w t ≡ Fail cause spot → lookupAnswer w t key ≡ refusal cause spot
+  unfolding lookupAnswer
+  lookup-refused cause spot e = rw e
+
+  -- the reply: a hit's id and action, or nothing
+  pub reply-hit : (i : ℕ) → FirstAt i → reply w t key ≡ ident w (slotWords w t i) ∷ action w (slotWords w t i) ∷ []
+  unfolding hitAt
+  reply-hit i f = ap (λ (told : Told). drop 1 (told .values)) (match-hit i f)
+
+  pub reply-miss : NoMatch → reply w t key ≡ []
+  reply-miss f = ap (λ (told : Told). drop 1 (told .values)) (match-miss f)
+
+  -- a hit's id is not 0, so that id 0 in the cells of a C caller tells a miss
+  pub hit-not-zero : (i : ℕ) → slotChecks w t ≡ Pass → FirstAt i → ident w (slotWords w t i) ≡ 0 → ⊥
+  hit-not-zero i e f z =
+      hit-id w t key e (let at = first-at i f in omega (arith, f .0)) (ap (λ (k : ℕ). ident w (slotWords w t k)) (first-at i f) ∙ z)
+
+  -- the cases
+  pub data Case : Type 0 where
+    refusedBy : (cause : Cause) (spot : ℕ) → slotChecks w t ≡ Fail cause spot → Case
+    hit : (i : ℕ) → slotChecks w t ≡ Pass → FirstAt i → Case
+    miss : slotChecks w t ≡ Pass → NoMatch → Case
+
+  pub lookup-cases : Case
+  lookup-cases = by (slotChecks w t) refl
+    where
+      law : Least (λ (i : ℕ). slotMatches w key (slotWords w t i)) 0 (slots w t) (firstMatch w t key)
+      law = first-match-law w t key
+
+      found : slotChecks w t ≡ Pass → Dec (firstMatch w t key < slots w t) → Case
+      found e (yes h) = hit (firstMatch w t key) e (h, law .hit h, λ j l. law .before j (omega arith) l)
+      found e (no h) = miss e (λ j l. law .before j (omega arith) (omega arith))
+
+      by : (c : Check) → slotChecks w t ≡ c → Case
+      by Pass e = found e (decLt (firstMatch w t key) (slots w t))
+      by (Fail cause spot) e = refusedBy cause spot e

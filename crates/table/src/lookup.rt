@@ -20,11 +20,11 @@ fn hit_at(table: &[u64], slot: usize) -> Hit
     requires { ⌜ (length (now table) ≤ 6144) × (slot < length (now table) / 6) ⌝ }
     ensures { λ r. ⌜ r ≡ hitAt 2 (now (table .entry)) slot ⌝ }
 {
-    let both = slot_word(table, slot, 4);
+    let id_action = slot_word(table, slot, 4);
     Hit {
         slot: slot as u32,
-        id: upper_half(both),
-        action: lower_half(both),
+        id: upper_half(id_action),
+        action: lower_half(id_action),
     }
 }
 

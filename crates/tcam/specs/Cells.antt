@@ -1,5 +1,5 @@
 -- Lent cells after a call: on a success its data stands in the data cells, on a refusal its spot in the cell for it.
--- A cell that an answer does not name is left as it was.
+-- A success leaves the spot and a refusal leaves the data as they were; a miss, a success without data, puts 0 into the data cells.
 use mathlib.Core.Path.{_≡_, ap, _∙_}
 use mathlib.Core.Bool.{cond}
 use Prim.Native.Nat.{ℕ}

@@ -1,5 +1,5 @@
 // The C interface: each call on numbers and lent buffers only. include/tcam.h declares it and says what a caller owes.
-// A call returns 0, or the number of the cause why it declined; data goes to lent cells.
+// A call that can decline returns 0 or the number of the cause; data goes to lent cells.
 ghost use mathlib.Core.Path.{_≡_};
 ghost use Rattle.table.specs.Lookup.{partStart, partLength};
 ghost use Rattle.tcam.specs.Cells.{keyAnswer, dataCell, spotCell};
@@ -8,6 +8,7 @@ use table::LookupAnswer;
 use table::lookup::lookup;
 use table::lookup::slot_record;
 
+// Slot, id and action of the lowest-numbered slot that matches a key; all 0 for a miss.
 #[no_mangle]
 pub extern "C" fn tcam_lookup(
     table: &[u64],
@@ -44,6 +45,7 @@ pub extern "C" fn tcam_lookup(
     }
 }
 
+// A slot's record as a part of the table: its number of words, and in `first` the index of its first word.
 #[no_mangle]
 pub extern "C" fn tcam_slot_record(table: &[u64], slot: u32, first: &mut u32) -> u32
     ensures { λ r. ⌜ r ≡ partLength 2 (now (table .entry)) slot ⌝ }

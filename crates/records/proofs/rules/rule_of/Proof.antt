@@ -11,11 +11,11 @@ array-read-upper-half c = search needs
 upper-half-requires : tie.Need-upper-half-requires
 upper-half-requires c κs = search needs
 
-array-read-lower-half : tie.Need-array-read-lower-half
-array-read-lower-half c = search needs
+array-read-priority-of : tie.Need-array-read-priority-of
+array-read-priority-of c = search needs
 
-lower-half-requires : tie.Need-lower-half-requires
-lower-half-requires c κs = search needs
+priority-of-requires : tie.Need-priority-of-requires
+priority-of-requires c κs = search needs
 
 array-read-t13 : tie.Need-array-read-t13
 array-read-t13 c = search needs
@@ -29,15 +29,15 @@ array-read-t20 c = search needs
 array-read-t23 : tie.Need-array-read-t23
 array-read-t23 c = search needs
 
-array-read-lower-half-2 : tie.Need-array-read-lower-half-2
-array-read-lower-half-2 c = search needs
+array-read-lower-half : tie.Need-array-read-lower-half
+array-read-lower-half c = search needs
 
-lower-half-requires-2 : tie.Need-lower-half-requires-2
-lower-half-requires-2 c κs = search needs
+lower-half-requires : tie.Need-lower-half-requires
+lower-half-requires c κs = search needs
 
 returns : tie.Need-returns
 unfolding ruleOf listed
-returns c = rw (c .lower-half2 .ensures, c .before .lower-half .ensures, c .before .before .upper-half .ensures)
+returns c = rw (c .lower-half .ensures, c .before .priority-of .ensures, c .before .before .upper-half .ensures)
 
 pub rule-of-spec : {M : Type 1} → statement M
 rule-of-spec =
@@ -45,12 +45,12 @@ rule-of-spec =
     (tie.spec
     array-read-upper-half
     upper-half-requires
-    array-read-lower-half
-    lower-half-requires
+    array-read-priority-of
+    priority-of-requires
     array-read-t13
     array-read-t16
     array-read-t20
     array-read-t23
-    array-read-lower-half-2
-    lower-half-requires-2
+    array-read-lower-half
+    lower-half-requires
     returns)
