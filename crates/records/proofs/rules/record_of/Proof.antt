@@ -8,14 +8,14 @@ use Rattle.records.proofs.rules.record_of.Tie as tie
 wide-requires : tie.Need-wide-requires
 wide-requires c κs = search needs
 
-mul-both : tie.Need-mul-both
-mul-both c = search needs
+mul-id-action : tie.Need-mul-id-action
+mul-id-action c = search needs
 
 wide-requires-2 : tie.Need-wide-requires-2
 wide-requires-2 c κs = search needs
 
-add-both : tie.Need-add-both
-add-both c = search needs
+add-id-action : tie.Need-add-id-action
+add-id-action c = search needs
 
 array-read-t5 : tie.Need-array-read-t5
 array-read-t5 c = search needs
@@ -41,9 +41,9 @@ record-of-spec =
     tie.close
     (tie.spec
     wide-requires
-    mul-both
+    mul-id-action
     wide-requires-2
-    add-both
+    add-id-action
     array-read-t5
     array-read-t7
     array-read-t6
