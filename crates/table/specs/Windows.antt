@@ -2,11 +2,16 @@
 -- One definition serves both directions; the planner works on these numbers alone.
 use mathlib.Core.Path.{_≡_, refl, sym, ap, _∙_}
 use mathlib.Core.Bool.{Bool, true, false, cond, false≢true, true≢false}
-use mathlib.Core.List.{List}
+use mathlib.Core.List.{List, _++_}
 use Prim.Native.Nat.{ℕ, suc, _+_, _-_, _≤_, _<_, min}
 use native.Mathlib.Omega.{arith}
+use native.Mathlib.Numerals.{add-one}
+use lib.ListN.{length, getD, set, drop}
+use lib.Seq.{drop-cons, set-at, append-snoc}
+use Rattle.ternary.specs.Pattern.{Words}
 use Rattle.search.specs.Search.{least, Least, least-law, least-unique}
-use Rattle.records.specs.Record.{slotWords, empty}
+use Rattle.records.specs.Record.{slotWords, empty, listed}
+use Rattle.records.specs.Rules.{length-listed}
 use Rattle.records.specs.Order.{slots, misordered}
 
 -- the slot at a position
@@ -63,6 +68,10 @@ window-open w t up p h f =
     (record { low = h; high = omega arith; before = f; hit = λ l. absurd (omega arith) }) in
     omega arith
 
+pub window-high : (w : ℕ) (t : List ℕ) (up : Bool) (p : ℕ) → windowEndAt w t up p ≤ slots w t
+unfolding windowEndAt
+window-high w t up p = omega arith
+
 pub end-high : (w : ℕ) (t : List ℕ) (up : Bool) (p : ℕ) → endAt w t up p ≤ slots w t
 unfolding endAt windowEndAt
 end-high w t up p = pick (empty w (slotWords w t (slotOf (slots w t) up p)))
@@ -70,3 +79,20 @@ end-high w t up p = pick (empty w (slotWords w t (slotOf (slots w t) up p)))
     pick : (b : Bool) → cond b 0 (min (suc (least (misplacedAt w t up p) (slots w t - suc p) (suc p))) (slots w t)) ≤ slots w t
     pick true = omega arith
     pick false = omega arith
+
+-- a position that is empty, and one that is not
+pub end-empty : (w : ℕ) (t : List ℕ) (up : Bool) (p : ℕ) → empty w (slotWords w t (slotOf (slots w t) up p)) ≡ true → endAt w t up p ≡ 0
+unfolding endAt
+end-empty w t up p e = rw e
+
+pub end-window : (w : ℕ) (t : List ℕ) (up : Bool) (p : ℕ) → empty w (slotWords w t (slotOf (slots w t) up p)) ≡ false
+    → endAt w t up p ≡ windowEndAt w t up p
+unfolding endAt
+end-window w t up p e = rw e
+
+-- one store more of a list that is filled from the front
+pub fill-next : (f : Words) (d : List ℕ) (i : ℕ) → i < length d → set (listed i f ++ drop i d) i (f i) ≡ listed (i + 1) f ++ drop (i + 1) d
+unfolding listed
+fill-next f d i h =
+    rw (drop-cons d i 0 h, set-at (listed i f) (getD d i 0) (drop (suc i) d) (f i) i (length-listed i f), add-one)
+    (sym (append-snoc (listed i f) (f i) (drop (suc i) d)))

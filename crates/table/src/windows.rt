@@ -49,3 +49,29 @@ fn window_end(table: &[u64], up: bool, position: usize) -> usize
     }
     slots
 }
+
+// The planner's number for a position: 0 where it is empty, else the end of its window.
+fn end_at(table: &[u64], up: bool, position: usize) -> u16
+    requires { ⌜ (length (now table) ≤ 6144) × (position < length (now table) / 6) ⌝ }
+    ensures { λ r. ⌜ r ≡ endAt 2 (now (table .entry)) up position ⌝ }
+{
+    let slots = table.len() / 6;
+    let slot = slot_of(slots, up, position);
+    if slot_empty(table, slot) {
+        return 0;
+    }
+    window_end(table, up, position) as u16
+}
+
+// The numbers of all positions, into the front of a lent array.
+pub fn fill_ends(table: &[u64], up: bool, ends: &mut [u16])
+    requires { ⌜ (length (now table) ≤ 6144) × (length (now table) / 6 ≤ length (now ends)) ⌝ }
+    ensures { λ _. ⌜ now (ends .exit) ≡ listed (length (now (table .entry)) / 6) (endAt 2 (now (table .entry)) up) ++ drop (length (now (table .entry)) / 6) (now (ends .entry)) ⌝ }
+{
+    let slots = table.len() / 6;
+    let mut position = 0;
+    while position < slots {
+        ends[position] = end_at(table, up, position);
+        position += 1;
+    }
+}
