@@ -128,6 +128,10 @@ pub slot-checks-length : (w : ℕ) (t : List ℕ) → slotChecks w t ≡ Pass �
 unfolding slotChecks
 slot-checks-length w t e = shape-length w t (or-else-pass (checkShape w t) (checkRecords w t) .0 e .0)
 
+pub table-checks-length : (w : ℕ) (t : List ℕ) → tableChecks w t ≡ Pass → length t ≤ 1024 * recordWords w
+unfolding tableChecks
+table-checks-length w t e = slot-checks-length w t (or-else-pass (slotChecks w t) (orElse (checkTwice w t) (checkOrder w t)) .0 e .0)
+
 -- the lowest slot that fails a check, exactly
 pub lowest-pass : (cause : Cause) (p : ℕ → Bool) (n : ℕ) → (lowest cause p n ≡ Pass) ↔ ((i : ℕ) → i < n → p i ≡ false)
 unfolding lowest

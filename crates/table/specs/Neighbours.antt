@@ -1,15 +1,17 @@
 -- A new rule against a table: is its id known, does it tie, is there room, and its neighbours A and B. Checks 5 to 10 of document 01.
 -- The new rule is given by its record's words, new.
-use mathlib.Core.Path.{_≡_, refl}
+use mathlib.Core.Path.{_≡_, refl, ap}
 use mathlib.Core.Bool.{Bool, true, false, cond}
 use mathlib.Core.List.{List}
-use Prim.Native.Nat.{ℕ, suc, _-_, _<_}
+use Prim.Native.Nat.{ℕ, suc, _+_, _-_, _≤_, _<_}
+use native.Mathlib.Omega.{arith}
 use lib.Dec.{ltb}
-use Rattle.search.specs.Search.{any, any-some, any-none, least, afterLast}
+use borrow.Author.Tests.{lt-ltb, le-ltb}
+use Rattle.search.specs.Search.{any, any-some, any-none, least, least-law, afterLast, after-last-law}
 use Rattle.ternary.specs.Pattern.{Words}
-use Rattle.records.specs.Record.{slotWords, empty, soundRule}
+use Rattle.records.specs.Record.{slotWords, empty, soundRule, recordOf}
 use Rattle.records.specs.Order.{slots, sameId, tied, precedes}
-use Rattle.records.specs.Checks.{lowest}
+use Rattle.records.specs.Checks.{lowest, orElse, tableChecks}
 use Rattle.records.specs.declared.Rule.{Rule}
 use Rattle.records.specs.declared.Cause.the-variants.{Rule as RuleCause, Known, Tie, Full, Crossed}
 use Rattle.records.specs.declared.Check.{Check}
@@ -51,3 +53,45 @@ slotB w t new = least (λ (i : ℕ). precedes w new (slotWords w t i)) (slots w 
 -- 10: A > B, spot A
 unfoldable pub checkCrossed : ℕ → List ℕ → Words → Check
 checkCrossed w t new = cond (ltb (suc (slotB w t new)) (afterA w t new)) (Fail Crossed (afterA w t new - 1)) Pass
+
+-- A and B lie within the table
+pub after-a-high : (w : ℕ) (t : List ℕ) (new : Words) → afterA w t new ≤ slots w t
+unfolding afterA
+after-a-high w t new = after-last-law (λ (i : ℕ). precedes w (slotWords w t i) new) (slots w t) .high
+
+pub slot-b-high : (w : ℕ) (t : List ℕ) (new : Words) → slotB w t new ≤ slots w t
+unfolding slotB
+slot-b-high w t new = let l = least-law (λ (i : ℕ). precedes w new (slotWords w t i)) (slots w t) 0 in omega (arith, l .high)
+
+-- the code's comparison of the two
+pub crossed-yes : (w : ℕ) (t : List ℕ) (new : Words) (a b : ℕ) → a ≡ afterA w t new → b ≡ slotB w t new → b + 1 < a
+    → Fail Crossed (a - 1) ≡ checkCrossed w t new
+unfolding checkCrossed
+crossed-yes w t new a b e f h =
+    let l : suc (slotB w t new) < afterA w t new = omega arith in
+    rw (lt-ltb _ _ l) (ap (λ (x : ℕ). Fail Crossed (x - 1)) e)
+
+pub crossed-no : (w : ℕ) (t : List ℕ) (new : Words) (a b : ℕ) → a ≡ afterA w t new → b ≡ slotB w t new → a ≤ b + 1 → Pass ≡ checkCrossed w t new
+unfolding checkCrossed
+crossed-no w t new a b e f h = let l : afterA w t new ≤ suc (slotB w t new) = omega arith in rw (le-ltb _ _ l)
+
+-- a row that begins with check 5
+pub rule-refused : (w : ℕ) (rule : Rule) (next : Check) → soundRule w rule ≡ false → Fail RuleCause 0 ≡ orElse (checkRule w rule) next
+unfolding checkRule
+rule-refused w rule next e = rw e
+
+pub rule-accepted : (w : ℕ) (rule : Rule) {answer next : Check} → soundRule w rule ≡ true → answer ≡ next → answer ≡ orElse (checkRule w rule) next
+unfolding checkRule
+rule-accepted w rule e h = rw e h
+
+-- checks 6 and 8 to 10, in number order
+unfoldable pub newChecks : ℕ → List ℕ → Words → Check
+newChecks w t new = orElse (checkKnown w t new) (orElse (checkTie w t new) (orElse (checkFull w t) (checkCrossed w t new)))
+
+-- the record of a rule, as a table of one slot
+abbrev pub ruleWords : ℕ → Rule → Words
+ruleWords w rule = slotWords w (recordOf w rule) 0
+
+-- checks 1 to 10 of an insert: 7 does not apply
+unfoldable pub insertChecks : ℕ → List ℕ → Rule → Check
+insertChecks w t rule = orElse (tableChecks w t) (orElse (checkRule w rule) (newChecks w t (ruleWords w rule)))
