@@ -3,3 +3,5 @@
 pub mod Lookup
 pub mod Neighbours
 pub mod Windows
+pub mod Plans
+pub mod Deletes

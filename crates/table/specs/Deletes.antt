@@ -1,0 +1,73 @@
+-- Planning a delete: one emptying write. Checks 1 to 4, then 5 for id 0, 7 and 11 of document 01.
+-- A plan buffer is left as it was where the call declines, and past the count.
+use mathlib.Core.Path.{_≡_, refl, ap}
+use mathlib.Core.Bool.{Bool, true, false, cond, _&&_}
+use mathlib.Core.List.{List, [], _∷_}
+use Prim.Native.Nat.{ℕ, _+_, _*_, _<_, _≤_}
+use native.Mathlib.Omega.{arith}
+use lib.Dec.{eqb, ltb}
+use lib.ListN.{length}
+use borrow.Author.Tests.{lt-ltb, le-ltb, eq-eqb, ne-eqb}
+use Rattle.search.specs.Search.{least, least-law}
+use Rattle.records.specs.Record.{slotWords, ident, occupied}
+use Rattle.records.specs.Order.{slots}
+use Rattle.records.specs.Checks.{Told, orElse, tableChecks}
+use Rattle.records.specs.Laws.{or-else-pass, table-checks-length}
+use Rattle.records.specs.declared.Cause.the-variants.{Rule, Unknown}
+use Rattle.records.specs.declared.Check.{Check}
+use Rattle.records.specs.declared.Check.the-variants.{Pass, Fail}
+use Rattle.table.specs.Plans.{planAnswer, planBuffer}
+
+-- slot i holds the rule with this id
+unfoldable pub hasId : ℕ → List ℕ → ℕ → ℕ → Bool
+hasId w t id i = eqb (ident w (slotWords w t i)) id && occupied w (slotWords w t i)
+
+-- the lowest slot that holds it; the number of slots where none does
+unfoldable pub slotOfId : ℕ → List ℕ → ℕ → ℕ
+slotOfId w t id = least (hasId w t id) (slots w t) 0
+
+-- 5 for id 0 to delete, 7 for an id that is absent
+unfoldable pub checkId : ℕ → Check
+checkId id = cond (eqb id 0) (Fail Rule 0) Pass
+
+unfoldable pub checkUnknown : ℕ → List ℕ → ℕ → Check
+checkUnknown w t id = cond (ltb (slotOfId w t id) (slots w t)) Pass (Fail Unknown 0)
+
+unfoldable pub deleteChecks : ℕ → List ℕ → ℕ → Check
+deleteChecks w t id = orElse (tableChecks w t) (orElse (checkId id) (checkUnknown w t id))
+
+-- document 01: a delete is one emptying write
+abbrev pub deleteWords : ℕ → List ℕ → ℕ → List ℕ
+deleteWords w t id = (65534 * 65536 + slotOfId w t id) ∷ []
+
+-- the answer with a buffer of so many words, and the buffer afterwards
+abbrev pub deleteAnswer : ℕ → List ℕ → ℕ → ℕ → Told
+deleteAnswer w t id room = planAnswer (deleteChecks w t id) 1 room
+
+abbrev pub deletePlan : ℕ → List ℕ → ℕ → List ℕ → List ℕ
+deletePlan w t id plan = planBuffer (deleteChecks w t id) (deleteWords w t id) plan
+
+-- the code's tests of the id
+pub id-refused : (id : ℕ) (next : Check) → id ≡ 0 → Fail Rule 0 ≡ orElse (checkId id) next
+unfolding checkId
+id-refused id next e = rw (eq-eqb id 0 e)
+
+pub id-accepted : (id : ℕ) {answer next : Check} → (id ≡ 0 → ⊥) → answer ≡ next → answer ≡ orElse (checkId id) next
+unfolding checkId
+id-accepted id e h = rw (ne-eqb id 0 e) h
+
+pub id-found : (w : ℕ) (t : List ℕ) (id slot : ℕ) → slot ≡ slotOfId w t id → slot < slots w t → Pass ≡ checkUnknown w t id
+unfolding checkUnknown
+id-found w t id slot e h = rw (← e, lt-ltb slot (slots w t) h)
+
+pub id-absent : (w : ℕ) (t : List ℕ) (id slot : ℕ) → slot ≡ slotOfId w t id → slots w t ≤ slot → Fail Unknown 0 ≡ checkUnknown w t id
+unfolding checkUnknown
+id-absent w t id slot e h = rw (← e, le-ltb slot (slots w t) h)
+
+-- where the checks pass the slot is one of at most 1,024
+pub delete-small : (t : List ℕ) (id : ℕ) → deleteChecks 2 t id ≡ Pass → slotOfId 2 t id ≤ 1024
+unfolding deleteChecks slotOfId
+delete-small t id e =
+    let l = least-law (hasId 2 t id) (slots 2 t) 0 in
+    let h = table-checks-length 2 t (or-else-pass (tableChecks 2 t) (orElse (checkId id) (checkUnknown 2 t id)) .0 e .0) in
+    omega (arith, l .high)

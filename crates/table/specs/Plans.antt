@@ -1,0 +1,59 @@
+-- What a planning call answers and leaves in the plan buffer, given its checks and the words of its plan.
+-- Inserts and deletes differ in these two alone.
+use mathlib.Core.Path.{_≡_, refl, sym, ap, ap₂, _∙_}
+use mathlib.Core.Bool.{Bool, true, false, cond}
+use mathlib.Core.List.{List, [], _∷_, _++_}
+use Prim.Native.Nat.{ℕ, _<_, _≤_}
+use lib.Dec.{ltb}
+use lib.ListN.{length, drop}
+use borrow.Author.Tests.{lt-ltb, le-ltb}
+use Rattle.records.specs.Checks.{Told, success, refusal, unless, passes, orElse}
+use Rattle.records.specs.declared.Cause.{Cause}
+use Rattle.records.specs.declared.Cause.the-variants.{Short}
+use Rattle.records.specs.declared.Check.{Check}
+use Rattle.records.specs.declared.Check.the-variants.{Pass, Fail}
+use Rattle.table.specs.declared.PlanAnswer.{PlanAnswer}
+use Rattle.table.specs.declared.PlanAnswer.the-variants.{Planned, Refused}
+
+-- document 01's number and values for each case of a planning call's answer
+abbrev pub planTold : PlanAnswer → Told
+planTold (Planned info) = success (info .count ∷ [])
+planTold (Refused cause spot) = refusal cause spot
+
+-- 11: the plan buffer is too short, spot the words needed
+unfoldable pub checkRoom : ℕ → ℕ → Check
+checkRoom needed room = cond (ltb room needed) (Fail Short needed) Pass
+
+-- the answer, with so many words needed and a buffer of so many
+unfoldable pub planAnswer : Check → ℕ → ℕ → Told
+planAnswer checks needed room = unless (orElse checks (checkRoom needed room)) (success (needed ∷ []))
+
+-- the buffer afterwards: on success the plan's words and then what stood there, else as it was
+unfoldable pub planBuffer : Check → List ℕ → List ℕ → List ℕ
+planBuffer checks words plan = cond (passes (orElse checks (checkRoom (length words) (length plan)))) (words ++ drop (length words) plan) plan
+
+-- a planning call ends in one of three ways
+pub plan-refused : {x checks : Check} {cause : Cause} {spot : ℕ} (words plan : List ℕ) → x ≡ checks → x ≡ Fail cause spot
+    → (refusal cause spot ≡ planAnswer checks (length words) (length plan)) × (plan ≡ planBuffer checks words plan)
+unfolding planAnswer planBuffer
+plan-refused {cause = cause} {spot} words plan e f =
+    let g = sym e ∙ f in (
+      sym (ap (λ (c : Check). unless (orElse c (checkRoom (length words) (length plan))) (success (length words ∷ []))) g),
+      sym (ap (λ (c : Check). cond (passes (orElse c (checkRoom (length words) (length plan)))) (words ++ drop (length words) plan) plan) g),
+    )
+
+pub plan-short : {x checks : Check} (words plan : List ℕ) → x ≡ checks → x ≡ Pass → length plan < length words
+    → (refusal Short (length words) ≡ planAnswer checks (length words) (length plan)) × (plan ≡ planBuffer checks words plan)
+unfolding planAnswer planBuffer checkRoom
+plan-short words plan e f h =
+    let g = sym e ∙ f in
+    let s = lt-ltb (length plan) (length words) h in
+    (rw (g, s), rw (g, s))
+
+pub plan-written : {x checks : Check} (words plan : List ℕ) → x ≡ checks → x ≡ Pass → length words ≤ length plan
+    → (success (length words ∷ []) ≡ planAnswer checks (length words) (length plan)) × (words ++ drop (length words) plan ≡ planBuffer checks words plan)
+unfolding planAnswer planBuffer checkRoom
+plan-written words plan e f h =
+    let g = sym e ∙ f in
+    let s = le-ltb (length plan) (length words) h in
+    (rw (g, s), rw (g, s))
