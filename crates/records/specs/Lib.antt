@@ -5,3 +5,4 @@ pub mod Order
 pub mod Checks
 pub mod Laws
 pub mod Rules
+pub mod Entries
