@@ -6,3 +6,4 @@ pub mod Checks
 pub mod Laws
 pub mod Rules
 pub mod Entries
+pub mod Writes

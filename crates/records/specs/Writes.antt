@@ -1,0 +1,296 @@
+-- Document 01's write word: its decoding, what a write does to a table's words, and when it fits, joined with the writes of layouts.
+-- The decoded write is that of layouts, so that a plan found there is carried out on words here.
+use mathlib.Core.Path.{_≡_, refl, sym, ap, ap₂, _∙_}
+use mathlib.Core.Bool.{Bool, true, false, not, cond, _&&_, _||_, Bool·not-not}
+use mathlib.Core.Logic.{_↔_, _≢_, ⊎-elim}
+use mathlib.Core.List.{List, [], _∷_, _++_, map, foldl, foldl-append}
+use Prim.Native.Nat.{ℕ, zero, suc, _+_, _-_, _*_, _/_, _%_, _≤_, _<_}
+use native.Mathlib.Nat.{div-add-mod', mod-lt, mul-le-mul-right}
+use native.Mathlib.Decide.{ℕ-discrete, decLt}
+use native.Mathlib.Omega.{arith}
+use lib.Arith.{digits-div, digits-mod}
+use lib.Dec.{eqb, ltb}
+use lib.ListN.{length, getD, set, take, drop, length-append, length-drop, length-set, length-replicate, List·getD-append}
+use lib.Seq.{take-suc, length-take-le, getD-append-add, getD-take, getD-drop, getD-set-same, getD-set-other, ext-getD}
+use borrow.Author.Tests.{eqb-true, eq-eqb, ne-eqb, ltb-true}
+use Rattle.search.specs.Search.{any, decided}
+use Rattle.layout.specs.Held.{free}
+use Rattle.layout.specs.Write.{Write, copy, put, clear, applied, carried, Fits, fits, fits-law}
+use Rattle.layout.specs.InPlace.{free-by}
+use Rattle.records.specs.Record.{word, listed, recordWords, slotWords, empty, occupied, recordOf, putSlot}
+use Rattle.records.specs.Order.{slots, sameId}
+use Rattle.records.specs.Laws.{slot-within}
+use Rattle.records.specs.Rules.{length-listed, listed-words, listed-cong, record-length}
+use Rattle.records.specs.Entries.{vacant, entryAt, entries, entryOccupied, entrySame, SameRecord, entries-length, entry-at, occupied-at, same-at}
+use Rattle.records.specs.declared.Rule.{Rule}
+
+-- one record put into slot i of a table
+module _ (w : ℕ) (t : List ℕ) (i : ℕ) (x : List ℕ) (inside : i < slots w t) (whole : length x ≡ recordWords w) where
+  start : length (take (i * recordWords w) t) ≡ i * recordWords w
+  start = length-take-le (i * recordWords w) t (omega (arith, slot-within w t i inside))
+
+  front : length (take (i * recordWords w) t ++ x) ≡ i * recordWords w + recordWords w
+  front = length-append (take (i * recordWords w) t) x ∙ omega (arith, start)
+
+  pub put-length : length (putSlot w t i x) ≡ length t
+  unfolding putSlot
+  put-length =
+      length-append (take (i * recordWords w) t ++ x) (drop (i * recordWords w + recordWords w) t)
+      ∙ omega (arith, front, length-drop (i * recordWords w + recordWords w) t, slot-within w t i inside)
+
+  pub put-slots : slots w (putSlot w t i x) ≡ slots w t
+  put-slots = ap (λ (n : ℕ). n / recordWords w) put-length
+
+  -- the slot has the record's words
+  pub put-here : SameRecord w (slotWords w (putSlot w t i x) i) (word x)
+  unfolding putSlot
+  put-here j h =
+      List·getD-append (take (i * recordWords w) t ++ x) (drop (i * recordWords w + recordWords w) t) 0 (i * recordWords w + j) (omega (arith, front))
+      ∙ (ap (λ (k : ℕ). getD (take (i * recordWords w) t ++ x) (k + j) 0) (sym start) ∙ getD-append-add (take (i * recordWords w) t) x j 0)
+
+  before : (k : ℕ) → k < i * recordWords w → getD (putSlot w t i x) k 0 ≡ getD t k 0
+  unfolding putSlot
+  before k h =
+      List·getD-append (take (i * recordWords w) t ++ x) (drop (i * recordWords w + recordWords w) t) 0 k (omega (arith, front))
+      ∙ (List·getD-append (take (i * recordWords w) t) x 0 k (omega (arith, start)) ∙ getD-take (i * recordWords w) t k 0 h)
+
+  after : (k : ℕ) → i * recordWords w + recordWords w ≤ k → getD (putSlot w t i x) k 0 ≡ getD t k 0
+  unfolding putSlot
+  after k h =
+      let m : ℕ = k - (i * recordWords w + recordWords w) in
+      let there : length (take (i * recordWords w) t ++ x) + m ≡ k = omega (arith, front) in
+      let back : i * recordWords w + recordWords w + m ≡ k = omega arith in
+      ap (λ (n : ℕ). getD (take (i * recordWords w) t ++ x ++ drop (i * recordWords w + recordWords w) t) n 0) (sym there)
+      ∙ (getD-append-add (take (i * recordWords w) t ++ x) (drop (i * recordWords w + recordWords w) t) m 0
+      ∙ (getD-drop (i * recordWords w + recordWords w) t m 0 ∙ ap (λ (n : ℕ). getD t n 0) back))
+
+  -- each other slot keeps its words
+  pub put-other : (k : ℕ) → k ≢ i → SameRecord w (slotWords w (putSlot w t i x) k) (slotWords w t k)
+  put-other k d j h = pick (decLt k i)
+    where
+      pick : Dec (k < i) → getD (putSlot w t i x) (k * recordWords w + j) 0 ≡ getD t (k * recordWords w + j) 0
+      pick (yes l) = before (k * recordWords w + j) (omega (arith, mul-le-mul-right (recordWords w) l))
+      pick (no l) =
+          let r : suc i ≤ k = omega arith in
+          after (k * recordWords w + j) (omega (arith, mul-le-mul-right (recordWords w) r))
+
+  -- so the layout has the record as its entry, and its other entries as they were
+  pub entries-put : entries w (putSlot w t i x) ≡ set (entries w t) i x
+  entries-put =
+      ext-getD (vacant w) (entries w (putSlot w t i x)) (set (entries w t) i x) (new ∙ (put-slots ∙ sym (length-set (entries w t) i x ∙ old)))
+      (λ k l. pick k (let e = new in let s = put-slots in omega arith) (ℕ-discrete k i))
+    where
+      new : length (entries w (putSlot w t i x)) ≡ slots w (putSlot w t i x)
+      new = entries-length w (putSlot w t i x)
+
+      old : length (entries w t) ≡ slots w t
+      old = entries-length w t
+
+      read : (k : ℕ) → k < slots w t → getD (entries w (putSlot w t i x)) k (vacant w) ≡ entryAt w (putSlot w t i x) k
+      read k l = entry-at w (putSlot w t i x) k (let s = put-slots in omega arith)
+
+      pick : (k : ℕ) → k < slots w t → Dec (k ≡ i) → getD (entries w (putSlot w t i x)) k (vacant w) ≡ getD (set (entries w t) i x) k (vacant w)
+      pick k l (yes e) =
+          rw e (read i inside ∙ (listed-cong (recordWords w) put-here ∙ (listed-words (recordWords w) x whole
+          ∙ sym (getD-set-same (entries w t) i x (vacant w) (let n = old in omega arith)))))
+      pick k l (no d) =
+          read k l ∙ (listed-cong (recordWords w) (put-other k d) ∙ (sym (entry-at w t k l)
+          ∙ sym (getD-set-other (entries w t) i k x (vacant w) d)))
+
+-- document 01: one 32-bit plan word, from × 65,536 + to; from 65,535 puts in the rule given with the call, from 65,534 empties slot to,
+-- any other copies slot from to slot to
+unfoldable pub writeOf : ℕ → Write
+writeOf n = cond (eqb (n / 65536) 65535) (put (n % 65536)) (cond (eqb (n / 65536) 65534) (clear (n % 65536)) (copy (n / 65536) (n % 65536)))
+
+abbrev pub writeWord : Write → ℕ
+writeWord (copy from to) = from * 65536 + to
+writeWord (put to) = 65535 * 65536 + to
+writeWord (clear to) = 65534 * 65536 + to
+
+-- the write's slots are below n: they exist, where n is the number of slots
+abbrev pub SlotsBelow : ℕ → Write → Type 0
+SlotsBelow n (copy from to) = (from < n) × (to < n)
+SlotsBelow n (put to) = to < n
+SlotsBelow n (clear to) = to < n
+
+pub slots-below-more : {n m : ℕ} → n ≤ m → (x : Write) → SlotsBelow n x → SlotsBelow m x
+slots-below-more l (copy from to) h = (omega arith, omega arith)
+slots-below-more l (put to) h = omega arith
+slots-below-more l (clear to) h = omega arith
+
+-- the three kinds of word
+module _ (n : ℕ) where
+  pub word-puts : n / 65536 ≡ 65535 → writeOf n ≡ put (n % 65536)
+  unfolding writeOf
+  word-puts e = rw e
+
+  pub word-clears : n / 65536 ≡ 65534 → writeOf n ≡ clear (n % 65536)
+  unfolding writeOf
+  word-clears e = rw e
+
+  pub word-copies : n / 65536 ≢ 65535 → n / 65536 ≢ 65534 → writeOf n ≡ copy (n / 65536) (n % 65536)
+  unfolding writeOf
+  word-copies p c = rw (ne-eqb (n / 65536) 65535 p, ne-eqb (n / 65536) 65534 c)
+
+  -- no word is lost in its write
+  pub word-of-write : writeWord (writeOf n) ≡ n
+  word-of-write = pick (ℕ-discrete (n / 65536) 65535) (ℕ-discrete (n / 65536) 65534)
+    where
+      split : n / 65536 * 65536 + n % 65536 ≡ n
+      split = div-add-mod' n 65536
+
+      pick : Dec (n / 65536 ≡ 65535) → Dec (n / 65536 ≡ 65534) → writeWord (writeOf n) ≡ n
+      pick (yes e) d = ap writeWord (word-puts e) ∙ (ap (λ (q : ℕ). q * 65536 + n % 65536) (sym e) ∙ split)
+      pick (no p) (yes e) = ap writeWord (word-clears e) ∙ (ap (λ (q : ℕ). q * 65536 + n % 65536) (sym e) ∙ split)
+      pick (no p) (no c) = ap writeWord (word-copies p c) ∙ split
+
+-- and no write in its word, where its slots are below 65,534
+pub write-of-word : (x : Write) → SlotsBelow 65534 x → writeOf (writeWord x) ≡ x
+write-of-word (copy from to) h =
+    let low : to < 65536 = omega arith in
+    let q : (from * 65536 + to) / 65536 ≡ from = digits-div from low in
+    word-copies (from * 65536 + to) (λ e. omega arith) (λ e. omega arith) ∙ ap₂ copy q (digits-mod from low)
+write-of-word (put to) h =
+    let low : to < 65536 = omega arith in
+    word-puts (65535 * 65536 + to) (digits-div 65535 low) ∙ ap put (digits-mod 65535 low)
+write-of-word (clear to) h =
+    let low : to < 65536 = omega arith in
+    word-clears (65534 * 65536 + to) (digits-div 65534 low) ∙ ap clear (digits-mod 65534 low)
+
+-- so different words are different writes, and different writes have different words
+pub word-once : (n m : ℕ) → writeOf n ≡ writeOf m → n ≡ m
+word-once n m e = sym (word-of-write n) ∙ (ap writeWord e ∙ word-of-write m)
+
+pub write-once : (x y : Write) → SlotsBelow 65534 x → SlotsBelow 65534 y → writeWord x ≡ writeWord y → x ≡ y
+write-once x y a b e = sym (write-of-word x a) ∙ (ap writeOf e ∙ write-of-word y b)
+
+-- a write's word has 32 bits
+pub write-word-small : (x : Write) → SlotsBelow 65536 x → writeWord x < 4294967296
+write-word-small (copy from to) h = omega arith
+write-word-small (put to) h = omega arith
+write-word-small (clear to) h = omega arith
+
+-- a plan's words and its writes
+pub writes-of-words : (xs : List Write) → ((k : ℕ) → k < length xs → SlotsBelow 65534 (getD xs k (clear 0))) → map writeOf (map writeWord xs) ≡ xs
+writes-of-words [] h = refl
+writes-of-words (x ∷ xs) h = ap₂ _∷_ (write-of-word x (h 0 (omega arith))) (writes-of-words xs (λ k l. h (suc k) (omega arith)))
+
+-- the table's words after a write
+abbrev pub applyWrite : ℕ → List ℕ → Rule → Write → List ℕ
+applyWrite w t r (copy from to) = putSlot w t to (entryAt w t from)
+applyWrite w t r (put to) = putSlot w t to (recordOf w r)
+applyWrite w t r (clear to) = putSlot w t to (vacant w)
+
+abbrev pub applyWord : ℕ → List ℕ → Rule → ℕ → List ℕ
+applyWord w t r n = applyWrite w t r (writeOf n)
+
+-- the table's words after a list of them
+abbrev pub applyWords : ℕ → List ℕ → Rule → List ℕ → List ℕ
+applyWords w t r ns = foldl (λ u n. applyWord w u r n) t ns
+
+-- one word more
+pub apply-words-next : (w : ℕ) (t : List ℕ) (r : Rule) (ns : List ℕ) (k : ℕ) → k < length ns
+    → applyWords w t r (take (suc k) ns) ≡ applyWord w (applyWords w t r (take k ns)) r (getD ns k 0)
+apply-words-next w t r ns k h =
+    ap (applyWords w t r) (take-suc ns k 0 h) ∙ foldl-append (λ u n. applyWord w u r n) t (take k ns) (getD ns k 0 ∷ [])
+
+module _ (w : ℕ) (t : List ℕ) (r : Rule) where
+  -- a write whose slots exist keeps the number of words
+  pub apply-length : (x : Write) → SlotsBelow (slots w t) x → length (applyWrite w t r x) ≡ length t
+  apply-length (copy from to) h = put-length w t to (entryAt w t from) (h .1) (length-listed (recordWords w) (slotWords w t from))
+  apply-length (put to) h = put-length w t to (recordOf w r) h (record-length w r)
+  apply-length (clear to) h = put-length w t to (vacant w) h (length-replicate (recordWords w) 0)
+
+  pub apply-slots : (x : Write) → SlotsBelow (slots w t) x → slots w (applyWrite w t r x) ≡ slots w t
+  apply-slots x h = ap (λ (n : ℕ). n / recordWords w) (apply-length x h)
+
+  -- the layout after it is that after the layout's write
+  pub apply-entries : (x : Write) → SlotsBelow (slots w t) x → entries w (applyWrite w t r x) ≡ applied (vacant w) (recordOf w r) (entries w t) x
+  apply-entries (copy from to) h =
+      entries-put w t to (entryAt w t from) (h .1) (length-listed (recordWords w) (slotWords w t from))
+      ∙ ap (λ (e : List ℕ). set (entries w t) to e) (sym (entry-at w t from (h .0)))
+  apply-entries (put to) h = entries-put w t to (recordOf w r) h (record-length w r)
+  apply-entries (clear to) h = entries-put w t to (vacant w) h (length-replicate (recordWords w) 0)
+
+-- the same for a list of words whose slots exist
+abbrev pub WordsBelow : ℕ → List ℕ → Type 0
+WordsBelow n ns = (k : ℕ) → k < length ns → SlotsBelow n (writeOf (getD ns k 0))
+
+pub apply-words-length : (w : ℕ) (t : List ℕ) (r : Rule) (ns : List ℕ) → WordsBelow (slots w t) ns → length (applyWords w t r ns) ≡ length t
+apply-words-length w t r [] h = refl
+apply-words-length w t r (n ∷ ns) h =
+    let one = apply-slots w t r (writeOf n) (h 0 (omega arith)) in
+    apply-words-length w (applyWord w t r n) r ns (λ k l. rw one (h (suc k) (omega arith))) ∙ apply-length w t r (writeOf n) (h 0 (omega arith))
+
+pub apply-words-entries : (w : ℕ) (t : List ℕ) (r : Rule) (ns : List ℕ) → WordsBelow (slots w t) ns
+    → entries w (applyWords w t r ns) ≡ carried (vacant w) (recordOf w r) (entries w t) (map writeOf ns)
+apply-words-entries w t r [] h = refl
+apply-words-entries w t r (n ∷ ns) h =
+    let one = apply-slots w t r (writeOf n) (h 0 (omega arith)) in
+    apply-words-entries w (applyWord w t r n) r ns (λ k l. rw one (h (suc k) (omega arith)))
+    ∙ ap (λ (l : List (List ℕ)). carried (vacant w) (recordOf w r) l (map writeOf ns)) (apply-entries w t r (writeOf n) (h 0 (omega arith)))
+
+-- a write to slot j loses no rule: the slot is empty, or its id stands in another slot too
+unfoldable pub freeAt : ℕ → List ℕ → ℕ → Bool
+freeAt w t j = empty w (slotWords w t j) || any (λ k. not (eqb k j) && sameId w (slotWords w t k) (slotWords w t j)) (slots w t)
+
+-- document 01, "Carrying out": when a write fits
+abbrev pub fitsWrite : ℕ → List ℕ → Write → Bool
+fitsWrite w t (copy from to) =
+    ltb from (slots w t) && (ltb to (slots w t) && (not (eqb from to) && (occupied w (slotWords w t from) && freeAt w t to)))
+fitsWrite w t (put to) = ltb to (slots w t) && freeAt w t to
+fitsWrite w t (clear to) = ltb to (slots w t) && occupied w (slotWords w t to)
+
+abbrev pub fitsWord : ℕ → List ℕ → ℕ → Bool
+fitsWord w t n = fitsWrite w t (writeOf n)
+
+-- the layout's tests of the table's entries
+abbrev pub entryFree : ℕ → List (List ℕ) → ℕ → Bool
+entryFree w l j = free (vacant w) (entryOccupied w) (entrySame w) l j
+
+abbrev pub entryFits : ℕ → List (List ℕ) → Write → Bool
+entryFits w l x = fits (vacant w) (entryOccupied w) (entrySame w) l x
+
+abbrev pub EntryFits : ℕ → List (List ℕ) → Write → Type 0
+EntryFits w l x = Fits (vacant w) (entryOccupied w) (entrySame w) l x
+
+-- a second test matters only where the first holds
+and-where : (a : Bool) {b c : Bool} → (a ≡ true → b ≡ c) → a && b ≡ a && c
+and-where true h = h refl
+and-where false h = refl
+
+module _ (w : ℕ) (t : List ℕ) where
+  pub free-entries : (j : ℕ) → j < slots w t → freeAt w t j ≡ entryFree w (entries w t) j
+  unfolding freeAt
+  free-entries j h =
+      let n = entries-length w t in
+      ap₂ (λ (b : Bool) (m : ℕ). b || any (λ k. not (eqb k j) && sameId w (slotWords w t k) (slotWords w t j)) m)
+      (sym (Bool·not-not (empty w (slotWords w t j)))) (sym n)
+      ∙ free-by (vacant w) (entryOccupied w) (entries w t) (entrySame w) j (occupied w (slotWords w t j))
+      (λ k. sameId w (slotWords w t k) (slotWords w t j)) (sym (occupied-at w t j h)) (λ k l. sym (same-at w t k j (omega arith) h))
+
+  -- a write fits by slots exactly when it fits by entries
+  pub fits-entries : (x : Write) → fitsWrite w t x ≡ entryFits w (entries w t) x
+  unfolding fits
+  fits-entries (copy from to) =
+      rw (entries-length w t)
+      (and-where (ltb from (slots w t)) (λ a. and-where (ltb to (slots w t)) (λ b. ap (λ (c : Bool). not (eqb from to) && c)
+      (ap₂ _&&_ (sym (occupied-at w t from (ltb-true from (slots w t) a))) (free-entries to (ltb-true to (slots w t) b))))))
+  fits-entries (put to) =
+      rw (entries-length w t) (and-where (ltb to (slots w t)) (λ b. free-entries to (ltb-true to (slots w t) b)))
+  fits-entries (clear to) =
+      rw (entries-length w t) (and-where (ltb to (slots w t)) (λ b. sym (occupied-at w t to (ltb-true to (slots w t) b))))
+
+  pub fits-write-law : (x : Write) → (fitsWrite w t x ≡ true) ↔ EntryFits w (entries w t) x
+  fits-write-law x =
+      let l = fits-law (vacant w) (entryOccupied w) (entrySame w) (entries w t) x in
+      (λ e. l .0 (sym (fits-entries x) ∙ e), λ f. fits-entries x ∙ l .1 f)
+
+  -- the slots of a write that fits exist
+  pub fits-below : (x : Write) → fitsWrite w t x ≡ true → SlotsBelow (slots w t) x
+  fits-below x e = below x (fits-write-law x .0 e)
+    where
+      below : (x : Write) → EntryFits w (entries w t) x → SlotsBelow (slots w t) x
+      below (copy from to) f = let n = entries-length w t in (omega (arith, f .0), omega (arith, f .1))
+      below (put to) f = let n = entries-length w t in omega (arith, f .0)
+      below (clear to) f = let n = entries-length w t in omega (arith, f .0)
