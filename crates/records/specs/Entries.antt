@@ -17,7 +17,7 @@ use Rattle.layout.specs.Order.{Laws}
 use Rattle.layout.specs.Order
 use Rattle.layout.specs.Held.{Unique, unique-earlier}
 use Rattle.records.specs.Record.{word, listed, recordWords, slotWords, value, mask, ident, action, rank, empty, occupied, patternMatches, slotMatches, recordOf}
-use Rattle.records.specs.Order.{slots, overlapping, sameId, distinct, misordered, precedes}
+use Rattle.records.specs.Order.{slots, overlapping, sameId, distinct, misordered, precedes, InOrder}
 use Rattle.records.specs.Checks.{checkShape, checkTwice, checkOrder}
 use Rattle.records.specs.Laws.{shape-law, empty-law, twice-law, same-id-law, misordered-law, ordered-law, order-law}
 use Rattle.records.specs.Rules.{length-listed, word-listed, record-ident}
@@ -118,7 +118,7 @@ unfolding entries
 entries-length w t = length-map (listed (slots w t) (λ i. i)) (entryAt w t) ∙ length-listed (slots w t) (λ i. i)
 
 -- what a map has at an index of its list
-getD-map-within : {A B : Type 0} (f : A → B) (l : List A) (i : ℕ) (a : A) (b : B) → i < length l → getD (map f l) i b ≡ f (getD l i a)
+pub getD-map-within : {A B : Type 0} (f : A → B) (l : List A) (i : ℕ) (a : A) (b : B) → i < length l → getD (map f l) i b ≡ f (getD l i a)
 getD-map-within f [] i a b h = absurd (omega arith)
 getD-map-within f (x ∷ l) zero a b h = refl
 getD-map-within f (x ∷ l) (suc i) a b h = getD-map-within f l i a b (omega arith)
@@ -172,15 +172,16 @@ entry-laws w = record {
       same-id-law w (word a) (word c) .1 (p .0, q .1, p .2 ∙ q .2);
 }
 
--- the layout is in order exactly when check 4 passes, and each id stands once exactly when check 3 does
-pub order-entries : (w : ℕ) (t : List ℕ) → EntriesInOrder w (entries w t) ↔ (checkOrder w t ≡ Pass)
-order-entries w t =
+-- the layout is in order exactly when the table is, that is, when check 4 passes; each id stands once exactly when check 3 passes
+pub in-order-entries : (w : ℕ) (t : List ℕ) → EntriesInOrder w (entries w t) ↔ InOrder w t
+in-order-entries w t =
     let n = entries-length w t in (
-      λ o. order-law w t .1 (λ x y l h. ordered-law w (slotWords w t x) (slotWords w t y) .0
-          (sym (misordered-at w t x y (omega arith) h) ∙ o x y l (omega arith))),
-      λ e x y l h. misordered-at w t x y (omega arith) (omega arith)
-          ∙ ordered-law w (slotWords w t x) (slotWords w t y) .1 (order-law w t .0 e x y l (omega arith)),
+      λ o x y l h. ordered-law w (slotWords w t x) (slotWords w t y) .0 (sym (misordered-at w t x y (omega arith) h) ∙ o x y l (omega arith)),
+      λ o x y l h. misordered-at w t x y (omega arith) (omega arith) ∙ ordered-law w (slotWords w t x) (slotWords w t y) .1 (o x y l (omega arith)),
     )
+
+pub order-entries : (w : ℕ) (t : List ℕ) → EntriesInOrder w (entries w t) ↔ (checkOrder w t ≡ Pass)
+order-entries w t = let a = in-order-entries w t in let b = order-law w t in (λ o. b .1 (a .0 o), λ e. a .1 (b .0 e))
 
 pub unique-entries : (w : ℕ) (t : List ℕ) → EntriesUnique w (entries w t) ↔ (checkTwice w t ≡ Pass)
 unique-entries w t =

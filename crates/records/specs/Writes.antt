@@ -10,7 +10,7 @@ use native.Mathlib.Decide.{ℕ-discrete, decLt}
 use native.Mathlib.Omega.{arith}
 use lib.Arith.{digits-div, digits-mod}
 use lib.Dec.{eqb, ltb}
-use lib.ListN.{length, getD, set, take, drop, length-append, length-drop, length-set, length-replicate, List·getD-append}
+use lib.ListN.{length, getD, set, take, drop, length-append, length-take, length-drop, length-set, length-map, length-replicate, List·getD-append}
 use lib.Seq.{take-suc, length-take-le, getD-append-add, getD-take, getD-drop, getD-set-same, getD-set-other, ext-getD}
 use borrow.Author.Tests.{eqb-true, eq-eqb, ne-eqb, ltb-true}
 use Rattle.search.specs.Search.{any, decided}
@@ -21,7 +21,7 @@ use Rattle.records.specs.Record.{word, listed, recordWords, slotWords, e
 use Rattle.records.specs.Order.{slots, sameId}
 use Rattle.records.specs.Laws.{slot-within}
 use Rattle.records.specs.Rules.{length-listed, listed-words, listed-cong, record-length}
-use Rattle.records.specs.Entries.{vacant, entryAt, entries, entryOccupied, entrySame, SameRecord, entries-length, entry-at, occupied-at, same-at}
+use Rattle.records.specs.Entries.{vacant, entryAt, entries, entryOccupied, entrySame, SameRecord, entries-length, getD-map-within, entry-at, occupied-at, same-at}
 use Rattle.records.specs.declared.Rule.{Rule}
 
 -- one record put into slot i of a table
@@ -170,8 +170,12 @@ write-word-small (copy from to) h = omega arith
 write-word-small (put to) h = omega arith
 write-word-small (clear to) h = omega arith
 
--- a plan's words and its writes
-pub writes-of-words : (xs : List Write) → ((k : ℕ) → k < length xs → SlotsBelow 65534 (getD xs k (clear 0))) → map writeOf (map writeWord xs) ≡ xs
+-- the slots of every write are below n
+abbrev pub WritesBelow : ℕ → List Write → Type 0
+WritesBelow n xs = (k : ℕ) → k < length xs → SlotsBelow n (getD xs k (clear 0))
+
+-- the words of a list of writes give the writes back
+pub writes-of-words : (xs : List Write) → WritesBelow 65534 xs → map writeOf (map writeWord xs) ≡ xs
 writes-of-words [] h = refl
 writes-of-words (x ∷ xs) h = ap₂ _∷_ (write-of-word x (h 0 (omega arith))) (writes-of-words xs (λ k l. h (suc k) (omega arith)))
 
@@ -254,6 +258,12 @@ entryFits w l x = fits (vacant w) (entryOccupied w) (entrySame w) l x
 abbrev pub EntryFits : ℕ → List (List ℕ) → Write → Type 0
 EntryFits w l x = Fits (vacant w) (entryOccupied w) (entrySame w) l x
 
+-- the slots of a write that fits exist
+pub entry-fits-below : (w : ℕ) (l : List (List ℕ)) (x : Write) → EntryFits w l x → SlotsBelow (length l) x
+entry-fits-below w l (copy from to) f = (f .0, f .1)
+entry-fits-below w l (put to) f = f .0
+entry-fits-below w l (clear to) f = f .0
+
 -- a second test matters only where the first holds
 and-where : (a : Bool) {b c : Bool} → (a ≡ true → b ≡ c) → a && b ≡ a && c
 and-where true h = h refl
@@ -286,11 +296,69 @@ module _ (w : ℕ) (t : List ℕ) where
       let l = fits-law (vacant w) (entryOccupied w) (entrySame w) (entries w t) x in
       (λ e. l .0 (sym (fits-entries x) ∙ e), λ f. fits-entries x ∙ l .1 f)
 
-  -- the slots of a write that fits exist
   pub fits-below : (x : Write) → fitsWrite w t x ≡ true → SlotsBelow (slots w t) x
-  fits-below x e = below x (fits-write-law x .0 e)
+  fits-below x e = rw (entries-length w t) at (entry-fits-below w (entries w t) x (fits-write-law x .0 e))
+
+-- words that fit in their turn have slots that exist
+pub turn-below : (w : ℕ) (t : List ℕ) (r : Rule) (ns : List ℕ)
+    → ((k : ℕ) → k < length ns → fitsWord w (applyWords w t r (take k ns)) (getD ns k 0) ≡ true) → WordsBelow (slots w t) ns
+turn-below w t r [] f k h = absurd (omega arith)
+turn-below w t r (n ∷ ns) f zero h = fits-below w t (writeOf n) (f 0 h)
+turn-below w t r (n ∷ ns) f (suc k) h =
+    rw (apply-slots w t r (writeOf n) (fits-below w t (writeOf n) (f 0 (omega arith)))) at
+    (turn-below w (applyWord w t r n) r ns (λ k l. f (suc k) (omega arith)) k (omega arith))
+
+-- a layout keeps its number of slots
+applied-length : {S : Type 0} (empty new : S) (l : List S) (x : Write) → length (applied empty new l x) ≡ length l
+applied-length empty new l (copy from to) = length-set l to (getD l from empty)
+applied-length empty new l (put to) = length-set l to new
+applied-length empty new l (clear to) = length-set l to empty
+
+pub carried-length : {S : Type 0} (empty new : S) (l : List S) (xs : List Write) → length (carried empty new l xs) ≡ length l
+carried-length empty new l [] = refl
+carried-length empty new l (x ∷ xs) = carried-length empty new (applied empty new l x) xs ∙ applied-length empty new l x
+
+take-map : {A B : Type 0} (f : A → B) (k : ℕ) (l : List A) → take k (map f l) ≡ map f (take k l)
+take-map f zero l = refl
+take-map f (suc k) [] = refl
+take-map f (suc k) (x ∷ l) = ap (λ (r : List _). f x ∷ r) (take-map f k l)
+
+-- the words of writes whose slots exist
+module _ (n : ℕ) (small : n ≤ 65534) (xs : List Write) (below : WritesBelow n xs) where
+  back : map writeOf (map writeWord xs) ≡ xs
+  back = writes-of-words xs (λ k h. slots-below-more small (getD xs k (clear 0)) (below k h))
+
+  pub word-at : (k : ℕ) → k < length xs → writeOf (getD (map writeWord xs) k 0) ≡ getD xs k (clear 0)
+  word-at k h =
+      ap writeOf (getD-map-within writeWord xs k (clear 0) 0 h)
+      ∙ write-of-word (getD xs k (clear 0)) (slots-below-more small (getD xs k (clear 0)) (below k h))
+
+  pub words-below : WordsBelow n (map writeWord xs)
+  words-below k h =
+      let l : k < length xs = omega (arith, length-map xs writeWord) in
+      rw (word-at k l) (below k l)
+
+-- a plan's writes, each of which fits in its turn, carried out on the table by their words
+module _
+    (w : ℕ) (t : List ℕ) (r : Rule) (xs : List Write) (small : slots w t ≤ 65534)
+    (turn : (k : ℕ) → k < length xs → EntryFits w (carried (vacant w) (recordOf w r) (entries w t) (take k xs)) (getD xs k (clear 0))) where
+  pub plan-below : WritesBelow (slots w t) xs
+  plan-below k h =
+      rw (carried-length (vacant w) (recordOf w r) (entries w t) (take k xs), entries-length w t) at
+      (entry-fits-below w (carried (vacant w) (recordOf w r) (entries w t) (take k xs)) (getD xs k (clear 0)) (turn k h))
+
+  -- after each number of words the layout is that after as many writes
+  pub plan-entries : (k : ℕ) → entries w (applyWords w t r (take k (map writeWord xs))) ≡ carried (vacant w) (recordOf w r) (entries w t) (take k xs)
+  plan-entries k =
+      rw (take-map writeWord k xs)
+      (apply-words-entries w t r (map writeWord (take k xs)) (words-below (slots w t) small (take k xs) first)
+      ∙ ap (carried (vacant w) (recordOf w r) (entries w t)) (back (slots w t) small (take k xs) first))
     where
-      below : (x : Write) → EntryFits w (entries w t) x → SlotsBelow (slots w t) x
-      below (copy from to) f = let n = entries-length w t in (omega (arith, f .0), omega (arith, f .1))
-      below (put to) f = let n = entries-length w t in omega (arith, f .0)
-      below (clear to) f = let n = entries-length w t in omega (arith, f .0)
+      first : WritesBelow (slots w t) (take k xs)
+      first j h = let l = length-take k xs in rw (getD-take k xs j (clear 0) (omega arith)) (plan-below j (omega arith))
+
+  -- and the next word fits
+  pub plan-fits : (k : ℕ) → k < length xs → fitsWord w (applyWords w t r (take k (map writeWord xs))) (getD (map writeWord xs) k 0) ≡ true
+  plan-fits k h =
+      rw (word-at (slots w t) small xs plan-below k h)
+      (fits-write-law w (applyWords w t r (take k (map writeWord xs))) (getD xs k (clear 0)) .1 (rw (plan-entries k) (turn k h)))
