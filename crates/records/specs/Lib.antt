@@ -7,3 +7,4 @@ pub mod Laws
 pub mod Rules
 pub mod Entries
 pub mod Writes
+pub mod Inserts
