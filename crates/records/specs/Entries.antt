@@ -1,7 +1,7 @@
 -- A table of words as a layout: the list of its slots' records, each a list of words, and the tests of such entries.
 -- So what is proved of layouts holds of tables; every law here is for any number of words of a value.
 use mathlib.Core.Path.{_≡_, refl, sym, ap, ap₂, _∙_}
-use mathlib.Core.Bool.{Bool, true, false, not, _&&_, true≢false, Bool·not-not}
+use mathlib.Core.Bool.{Bool, true, false, not, _&&_, and-comm, true≢false, false≢true}
 use mathlib.Core.Logic.{_↔_, ⊎-elim}
 use mathlib.Core.List.{List, [], _∷_, map}
 use Prim.Native.Nat.{ℕ, zero, suc, _+_, _*_, _/_, _%_, _≤_, _<_}
@@ -10,7 +10,7 @@ use native.Mathlib.Omega.{arith}
 use lib.Arith.{digits-div}
 use lib.Dec.{eqb, ltb, leb}
 use lib.ListN.{length, getD, replicate, length-replicate, getD-replicate, length-map}
-use borrow.Author.Tests.{not-true}
+use borrow.Author.Tests.{eqb-true, eq-eqb}
 use Rattle.search.specs.Search.{all, all-cong, decided}
 use Rattle.ternary.specs.Pattern.{Words, matches, matches-cong, overlaps, overlaps-cong}
 use Rattle.layout.specs.Order.{Laws}
@@ -149,9 +149,25 @@ module _ (w : ℕ) (t : List ℕ) where
       → entryMisordered w (getD (entries w t) i (vacant w)) (getD (entries w t) k (vacant w)) ≡ misordered w (slotWords w t i) (slotWords w t k)
   misordered-at i k h l = misordered-cong w (entry-same w t i h) (entry-same w t k l)
 
--- a test that says true only of what is false, says false
-refuted : {b : Bool} → (b ≡ true → ⊥) → b ≡ false
+-- a test that cannot hold is false, and two tests that hold together are equal
+pub refuted : {b : Bool} → (b ≡ true → ⊥) → b ≡ false
 refuted {b} f = ⊎-elim (λ e. absurd (f e)) (λ e. e) (decided b)
+
+pub same-truth : (a b : Bool) → (a ≡ true) ↔ (b ≡ true) → a ≡ b
+same-truth true b e = sym (e .0 refl)
+same-truth false b e = sym (refuted (λ t. false≢true (e .1 t)))
+
+pub eqb-turned : (a b : ℕ) → eqb a b ≡ eqb b a
+eqb-turned a b = same-truth (eqb a b) (eqb b a) (λ e. eq-eqb b a (sym (eqb-true a b e)), λ e. eq-eqb a b (sym (eqb-true b a e)))
+
+-- one id in two slots, and two rules of different ids, in either order
+pub same-id-turned : (w : ℕ) (a b : Words) → sameId w a b ≡ sameId w b a
+unfolding sameId
+same-id-turned w a b = ap₂ _&&_ (eqb-turned (ident w a) (ident w b)) (and-comm (occupied w a) (occupied w b))
+
+pub distinct-turned : (w : ℕ) (a b : Words) → distinct w a b ≡ distinct w b a
+unfolding distinct
+distinct-turned w a b = ap₂ (λ (e o : Bool). not e && o) (eqb-turned (ident w a) (ident w b)) (and-comm (occupied w a) (occupied w b))
 
 vacant-empty : (w : ℕ) → entryOccupied w (vacant w) ≡ false
 vacant-empty w = ap not (empty-law w (word (vacant w)) .1 (λ j h. getD-replicate (recordWords w) j 0 0 h))
@@ -165,7 +181,7 @@ entry-laws w = record {
   misordered-same = λ a b s. refuted (λ e. misordered-law w (word a) (word b) .0 e .2 (same-id-law w (word a) (word b) .0 s .2));
   same-occupied = λ a b s. same-id-law w (word a) (word b) .0 s .0;
   same-self = λ a o. same-id-law w (word a) (word a) .1 (o, o, refl);
-  same-symmetric = λ a b s. let p = same-id-law w (word a) (word b) .0 s in same-id-law w (word b) (word a) .1 (p .1, p .0, sym (p .2));
+  same-symmetric = λ a b s. same-id-turned w (word b) (word a) ∙ s;
   same-transitive = λ a b c s r.
       let p = same-id-law w (word a) (word b) .0 s in
       let q = same-id-law w (word b) (word c) .0 r in

@@ -1,7 +1,7 @@
 -- An insert on a table's words: document 01's comparison class of plan words, ties, and the neighbours A and B of the new rule.
 -- Each is joined with its meaning in layouts, where the theorems on an insert's plan are.
 use mathlib.Core.Path.{_≡_, refl, sym, ap, ap₂, _∙_, subst}
-use mathlib.Core.Bool.{Bool, true, false, not, _&&_, true≢false, false≢true}
+use mathlib.Core.Bool.{Bool, true, false, not, _&&_, and-true, and-comm, true≢false}
 use mathlib.Core.Logic.{_↔_, _⊎_, ⊎-elim, _≢_}
 use mathlib.Core.Logic._⊎_.{inl, inr}
 use mathlib.Core.List.{List, [], _∷_, map}
@@ -10,7 +10,7 @@ use native.Mathlib.Omega.{arith}
 use lib.Dec.{eqb, ltb, leb}
 use lib.ListN.{length, getD, take}
 use borrow.Author.Tests.{eqb-true, eq-eqb, ltb-true, lt-ltb}
-use Rattle.search.specs.Search.{and-left, and-right, and-both, least, least-cong, afterLast, after-last-cong}
+use Rattle.search.specs.Search.{and-law, least, least-cong, afterLast, after-last-cong}
 use Rattle.ternary.specs.Pattern.{Words, Overlap, overlaps, overlaps-law, overlaps-cong}
 use Rattle.layout.specs.Order.{Higher, Lower}
 use Rattle.layout.specs.Held.{NewId}
@@ -19,10 +19,10 @@ use Rattle.layout.specs.Class.{Sequence, InClass}
 use Rattle.layout.specs.Plan.{afterPreceding, firstDependant}
 use Rattle.layout.specs.InPlace.{after-preceding-by, first-dependant-by}
 use Rattle.records.specs.Record.{word, slotWords, value, mask, ident, rank, occupied, recordOf}
-use Rattle.records.specs.Order.{slots, overlapping, precedes, sameId, misordered, InOrder}
+use Rattle.records.specs.Order.{slots, overlapping, precedes, sameId, distinct, misordered, InOrder}
 use Rattle.records.specs.Laws.{same-id-law, misordered-law}
-use Rattle.records.specs.Rules.{record-value, record-mask, record-ident}
-use Rattle.records.specs.Entries.{vacant, entries, entryOccupied, entrySame, entryMisordered, EntriesInOrder, entries-length, entry-same, same-id-cong, misordered-cong, in-order-entries, rule-occupied}
+use Rattle.records.specs.Rules.{record-value, record-mask, record-ident, record-rank}
+use Rattle.records.specs.Entries.{vacant, entries, entryOccupied, entrySame, entryMisordered, EntriesInOrder, entries-length, entry-same, same-id-cong, misordered-cong, same-truth, eqb-turned, same-id-turned, distinct-turned, in-order-entries, rule-occupied}
 use Rattle.records.specs.Writes.{writeOf, applyWord, applyWords, apply-entries, EntryFits, fitsWord, fits-write-law, fits-below}
 use Rattle.records.specs.declared.Rule.{Rule}
 
@@ -159,3 +159,176 @@ class-words-law w t r ns = (
   ⊎-elim (λ s. inl (words-of Higher (λ i l. omega arith) w r t ns s)) (λ s. inr (words-of Lower (λ i l. omega arith) w r t ns s)),
   ⊎-elim (λ c. inl (of-words Higher (λ i l. omega arith) w r t ns c)) (λ c. inr (of-words Lower (λ i l. omega arith) w r t ns c)),
 )
+
+-- document 01: overlap at equal priority
+unfoldable pub tied : ℕ → Words → Words → Bool
+tied w a b = (overlapping w a b && eqb (rank w a) (rank w b)) && (occupied w a && occupied w b)
+
+overlap-turned : (w : ℕ) (a b : Words) → Overlap w (value a) (mask w a) (value b) (mask w b) → Overlap w (value b) (mask w b) (value a) (mask w a)
+overlap-turned w a b o j h i c = o j h i (c .1, c .0, λ e. c .2 (sym e))
+
+-- overlap, in either order
+pub overlapping-turned : (w : ℕ) (a b : Words) → overlapping w a b ≡ overlapping w b a
+overlapping-turned w a b =
+    let l = overlaps-law w (value a) (mask w a) (value b) (mask w b) in
+    let m = overlaps-law w (value b) (mask w b) (value a) (mask w a) in
+    same-truth (overlapping w a b) (overlapping w b a) (λ e. m .1 (overlap-turned w a b (l .0 e)), λ e. l .1 (overlap-turned w b a (m .0 e)))
+
+-- two occupied records that overlap, their priorities in a relation that a test decides
+related-law : (w : ℕ) (a b : Words) (test : Bool) (P : Type 0) → (test ≡ true) ↔ P
+    → ((overlapping w a b && test) && (occupied w a && occupied w b) ≡ true)
+    ↔ ((occupied w a ≡ true) × (occupied w b ≡ true) × Overlap w (value a) (mask w a) (value b) (mask w b) × P)
+related-law w a b test P law =
+    let first = and-law (overlapping w a b && test) (occupied w a && occupied w b) in
+    let ranks = and-law (overlapping w a b) test in
+    let rules = and-law (occupied w a) (occupied w b) in
+    let over = overlaps-law w (value a) (mask w a) (value b) (mask w b) in (
+      λ e. let p = first .0 e in
+          let q = ranks .0 (p .0) in
+          let o = rules .0 (p .1) in
+          (o .0, o .1, over .0 (q .0), law .0 (q .1)),
+      λ s. first .1 (ranks .1 (over .1 (s .2), law .1 (s .3)), rules .1 (s .0, s .1)),
+    )
+
+pub precedes-law : (w : ℕ) (a b : Words)
+    → (precedes w a b ≡ true)
+    ↔ ((occupied w a ≡ true) × (occupied w b ≡ true) × Overlap w (value a) (mask w a) (value b) (mask w b) × (rank w b < rank w a))
+unfolding precedes
+precedes-law w a b =
+    related-law w a b (ltb (rank w b) (rank w a)) (rank w b < rank w a) (ltb-true (rank w b) (rank w a), lt-ltb (rank w b) (rank w a))
+
+pub tied-law : (w : ℕ) (a b : Words)
+    → (tied w a b ≡ true)
+    ↔ ((occupied w a ≡ true) × (occupied w b ≡ true) × Overlap w (value a) (mask w a) (value b) (mask w b) × (rank w a ≡ rank w b))
+unfolding tied
+tied-law w a b = related-law w a b (eqb (rank w a) (rank w b)) (rank w a ≡ rank w b) (eqb-true (rank w a) (rank w b), eq-eqb (rank w a) (rank w b))
+
+pub tied-turned : (w : ℕ) (a b : Words) → tied w a b ≡ tied w b a
+unfolding tied
+tied-turned w a b =
+    ap₂ _&&_ (ap₂ _&&_ (overlapping-turned w a b) (eqb-turned (rank w a) (rank w b))) (and-comm (occupied w a) (occupied w b))
+
+-- of two rules of different ids that do not tie, one precedes the other exactly when the other before it is out of order
+pub precedes-misordered : (w : ℕ) (a b : Words) → tied w a b ≡ false → sameId w a b ≡ false → precedes w a b ≡ misordered w b a
+precedes-misordered w a b untied apart = same-truth (precedes w a b) (misordered w b a) (forth, back)
+  where
+    forth : precedes w a b ≡ true → misordered w b a ≡ true
+    forth e =
+        let s = precedes-law w a b .0 e in
+        misordered-law w b a .1 (
+          s .1,
+          s .0,
+          λ d. true≢false (sym (same-id-law w a b .1 (s .0, s .1, sym d)) ∙ apart),
+          overlap-turned w a b (s .2),
+          omega (arith, s .3),
+        )
+
+    back : misordered w b a ≡ true → precedes w a b ≡ true
+    back e =
+        let s = misordered-law w b a .0 e in
+        let o = overlap-turned w b a (s .3) in
+        let ne : rank w a ≢ rank w b = λ d. true≢false (sym (tied-law w a b .1 (s .1, s .0, o, d)) ∙ untied) in
+        precedes-law w a b .1 (s .1, s .0, o, omega (arith, s .4))
+
+-- the tests of a record beside that of a rule, by the rule's fields
+module _ (w : ℕ) (r : Rule) (named : r .id ≢ 0) (small : r .action < 4294967296) (x : Words) where
+  occupied-rule : (b : Bool) → b && (occupied w x && occupied w (word (recordOf w r))) ≡ b && occupied w x
+  occupied-rule b = ap (λ (o : Bool). b && (occupied w x && o)) (rule-occupied w r named small) ∙ ap (λ (o : Bool). b && o) (and-true (occupied w x))
+
+  pub rule-overlapping : overlapping w x (word (recordOf w r)) ≡ overlaps w (value x) (mask w x) (word (r .value)) (word (r .mask))
+  rule-overlapping = overlaps-cong w (λ j h. refl) (λ j h. refl) (record-value w r) (record-mask w r)
+
+  pub rule-same : sameId w x (word (recordOf w r)) ≡ eqb (ident w x) (r .id) && occupied w x
+  unfolding sameId
+  rule-same =
+      occupied-rule (eqb (ident w x) (ident w (word (recordOf w r)))) ∙ ap (λ (n : ℕ). eqb (ident w x) n && occupied w x) (record-ident w r small)
+
+  pub rule-tied : tied w x (word (recordOf w r))
+      ≡ (overlaps w (value x) (mask w x) (word (r .value)) (word (r .mask)) && eqb (rank w x) (r .priority)) && occupied w x
+  unfolding tied
+  rule-tied =
+      occupied-rule (overlapping w x (word (recordOf w r)) && eqb (rank w x) (rank w (word (recordOf w r))))
+      ∙ ap₂ (λ (o : Bool) (p : ℕ). (o && eqb (rank w x) p) && occupied w x) rule-overlapping (record-rank w r)
+
+  distinct-rule : distinct w x (word (recordOf w r)) ≡ not (eqb (ident w x) (r .id)) && occupied w x
+  unfolding distinct
+  distinct-rule =
+      occupied-rule (not (eqb (ident w x) (ident w (word (recordOf w r)))))
+      ∙ ap (λ (n : ℕ). not (eqb (ident w x) n) && occupied w x) (record-ident w r small)
+
+  -- the record before the rule
+  pub rule-misordered : misordered w x (word (recordOf w r))
+      ≡ (overlaps w (value x) (mask w x) (word (r .value)) (word (r .mask)) && leb (rank w x) (r .priority))
+      && (not (eqb (ident w x) (r .id)) && occupied w x)
+  unfolding misordered
+  rule-misordered = ap₂ _&&_ (ap₂ (λ (o : Bool) (p : ℕ). o && leb (rank w x) p) rule-overlapping (record-rank w r)) distinct-rule
+
+  -- the rule before the record
+  pub misordered-rule : misordered w (word (recordOf w r)) x
+      ≡ (overlaps w (value x) (mask w x) (word (r .value)) (word (r .mask)) && leb (r .priority) (rank w x))
+      && (not (eqb (ident w x) (r .id)) && occupied w x)
+  unfolding misordered
+  misordered-rule =
+      ap₂ _&&_
+      (ap₂ (λ (o : Bool) (p : ℕ). o && leb p (rank w x)) (overlapping-turned w (word (recordOf w r)) x ∙ rule-overlapping) (record-rank w r))
+      (distinct-turned w (word (recordOf w r)) x ∙ distinct-rule)
+
+-- the new rule before the rule of slot i, or after it, would be out of order
+abbrev pub newMisordered : ℕ → Rule → List ℕ → ℕ → Bool
+newMisordered w r t i = misordered w (word (recordOf w r)) (slotWords w t i)
+
+abbrev pub misorderedNew : ℕ → Rule → List ℕ → ℕ → Bool
+misorderedNew w r t i = misordered w (slotWords w t i) (word (recordOf w r))
+
+-- no slot ties with the rule, and none has its id: checks 8 and 6
+abbrev pub Untied : ℕ → List ℕ → Rule → Type 0
+Untied w t r = (i : ℕ) → i < slots w t → tied w (slotWords w t i) (word (recordOf w r)) ≡ false
+
+abbrev pub IdNew : ℕ → List ℕ → Rule → Type 0
+IdNew w t r = (i : ℕ) → i < slots w t → sameId w (slotWords w t i) (word (recordOf w r)) ≡ false
+
+module _ (w : ℕ) (t : List ℕ) (r : Rule) where
+  new-before : (i : ℕ) → i < slots w t → newMisordered w r t i ≡ entryMisordered w (recordOf w r) (getD (entries w t) i (vacant w))
+  new-before i h = sym (misordered-cong w (λ j l. refl) (entry-same w t i h))
+
+  new-after : (i : ℕ) → i < slots w t → misorderedNew w r t i ≡ entryMisordered w (getD (entries w t) i (vacant w)) (recordOf w r)
+  new-after i h = sym (misordered-cong w (entry-same w t i h) (λ j l. refl))
+
+  -- the rule's id is new in the layout exactly when it is in the table
+  pub new-id-entries : NewId (vacant w) (entrySame w) (entries w t) (recordOf w r) ↔ IdNew w t r
+  new-id-entries =
+      let n = entries-length w t in
+      let at : (i : ℕ) → i < slots w t
+          → entrySame w (getD (entries w t) i (vacant w)) (recordOf w r) ≡ sameId w (slotWords w t i) (word (recordOf w r)) =
+          λ i h. same-id-cong w (entry-same w t i h) (λ j l. refl) in
+      (λ f i h. sym (at i h) ∙ f i (omega arith), λ f i h. at i (omega arith) ∙ f i (omega arith))
+
+  -- A + 1 and B, searched in the table itself
+  pub after-preceding-slots : afterLast (newMisordered w r t) (slots w t) ≡ afterPreceding (vacant w) (entryMisordered w) (entries w t) (recordOf w r)
+  after-preceding-slots =
+      ap (afterLast (newMisordered w r t)) (sym (entries-length w t))
+      ∙ after-preceding-by (vacant w) (entryMisordered w) (entries w t) (recordOf w r) (newMisordered w r t)
+      (λ i h. new-before i (let n = entries-length w t in omega arith))
+
+  pub first-dependant-slots : least (misorderedNew w r t) (slots w t) 0 ≡ firstDependant (vacant w) (entryMisordered w) (entries w t) (recordOf w r)
+  first-dependant-slots =
+      ap (λ (n : ℕ). least (misorderedNew w r t) n 0) (sym (entries-length w t))
+      ∙ first-dependant-by (vacant w) (entryMisordered w) (entries w t) (recordOf w r) (misorderedNew w r t)
+      (λ i h. new-after i (let n = entries-length w t in omega arith))
+
+  -- Document 01: A is the highest slot holding a rule that precedes the new one, B the lowest holding one that depends on it.
+  module _ (untied : Untied w t r) (idNew : IdNew w t r) where
+    pub precedes-new : (i : ℕ) → i < slots w t → precedes w (slotWords w t i) (word (recordOf w r)) ≡ newMisordered w r t i
+    precedes-new i h = precedes-misordered w (slotWords w t i) (word (recordOf w r)) (untied i h) (idNew i h)
+
+    pub new-precedes : (i : ℕ) → i < slots w t → precedes w (word (recordOf w r)) (slotWords w t i) ≡ misorderedNew w r t i
+    new-precedes i h =
+        precedes-misordered w (word (recordOf w r)) (slotWords w t i) (tied-turned w (word (recordOf w r)) (slotWords w t i) ∙ untied i h) (same-id-turned w (word (recordOf w r)) (slotWords w t i) ∙ idNew i h)
+
+    pub after-preceding-precedes : afterLast (λ i. precedes w (slotWords w t i) (word (recordOf w r))) (slots w t)
+        ≡ afterPreceding (vacant w) (entryMisordered w) (entries w t) (recordOf w r)
+    after-preceding-precedes = after-last-cong (slots w t) precedes-new ∙ after-preceding-slots
+
+    pub first-dependant-precedes : least (λ i. precedes w (word (recordOf w r)) (slotWords w t i)) (slots w t) 0
+        ≡ firstDependant (vacant w) (entryMisordered w) (entries w t) (recordOf w r)
+    first-dependant-precedes = least-cong (slots w t) 0 (λ i l h. new-precedes i (omega arith)) ∙ first-dependant-slots
