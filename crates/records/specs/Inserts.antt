@@ -8,7 +8,7 @@ use mathlib.Core.List.{List, [], _∷_, map}
 use Prim.Native.Nat.{ℕ, zero, suc, _≤_, _<_}
 use native.Mathlib.Omega.{arith}
 use lib.Dec.{eqb, ltb, leb}
-use lib.ListN.{length, getD, take}
+use lib.ListN.{length, getD, take, length-map}
 use borrow.Author.Tests.{eqb-true, eq-eqb, ltb-true, lt-ltb}
 use Rattle.search.specs.Search.{and-law, least, least-cong, afterLast, after-last-cong}
 use Rattle.ternary.specs.Pattern.{Words, Overlap, overlaps, overlaps-law, overlaps-cong}
@@ -16,14 +16,18 @@ use Rattle.layout.specs.Order.{Higher, Lower}
 use Rattle.layout.specs.Held.{NewId}
 use Rattle.layout.specs.Write.{Write, copy, put, clear, applied}
 use Rattle.layout.specs.Class.{Sequence, InClass}
-use Rattle.layout.specs.Plan.{afterPreceding, firstDependant}
+use Rattle.layout.specs.Plan.{Choice, afterPreceding, firstDependant, insertChoice, writes}
+use Rattle.layout.specs.Valid.{Between, Placed}
+use Rattle.layout.specs.Insert.{Valid, LeastPlan, insert-plan}
 use Rattle.layout.specs.InPlace.{after-preceding-by, first-dependant-by}
-use Rattle.records.specs.Record.{word, slotWords, value, mask, ident, rank, occupied, recordOf}
+use Rattle.records.specs.Record.{word, slotWords, value, mask, ident, rank, empty, occupied, recordOf}
 use Rattle.records.specs.Order.{slots, overlapping, precedes, sameId, distinct, misordered, InOrder}
+use Rattle.records.specs.Checks.{checkTwice, checkOrder}
 use Rattle.records.specs.Laws.{same-id-law, misordered-law}
 use Rattle.records.specs.Rules.{record-value, record-mask, record-ident, record-rank}
-use Rattle.records.specs.Entries.{vacant, entries, entryOccupied, entrySame, entryMisordered, EntriesInOrder, entries-length, entry-same, same-id-cong, misordered-cong, same-truth, eqb-turned, same-id-turned, distinct-turned, in-order-entries, rule-occupied}
-use Rattle.records.specs.Writes.{writeOf, applyWord, applyWords, apply-entries, EntryFits, fitsWord, fits-write-law, fits-below}
+use Rattle.records.specs.Entries.{vacant, entries, entryOccupied, entrySame, entryMisordered, EntriesInOrder, entries-length, entry-same, same-id-cong, misordered-cong, same-truth, eqb-turned, same-id-turned, distinct-turned, entry-laws, occupied-at, in-order-entries, order-entries, unique-entries, rule-occupied}
+use Rattle.records.specs.Writes.{writeOf, writeWord, WritesBelow, words-back, applyWord, applyWords, apply-entries, apply-plan, EntryFits, fitsWord, fits-write-law, fits-below, plan-below, plan-entries}
+use Rattle.records.specs.declared.Check.the-variants.{Pass}
 use Rattle.records.specs.declared.Rule.{Rule}
 
 -- the words whose writes are in document 01's comparison class, from the table and rule of the plan
@@ -332,3 +336,53 @@ module _ (w : ℕ) (t : List ℕ) (r : Rule) where
     pub first-dependant-precedes : least (λ i. precedes w (word (recordOf w r)) (slotWords w t i)) (slots w t) 0
         ≡ firstDependant (vacant w) (entryMisordered w) (entries w t) (recordOf w r)
     first-dependant-precedes = least-cong (slots w t) 0 (λ i l h. new-precedes i (omega arith)) ∙ first-dependant-slots
+
+-- an insert's plan, as layouts have it, on the table's entries
+abbrev pub ValidPlan : ℕ → List ℕ → Rule → Choice → Type 0
+ValidPlan w t r choice = Valid (vacant w) (entryOccupied w) (entrySame w) (entryMisordered w) (entries w t) (recordOf w r) choice
+
+abbrev pub insertChoiceOf : ℕ → List ℕ → Rule → Choice
+insertChoiceOf w t r = insertChoice (vacant w) (entryOccupied w) (entryMisordered w) (entries w t) (recordOf w r)
+
+-- the plan's words
+abbrev pub planWords : Choice → List ℕ
+planWords choice = map writeWord (writes choice)
+
+-- a table that passes checks 3 and 4, a rule of new id, a slot that is empty, and A < B: there is a plan, and it is a least one
+pub insert-words : (w : ℕ) (t : List ℕ) (r : Rule) → checkTwice w t ≡ Pass → checkOrder w t ≡ Pass → IdNew w t r → r .id ≢ 0 → r .action < 4294967296
+    → (e : ℕ) → e < slots w t → empty w (slotWords w t e) ≡ true → afterLast (newMisordered w r t) (slots w t) ≤ least (misorderedNew w r t) (slots w t) 0
+    → LeastPlan (vacant w) (entryOccupied w) (entrySame w) (entryMisordered w) (entries w t) (recordOf w r) (insertChoiceOf w t r)
+insert-words w t r twice order new named small e h free uncrossed =
+    let n = entries-length w t in
+    insert-plan (entry-laws w) (entries w t) (unique-entries w t .1 twice) (recordOf w r) (order-entries w t .1 order) (new-id-entries w t r .1 new)
+    (rule-occupied w r named small) e (omega arith) (occupied-at w t e h ∙ ap not free)
+    (omega (arith, after-preceding-slots w t r, first-dependant-slots w t r))
+
+-- the words of a valid plan
+module _ (w : ℕ) (t : List ℕ) (r : Rule) (small : slots w t ≤ 65534) (choice : Choice) (valid : ValidPlan w t r choice) where
+  below : WritesBelow (slots w t) (writes choice)
+  below = plan-below w t r small (writes choice) (valid .fits)
+
+  pub plan-words-count : length (planWords choice) ≡ suc (choice .cost)
+  plan-words-count = length-map (writes choice) writeWord ∙ valid .count
+
+  pub plan-words-class : InClassWords w t r (planWords choice)
+  plan-words-class = rw (words-back (slots w t) small (writes choice) below) (valid .member)
+
+  -- between the words the table holds its rules, in order, and after the last the new rule too
+  pub plan-words-between : (k : ℕ) → k < length (planWords choice)
+      → Between (vacant w) (entryOccupied w) (entrySame w) (entryMisordered w) (entries w t) (entries w (applyWords w t r (take k (planWords choice))))
+  plan-words-between k h =
+      rw (plan-entries w t r small (writes choice) (valid .fits) k) (valid .between k (omega (arith, length-map (writes choice) writeWord)))
+
+  pub plan-words-placed :
+      Placed (vacant w) (entryOccupied w) (entrySame w) (entryMisordered w) (entries w t) (recordOf w r) (choice .slot)
+      (entries w (applyWords w t r (planWords choice)))
+  plan-words-placed = rw (apply-plan w t r small (writes choice) below) (valid .placed)
+
+-- no words of the class are fewer than a least plan's
+pub plan-words-least : (w : ℕ) (t : List ℕ) (r : Rule) (choice : Choice)
+    → LeastPlan (vacant w) (entryOccupied w) (entrySame w) (entryMisordered w) (entries w t) (recordOf w r) choice
+    → (ns : List ℕ) → InClassWords w t r ns → length (planWords choice) ≤ length ns
+plan-words-least w t r choice plan ns q =
+    omega (arith, length-map (writes choice) writeWord, length-map ns writeOf, plan .least (map writeOf ns) q)

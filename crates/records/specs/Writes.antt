@@ -325,8 +325,8 @@ take-map f (suc k) (x ∷ l) = ap (λ (r : List _). f x ∷ r) (take-map f k l)
 
 -- the words of writes whose slots exist
 module _ (n : ℕ) (small : n ≤ 65534) (xs : List Write) (below : WritesBelow n xs) where
-  back : map writeOf (map writeWord xs) ≡ xs
-  back = writes-of-words xs (λ k h. slots-below-more small (getD xs k (clear 0)) (below k h))
+  pub words-back : map writeOf (map writeWord xs) ≡ xs
+  words-back = writes-of-words xs (λ k h. slots-below-more small (getD xs k (clear 0)) (below k h))
 
   pub word-at : (k : ℕ) → k < length xs → writeOf (getD (map writeWord xs) k 0) ≡ getD xs k (clear 0)
   word-at k h =
@@ -338,24 +338,28 @@ module _ (n : ℕ) (small : n ≤ 65534) (xs : List Write) (below : WritesBelow 
       let l : k < length xs = omega (arith, length-map xs writeWord) in
       rw (word-at k l) (below k l)
 
--- a plan's writes, each of which fits in its turn, carried out on the table by their words
+-- carried out on the table by their words they do what the writes do to the layout
+pub apply-plan : (w : ℕ) (t : List ℕ) (r : Rule) → slots w t ≤ 65534 → (xs : List Write) → WritesBelow (slots w t) xs
+    → entries w (applyWords w t r (map writeWord xs)) ≡ carried (vacant w) (recordOf w r) (entries w t) xs
+apply-plan w t r small xs below =
+    apply-words-entries w t r (map writeWord xs) (words-below (slots w t) small xs below)
+    ∙ ap (carried (vacant w) (recordOf w r) (entries w t)) (words-back (slots w t) small xs below)
+
+-- a plan's writes, each of which fits in its turn
 module _
-    (w : ℕ) (t : List ℕ) (r : Rule) (xs : List Write) (small : slots w t ≤ 65534)
+    (w : ℕ) (t : List ℕ) (r : Rule) (small : slots w t ≤ 65534) (xs : List Write)
     (turn : (k : ℕ) → k < length xs → EntryFits w (carried (vacant w) (recordOf w r) (entries w t) (take k xs)) (getD xs k (clear 0))) where
   pub plan-below : WritesBelow (slots w t) xs
   plan-below k h =
       rw (carried-length (vacant w) (recordOf w r) (entries w t) (take k xs), entries-length w t) at
       (entry-fits-below w (carried (vacant w) (recordOf w r) (entries w t) (take k xs)) (getD xs k (clear 0)) (turn k h))
 
-  -- after each number of words the layout is that after as many writes
+  -- after each number of its words the layout is that after as many writes
   pub plan-entries : (k : ℕ) → entries w (applyWords w t r (take k (map writeWord xs))) ≡ carried (vacant w) (recordOf w r) (entries w t) (take k xs)
   plan-entries k =
       rw (take-map writeWord k xs)
-      (apply-words-entries w t r (map writeWord (take k xs)) (words-below (slots w t) small (take k xs) first)
-      ∙ ap (carried (vacant w) (recordOf w r) (entries w t)) (back (slots w t) small (take k xs) first))
-    where
-      first : WritesBelow (slots w t) (take k xs)
-      first j h = let l = length-take k xs in rw (getD-take k xs j (clear 0) (omega arith)) (plan-below j (omega arith))
+      (apply-plan w t r small (take k xs)
+      (λ j h. let l = length-take k xs in rw (getD-take k xs j (clear 0) (omega arith)) (plan-below j (omega arith))))
 
   -- and the next word fits
   pub plan-fits : (k : ℕ) → k < length xs → fitsWord w (applyWords w t r (take k (map writeWord xs))) (getD (map writeWord xs) k 0) ≡ true
