@@ -4,19 +4,18 @@ use mathlib.Core.Path.{_≡_, refl, sym, ap, ap₂, _∙_}
 use mathlib.Core.Bool.{Bool, true, false, not, _&&_, and-comm, true≢false, false≢true}
 use mathlib.Core.Logic.{_↔_, ⊎-elim}
 use mathlib.Core.List.{List, [], _∷_, map}
-use Prim.Native.Nat.{ℕ, zero, suc, _+_, _*_, _/_, _%_, _≤_, _<_}
+use Prim.Native.Nat.{ℕ, zero, suc, _+_, _*_, _/_, _%_, _<_}
 use native.Mathlib.Nat.{add-zero}
 use native.Mathlib.Omega.{arith}
 use lib.Arith.{digits-div}
 use lib.Dec.{eqb, ltb, leb}
-use lib.ListN.{length, getD, replicate, length-replicate, getD-replicate, length-map}
+use lib.ListN.{length, getD, replicate, getD-replicate, length-map}
 use borrow.Author.Tests.{eqb-true, eq-eqb}
-use Rattle.search.specs.Search.{all, all-cong, decided}
-use Rattle.ternary.specs.Pattern.{Words, matches, matches-cong, overlaps, overlaps-cong}
-use Rattle.layout.specs.Order.{Laws}
-use Rattle.layout.specs.Order
+use Rattle.search.specs.Search.{all-cong, decided}
+use Rattle.ternary.specs.Pattern.{Words, matches-cong, overlaps-cong}
+use Rattle.layout.specs.Order.{Laws, InOrder as LayoutInOrder}
 use Rattle.layout.specs.Held.{Unique, unique-earlier}
-use Rattle.records.specs.Record.{word, listed, recordWords, slotWords, value, mask, ident, action, rank, empty, occupied, patternMatches, slotMatches, recordOf}
+use Rattle.records.specs.Record.{word, listed, recordWords, slotWords, value, mask, ident, action, rank, empty, occupied, slotMatches, recordOf}
 use Rattle.records.specs.Order.{slots, overlapping, sameId, distinct, misordered, precedes, InOrder}
 use Rattle.records.specs.Checks.{checkShape, checkTwice, checkOrder}
 use Rattle.records.specs.Laws.{shape-law, empty-law, twice-law, same-id-law, misordered-law, ordered-law, order-law}
@@ -48,7 +47,7 @@ entryMisordered w a b = misordered w (word a) (word b)
 
 -- a layout of entries is in order, and each id stands once
 abbrev pub EntriesInOrder : ℕ → List (List ℕ) → Type 0
-EntriesInOrder w l = Order.InOrder (vacant w) (entryMisordered w) l
+EntriesInOrder w l = LayoutInOrder (vacant w) (entryMisordered w) l
 
 abbrev pub EntriesUnique : ℕ → List (List ℕ) → Type 0
 EntriesUnique w l = Unique (vacant w) (entrySame w) l

@@ -2,100 +2,27 @@
 -- The decoded write is that of layouts, so that a plan found there is carried out on words here.
 use mathlib.Core.Path.{_≡_, refl, sym, ap, ap₂, _∙_}
 use mathlib.Core.Bool.{Bool, true, false, not, cond, _&&_, _||_, Bool·not-not}
-use mathlib.Core.Logic.{_↔_, _≢_, ⊎-elim}
-use mathlib.Core.List.{List, [], _∷_, _++_, map, foldl, foldl-append}
-use Prim.Native.Nat.{ℕ, zero, suc, _+_, _-_, _*_, _/_, _%_, _≤_, _<_}
-use native.Mathlib.Nat.{div-add-mod', mod-lt, mul-le-mul-right}
-use native.Mathlib.Decide.{ℕ-discrete, decLt}
+use mathlib.Core.Logic.{_↔_, _≢_}
+use mathlib.Core.List.{List, [], _∷_, map, foldl, foldl-append}
+use Prim.Native.Nat.{ℕ, zero, suc, _+_, _*_, _/_, _%_, _≤_, _<_}
+use native.Mathlib.Nat.{div-add-mod'}
+use native.Mathlib.Decide.{ℕ-discrete}
 use native.Mathlib.Omega.{arith}
 use lib.Arith.{digits-div, digits-mod}
 use lib.Dec.{eqb, ltb}
-use lib.ListN.{length, getD, set, take, drop, length-append, length-take, length-drop, length-set, length-map, length-replicate, List·getD-append}
-use lib.Seq.{take-suc, length-take-le, getD-append-add, getD-take, getD-drop, getD-set-same, getD-set-other, ext-getD}
-use borrow.Author.Tests.{eqb-true, eq-eqb, ne-eqb, ltb-true}
-use Rattle.search.specs.Search.{any, decided}
+use lib.ListN.{length, getD, set, take, length-take, length-set, length-map, length-replicate}
+use lib.Seq.{take-suc, getD-take}
+use borrow.Author.Tests.{ne-eqb, ltb-true}
+use Rattle.search.specs.Search.{any}
 use Rattle.layout.specs.Held.{free}
 use Rattle.layout.specs.Write.{Write, copy, put, clear, applied, carried, Fits, fits, fits-law}
 use Rattle.layout.specs.InPlace.{free-by}
-use Rattle.records.specs.Record.{word, listed, recordWords, slotWords, empty, occupied, recordOf, putSlot}
+use Rattle.records.specs.Record.{recordWords, slotWords, empty, occupied, recordOf, putSlot}
 use Rattle.records.specs.Order.{slots, sameId}
-use Rattle.records.specs.Laws.{slot-within}
-use Rattle.records.specs.Rules.{length-listed, listed-words, listed-cong, record-length}
-use Rattle.records.specs.Entries.{vacant, entryAt, entries, entryOccupied, entrySame, SameRecord, entries-length, getD-map-within, entry-at, occupied-at, same-at}
+use Rattle.records.specs.Rules.{length-listed, record-length}
+use Rattle.records.specs.Entries.{vacant, entryAt, entries, entryOccupied, entrySame, entries-length, getD-map-within, entry-at, occupied-at, same-at}
+use Rattle.records.specs.PutSlot.{put-length, entries-put}
 use Rattle.records.specs.declared.Rule.{Rule}
-
--- one record put into slot i of a table
-module _ (w : ℕ) (t : List ℕ) (i : ℕ) (x : List ℕ) (inside : i < slots w t) (whole : length x ≡ recordWords w) where
-  start : length (take (i * recordWords w) t) ≡ i * recordWords w
-  start = length-take-le (i * recordWords w) t (omega (arith, slot-within w t i inside))
-
-  front : length (take (i * recordWords w) t ++ x) ≡ i * recordWords w + recordWords w
-  front = length-append (take (i * recordWords w) t) x ∙ omega (arith, start)
-
-  pub put-length : length (putSlot w t i x) ≡ length t
-  unfolding putSlot
-  put-length =
-      length-append (take (i * recordWords w) t ++ x) (drop (i * recordWords w + recordWords w) t)
-      ∙ omega (arith, front, length-drop (i * recordWords w + recordWords w) t, slot-within w t i inside)
-
-  pub put-slots : slots w (putSlot w t i x) ≡ slots w t
-  put-slots = ap (λ (n : ℕ). n / recordWords w) put-length
-
-  -- the slot has the record's words
-  pub put-here : SameRecord w (slotWords w (putSlot w t i x) i) (word x)
-  unfolding putSlot
-  put-here j h =
-      List·getD-append (take (i * recordWords w) t ++ x) (drop (i * recordWords w + recordWords w) t) 0 (i * recordWords w + j) (omega (arith, front))
-      ∙ (ap (λ (k : ℕ). getD (take (i * recordWords w) t ++ x) (k + j) 0) (sym start) ∙ getD-append-add (take (i * recordWords w) t) x j 0)
-
-  before : (k : ℕ) → k < i * recordWords w → getD (putSlot w t i x) k 0 ≡ getD t k 0
-  unfolding putSlot
-  before k h =
-      List·getD-append (take (i * recordWords w) t ++ x) (drop (i * recordWords w + recordWords w) t) 0 k (omega (arith, front))
-      ∙ (List·getD-append (take (i * recordWords w) t) x 0 k (omega (arith, start)) ∙ getD-take (i * recordWords w) t k 0 h)
-
-  after : (k : ℕ) → i * recordWords w + recordWords w ≤ k → getD (putSlot w t i x) k 0 ≡ getD t k 0
-  unfolding putSlot
-  after k h =
-      let m : ℕ = k - (i * recordWords w + recordWords w) in
-      let there : length (take (i * recordWords w) t ++ x) + m ≡ k = omega (arith, front) in
-      let back : i * recordWords w + recordWords w + m ≡ k = omega arith in
-      ap (λ (n : ℕ). getD (take (i * recordWords w) t ++ x ++ drop (i * recordWords w + recordWords w) t) n 0) (sym there)
-      ∙ (getD-append-add (take (i * recordWords w) t ++ x) (drop (i * recordWords w + recordWords w) t) m 0
-      ∙ (getD-drop (i * recordWords w + recordWords w) t m 0 ∙ ap (λ (n : ℕ). getD t n 0) back))
-
-  -- each other slot keeps its words
-  pub put-other : (k : ℕ) → k ≢ i → SameRecord w (slotWords w (putSlot w t i x) k) (slotWords w t k)
-  put-other k d j h = pick (decLt k i)
-    where
-      pick : Dec (k < i) → getD (putSlot w t i x) (k * recordWords w + j) 0 ≡ getD t (k * recordWords w + j) 0
-      pick (yes l) = before (k * recordWords w + j) (omega (arith, mul-le-mul-right (recordWords w) l))
-      pick (no l) =
-          let r : suc i ≤ k = omega arith in
-          after (k * recordWords w + j) (omega (arith, mul-le-mul-right (recordWords w) r))
-
-  -- so the layout has the record as its entry, and its other entries as they were
-  pub entries-put : entries w (putSlot w t i x) ≡ set (entries w t) i x
-  entries-put =
-      ext-getD (vacant w) (entries w (putSlot w t i x)) (set (entries w t) i x) (new ∙ (put-slots ∙ sym (length-set (entries w t) i x ∙ old)))
-      (λ k l. pick k (let e = new in let s = put-slots in omega arith) (ℕ-discrete k i))
-    where
-      new : length (entries w (putSlot w t i x)) ≡ slots w (putSlot w t i x)
-      new = entries-length w (putSlot w t i x)
-
-      old : length (entries w t) ≡ slots w t
-      old = entries-length w t
-
-      read : (k : ℕ) → k < slots w t → getD (entries w (putSlot w t i x)) k (vacant w) ≡ entryAt w (putSlot w t i x) k
-      read k l = entry-at w (putSlot w t i x) k (let s = put-slots in omega arith)
-
-      pick : (k : ℕ) → k < slots w t → Dec (k ≡ i) → getD (entries w (putSlot w t i x)) k (vacant w) ≡ getD (set (entries w t) i x) k (vacant w)
-      pick k l (yes e) =
-          rw e (read i inside ∙ (listed-cong (recordWords w) put-here ∙ (listed-words (recordWords w) x whole
-          ∙ sym (getD-set-same (entries w t) i x (vacant w) (let n = old in omega arith)))))
-      pick k l (no d) =
-          read k l ∙ (listed-cong (recordWords w) (put-other k d) ∙ (sym (entry-at w t k l)
-          ∙ sym (getD-set-other (entries w t) i k x (vacant w) d)))
 
 -- document 01: one 32-bit plan word, from × 65,536 + to; from 65,535 puts in the rule given with the call, from 65,534 empties slot to,
 -- any other copies slot from to slot to
@@ -332,6 +259,11 @@ module _ (n : ℕ) (small : n ≤ 65534) (xs : List Write) (below : WritesBelow 
   word-at k h =
       ap writeOf (getD-map-within writeWord xs k (clear 0) 0 h)
       ∙ write-of-word (getD xs k (clear 0)) (slots-below-more small (getD xs k (clear 0)) (below k h))
+
+  pub words-small : (k : ℕ) → k < length xs → getD (map writeWord xs) k 0 < 4294967296
+  words-small k h =
+      rw (getD-map-within writeWord xs k (clear 0) 0 h)
+      (write-word-small (getD xs k (clear 0)) (slots-below-more (omega arith) (getD xs k (clear 0)) (below k h)))
 
   pub words-below : WordsBelow n (map writeWord xs)
   words-below k h =
