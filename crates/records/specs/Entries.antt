@@ -4,7 +4,7 @@ use mathlib.Core.Path.{_≡_, refl, sym, ap, ap₂, _∙_}
 use mathlib.Core.Bool.{Bool, true, false, not, _&&_, and-comm, true≢false, false≢true}
 use mathlib.Core.Logic.{_↔_, ⊎-elim}
 use mathlib.Core.List.{List, [], _∷_, map}
-use Prim.Native.Nat.{ℕ, zero, suc, _+_, _*_, _/_, _%_, _<_}
+use Prim.Native.Nat.{ℕ, zero, suc, _+_, _*_, _/_, _%_, _≤_, _<_}
 use native.Mathlib.Nat.{add-zero}
 use native.Mathlib.Omega.{arith}
 use lib.Arith.{digits-div}
@@ -206,15 +206,18 @@ unique-entries w t =
           (λ x y l h. same-at w t x y (omega arith) (omega arith) ∙ twice-law w t .0 e x y l (omega arith)),
     )
 
--- a table that passes check 1 has no word outside its slots
-pub shaped-length : (w : ℕ) (t : List ℕ) → checkShape w t ≡ Pass → length t ≡ slots w t * recordWords w
-shaped-length w t e =
+-- a table that passes check 1 has 1 to 1,024 slots, and no word outside them
+pub shaped-slots : (w : ℕ) (t : List ℕ) → checkShape w t ≡ Pass → (1 ≤ slots w t) × (slots w t ≤ 1024) × (length t ≡ slots w t * recordWords w)
+shaped-slots w t e =
     let s = shape-law w t .0 e in
     let n : ℕ = s .0 in
     let whole : length t ≡ n * recordWords w + 0 = s .3 ∙ sym (add-zero (n * recordWords w)) in
     let pos : 0 < recordWords w = omega arith in
     let count : slots w t ≡ n = ap (λ (x : ℕ). x / recordWords w) whole ∙ digits-div n pos in
-    s .3 ∙ ap (λ (x : ℕ). x * recordWords w) (sym count)
+    (omega (arith, s .1), omega (arith, s .2), s .3 ∙ ap (λ (x : ℕ). x * recordWords w) (sym count))
+
+pub shaped-length : (w : ℕ) (t : List ℕ) → checkShape w t ≡ Pass → length t ≡ slots w t * recordWords w
+shaped-length w t e = shaped-slots w t e .2
 
 -- a record whose id is not 0 is occupied; so is that of a rule whose id is not 0
 pub ident-occupied : (w : ℕ) (x : Words) → (ident w x ≡ 0 → ⊥) → occupied w x ≡ true
