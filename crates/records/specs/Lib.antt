@@ -1,7 +1,12 @@
 -- What the words of a lent table mean: slot records, rules, order, the first match, and the checks that refuse a table.
--- Record: one slot. Order: two records, and a table's order. Checks: checks 1 to 4 and the first match. Laws, Rules: what these say.
+-- Record, Order, Checks: the definitions. Laws, Rules: what they say. Entries, PutSlot, Writes, ClassWords, Inserts: tables as layouts.
 pub mod Record
 pub mod Order
 pub mod Checks
 pub mod Laws
 pub mod Rules
+pub mod Entries
+pub mod PutSlot
+pub mod Writes
+pub mod ClassWords
+pub mod Inserts
