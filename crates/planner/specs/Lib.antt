@@ -1,0 +1,3 @@
+-- The planner's numbers: costs by position, the words of a chain, the choice, and that they are those of a layout.
+-- Nothing here knows what a slot holds.
+pub mod Costs
