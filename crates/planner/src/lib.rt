@@ -7,7 +7,10 @@ ghost use lib.Dec.{eqb};
 ghost use lib.ListN.{length, getD, drop};
 ghost use Rattle.search.specs.Search.{least};
 ghost use Rattle.layout.specs.Minimum.{minimum};
+ghost use Rattle.layout.specs.Write.{copy};
 ghost use Rattle.planner.specs.Costs.{costOf, positionCost, Sized, Filled};
+ghost use Rattle.planner.specs.Emit.{slotAt, wordOf, Walkable, emitted};
+ghost use Rattle.planner.specs.Choice.{bestOf, preferred, choiceOf};
 
 // Slots from the one number up to, not including, the other.
 pub struct Range {
@@ -88,4 +91,89 @@ pub fn fill_costs(ends: &[u16], costs: &mut [u16], slots: usize)
         let cost = position_cost(ends, costs, slots, position);
         costs[position] = cost;
     }
+}
+
+// The slot at a position.
+fn slot_at(slots: usize, up: bool, position: usize) -> usize
+    requires { ⌜ position < slots ⌝ }
+    ensures { λ r. ⌜ r ≡ slotAt slots up position ⌝ }
+{
+    if up {
+        return slots - 1 - position;
+    }
+    position
+}
+
+// The plan word of a move between two positions.
+fn write_word(slots: usize, up: bool, from: usize, to: usize) -> u32
+    requires { ⌜ slots ≤ 1024 ⌝ }
+    requires { ⌜ from < slots ⌝ }
+    requires { ⌜ to < slots ⌝ }
+    ensures { λ r. ⌜ r ≡ wordOf (copy (slotAt slots up from) (slotAt slots up to)) ⌝ }
+{
+    let source = slot_at(slots, up, from);
+    let target = slot_at(slots, up, to);
+    (source * 65536 + target) as u32
+}
+
+// The words of the chain from a position with `left` moves to make: each is stored on the way back, so that the far end stands first.
+pub fn emit(costs: &[u16], slots: usize, up: bool, plan: &mut [u32], position: usize, left: usize)
+    requires { ⌜ Walkable (now costs) (now plan) slots position left ⌝ }
+    ensures { λ _. ⌜ now (plan .exit) ≡ emitted (costOf (now (costs .entry))) slots up position left ++ drop left (now (plan .entry)) ⌝ }
+{
+    if left == 0 {
+        return;
+    }
+    let next = first_of_cost(costs, position + 1, slots, left - 1);
+    emit(costs, slots, up, plan, next, left - 1);
+    plan[left - 1] = write_word(slots, up, position, next);
+}
+
+// The least cost among the positions from `from` up to, not including, `to`, and the first position that has it.
+fn best_between(costs: &[u16], slots: usize, from: usize, to: usize) -> Best
+    requires { ⌜ to ≤ length (now costs) ⌝ }
+    ensures { λ r. ⌜ r ≡ bestOf (costOf (now (costs .entry))) slots from to ⌝ }
+{
+    let cost = least_between(costs, from, to, slots);
+    let position = first_of_cost(costs, from, to, cost);
+    Best { cost, position }
+}
+
+// How many slots there are from this one on: the position, going up, just past it.
+fn slots_from(slots: usize, slot: usize) -> usize
+    ensures { λ r. ⌜ r ≡ slots - slot ⌝ }
+{
+    if slot < slots { slots - slot } else { 0 }
+}
+
+// The smaller of the two wins, down if equal.
+fn prefer(lower: Best, higher: Best) -> Choice
+    ensures { λ r. ⌜ r ≡ preferred lower higher ⌝ }
+{
+    if lower.cost <= higher.cost {
+        return Choice {
+            up: false,
+            cost: lower.cost,
+            position: lower.position,
+        };
+    }
+    Choice {
+        up: true,
+        cost: higher.cost,
+        position: higher.position,
+    }
+}
+
+// The direction of least cost within the two ranges of slots, and the position from which its chain starts.
+pub fn choose(down: &[u16], up: &[u16], slots: usize, below: Range, above: Range) -> Choice
+    requires { ⌜ slots ≤ length (now down) ⌝ }
+    requires { ⌜ slots ≤ length (now up) ⌝ }
+    ensures { λ r. ⌜ r ≡ choiceOf (costOf (now (down .entry))) (costOf (now (up .entry))) slots below above ⌝ }
+{
+    let end = lesser(below.to, slots);
+    let lower = best_between(down, slots, below.from, end);
+    let start = slots_from(slots, above.to);
+    let past = slots_from(slots, above.from);
+    let higher = best_between(up, slots, start, past);
+    prefer(lower, higher)
 }
