@@ -2,10 +2,12 @@
 -- Ranges are in slot numbers; going up, the slots from f up to, not including, e stand at the positions from slots − e up to slots − f.
 use mathlib.Core.Path.{_≡_}
 use mathlib.Core.Bool.{true, false, cond}
-use Prim.Native.Nat.{ℕ, _-_, min}
+use Prim.Native.Nat.{ℕ, _-_, _≤_, _<_, min}
+use native.Mathlib.Omega.{arith}
 use lib.Dec.{eqb, leb}
+use borrow.Author.Tests.{le-leb, lt-leb}
 use Rattle.search.specs.Search.{least}
-use Rattle.layout.specs.Minimum.{minimum, lowest}
+use Rattle.layout.specs.Minimum.{minimum, lowest, lowest-law}
 use Rattle.planner.specs.declared.Range.{Range}
 use Rattle.planner.specs.declared.Best.{Best}
 use Rattle.planner.specs.declared.Choice.{Choice}
@@ -30,6 +32,23 @@ preferred lower higher =
 
 abbrev pub choiceOf : (ℕ → ℕ) → (ℕ → ℕ) → ℕ → Range → Range → Choice
 choiceOf down up slots below above = preferred (bestBelow down slots below) (bestAbove up slots above)
+
+pub preferred-lower : (lower higher : Best) → lower .cost ≤ higher .cost
+    → preferred lower higher ≡ record { up = false; cost = lower .cost; position = lower .position }
+unfolding preferred
+preferred-lower lower higher h = rw (le-leb (lower .cost) (higher .cost) h)
+
+pub preferred-higher : (lower higher : Best) → higher .cost < lower .cost
+    → preferred lower higher ≡ record { up = true; cost = higher .cost; position = higher .position }
+unfolding preferred
+preferred-higher lower higher h = rw (lt-leb (lower .cost) (higher .cost) h)
+
+-- a least cost below the number of slots is that of the position found
+pub best-at : (c : ℕ → ℕ) (slots from to : ℕ) → to ≤ slots → bestOf c slots from to .cost < slots
+    → (bestOf c slots from to .position < slots) × (c (bestOf c slots from to .position) ≡ bestOf c slots from to .cost)
+best-at c slots from to h finite =
+    let r = lowest-law c slots (to - from) from finite in
+    (omega (arith, r .below, r .from), r .value)
 
 -- found in two steps, the cost first
 pub best-found : (c : ℕ → ℕ) (slots from to m p : ℕ) → m ≡ minimum c slots (to - from) from → p ≡ least (λ j. eqb (c j) m) (to - from) from

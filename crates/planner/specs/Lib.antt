@@ -3,3 +3,6 @@
 pub mod Costs
 pub mod Emit
 pub mod Choice
+pub mod Mirrored
+pub mod Walked
+pub mod Agree

@@ -1,7 +1,7 @@
 -- `planner::prefer` meets its contract.
 -- The two returns are the two outcomes of the definition's test.
-use borrow.Author.Tests.{le-leb, lt-leb}
-use Rattle.planner.specs.Choice.{preferred}
+use mathlib.Core.Path.{sym}
+use Rattle.planner.specs.Choice.{preferred-lower, preferred-higher}
 use Rattle.planner.proofs.prefer.Statement.{statement}
 use Rattle.planner.proofs.prefer.Tie as tie
 use Rattle.planner.proofs.prefer.Reads as reads
@@ -9,13 +9,11 @@ use Rattle.planner.proofs.prefer.Lts as lts
 
 -- src/lib.rt:157:9
 returns : tie.Need-returns
-unfolding preferred
-returns c = rw (le-leb _ _ (c .if1 .taken))
+returns c = sym (preferred-lower _ _ (c .if1 .taken))
 
 -- src/lib.rt:153:1
 returns-2 : tie.Need-returns-2
-unfolding preferred
-returns-2 c = rw (lt-leb _ _ (c .if1 .left))
+returns-2 c = sym (preferred-higher _ _ (c .if1 .left))
 
 pub prefer-spec : {M : Type 1} → statement M
 prefer-spec = tie.close (tie.spec returns returns-2)
