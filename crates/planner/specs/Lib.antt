@@ -6,3 +6,4 @@ pub mod Choice
 pub mod Mirrored
 pub mod Walked
 pub mod Agree
+pub mod Ends
