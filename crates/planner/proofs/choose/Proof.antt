@@ -5,38 +5,25 @@ use Rattle.planner.specs.Choice.{bestOf, preferred}
 use borrow.Author.Needs.{needs}
 use Rattle.planner.proofs.choose.Statement.{statement}
 use Rattle.planner.proofs.choose.Tie as tie
-use Rattle.planner.proofs.choose.Reads as reads
-use Rattle.planner.proofs.choose.Lts as lts
-use Rattle.planner.proofs.best_between.Reads as best-between-reads
-use Rattle.planner.proofs.lesser.Reads as lesser-reads
-use Rattle.planner.proofs.prefer.Reads as prefer-reads
-use Rattle.planner.proofs.slots_from.Reads as slots-from-reads
 
--- src/lib.rt:168:9
 lesser-requires : tie.Need-lesser-requires
 lesser-requires c κs = search needs
 
--- src/lib.rt:169:9
 best-between-requires : tie.Need-best-between-requires
 best-between-requires c κs = search needs
 
--- src/lib.rt:170:9
 slots-from-requires : tie.Need-slots-from-requires
 slots-from-requires c κs = search needs
 
--- src/lib.rt:171:9
 slots-from-requires-2 : tie.Need-slots-from-requires-2
 slots-from-requires-2 c κs = search needs
 
--- src/lib.rt:172:9
 best-between-requires-2 : tie.Need-best-between-requires-2
 best-between-requires-2 c κs = search needs
 
--- src/lib.rt:173:5
 prefer-requires : tie.Need-prefer-requires
 prefer-requires c κs = search needs
 
--- src/lib.rt:163:1
 returns : tie.Need-returns
 returns c =
     let a = c .before .before .before .before .before .before .before .before .args in

@@ -9,9 +9,6 @@ use lib.Seq.{drop-set-lt}
 use Rattle.planner.specs.Costs.{costOf, SolvedFrom, solved-more}
 use Rattle.planner.proofs.fill_costs.Statement.{statement}
 use Rattle.planner.proofs.fill_costs.Tie as tie
-use Rattle.planner.proofs.fill_costs.Reads as reads
-use Rattle.planner.proofs.fill_costs.Lts as lts
-use Rattle.planner.proofs.position_cost.Reads as position-cost-reads
 
 abbrev Inv-loop : tie.InvT-loop
 Inv-loop ends costs₀ slots position₀ costs position =

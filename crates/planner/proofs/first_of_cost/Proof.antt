@@ -9,8 +9,6 @@ use Rattle.search.specs.Search.{least}
 use Rattle.planner.specs.Costs.{costOf, least-here, least-further, least-over}
 use Rattle.planner.proofs.first_of_cost.Statement.{statement}
 use Rattle.planner.proofs.first_of_cost.Tie as tie
-use Rattle.planner.proofs.first_of_cost.Reads as reads
-use Rattle.planner.proofs.first_of_cost.Lts as lts
 
 abbrev Inv-loop : tie.InvT-loop
 Inv-loop costs from to cost at₀ at = least (λ (j : ℕ). eqb (costOf costs j) cost) (to - at) at ≡ least (λ (j : ℕ). eqb (costOf costs j) cost) (to - from) from

@@ -8,9 +8,6 @@ use Rattle.layout.specs.Minimum.{minimum}
 use Rattle.planner.specs.Costs.{costOf, minimum-more, minimum-whole}
 use Rattle.planner.proofs.least_between.Statement.{statement}
 use Rattle.planner.proofs.least_between.Tie as tie
-use Rattle.planner.proofs.least_between.Reads as reads
-use Rattle.planner.proofs.least_between.Lts as lts
-use Rattle.planner.proofs.lesser.Reads as lesser-reads
 
 abbrev Inv-loop : tie.InvT-loop
 Inv-loop costs from to top at₀ least₀ at least = (at ≤ to) × (to - at ≤ to - from) × (least ≡ minimum (costOf costs) top (to - at) at)

@@ -6,9 +6,6 @@ use borrow.Author.Needs.{needs}
 use Rattle.planner.specs.Costs.{cost-vacant, cost-found, minimum-high}
 use Rattle.planner.proofs.position_cost.Statement.{statement}
 use Rattle.planner.proofs.position_cost.Tie as tie
-use Rattle.planner.proofs.position_cost.Reads as reads
-use Rattle.planner.proofs.position_cost.Lts as lts
-use Rattle.planner.proofs.least_between.Reads as least-between-reads
 
 mul-end : tie.Need-mul-end
 mul-end c = search needs

@@ -4,14 +4,10 @@ use mathlib.Core.Path.{sym}
 use Rattle.planner.specs.Choice.{preferred-lower, preferred-higher}
 use Rattle.planner.proofs.prefer.Statement.{statement}
 use Rattle.planner.proofs.prefer.Tie as tie
-use Rattle.planner.proofs.prefer.Reads as reads
-use Rattle.planner.proofs.prefer.Lts as lts
 
--- src/lib.rt:157:9
 returns : tie.Need-returns
 returns c = sym (preferred-lower _ _ (c .if1 .taken))
 
--- src/lib.rt:153:1
 returns-2 : tie.Need-returns-2
 returns-2 c = sym (preferred-higher _ _ (c .if1 .left))
 

@@ -4,22 +4,16 @@ use native.Mathlib.Omega.{arith}
 use borrow.Author.Needs.{needs}
 use Rattle.planner.proofs.slot_at.Statement.{statement}
 use Rattle.planner.proofs.slot_at.Tie as tie
-use Rattle.planner.proofs.slot_at.Reads as reads
-use Rattle.planner.proofs.slot_at.Lts as lts
 
--- src/lib.rt:102:16
 sub-result : tie.Need-sub-result
 sub-result c = search needs
 
--- src/lib.rt:102:16
 sub-result-2 : tie.Need-sub-result-2
 sub-result-2 c = search needs
 
--- src/lib.rt:102:9
 returns : tie.Need-returns
 returns c = rw (c .if1 .taken) (omega arith)
 
--- src/lib.rt:97:1
 returns-2 : tie.Need-returns-2
 returns-2 c = search needs
 

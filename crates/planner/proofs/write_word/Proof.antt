@@ -6,15 +6,10 @@ use Rattle.planner.specs.Emit.{slot-below}
 use borrow.Author.Needs.{needs}
 use Rattle.planner.proofs.write_word.Statement.{statement}
 use Rattle.planner.proofs.write_word.Tie as tie
-use Rattle.planner.proofs.write_word.Reads as reads
-use Rattle.planner.proofs.write_word.Lts as lts
-use Rattle.planner.proofs.slot_at.Reads as slot-at-reads
 
--- src/lib.rt:114:9
 slot-at-requires : tie.Need-slot-at-requires
 slot-at-requires c κs = search needs
 
--- src/lib.rt:115:9
 slot-at-requires-2 : tie.Need-slot-at-requires-2
 slot-at-requires-2 c κs = search needs
 
@@ -26,19 +21,15 @@ low c =
       omega (arith, c .slot-at2 .ensures, slot-below (a .slots) (a .up) (a .to) (omega arith)),
     )
 
--- src/lib.rt:116:6
 mul-result : tie.Need-mul-result
 mul-result c = omega (arith, low c)
 
--- src/lib.rt:116:6
 add-result : tie.Need-add-result
 add-result c = omega (arith, low c)
 
--- src/lib.rt:116:5
 cast-result : tie.Need-cast-result
 cast-result c = omega (arith, low c)
 
--- src/lib.rt:108:1
 returns : tie.Need-returns
 returns c = search needs
 
