@@ -20,7 +20,7 @@ use Rattle.layout.specs.Plan.{downCost, upCost, downChain, upChain, bestDown, b
 use Rattle.layout.specs.Plan.{choose}
 use Rattle.layout.specs.Choose.{choose-down, choose-up}
 use Rattle.planner.specs.Emit.{slotAt, wordOf, Stays, emitted}
-use Rattle.planner.specs.Choice.{bestBelow, bestAbove, choiceOf, preferred-lower, preferred-higher, best-at}
+use Rattle.planner.specs.Choice.{bestBelow, bestAbove, choiceOf, preferred-down, preferred-up, best-at}
 use Rattle.planner.specs.Mirrored.{minimum-mirror, highest-mirror}
 use Rattle.planner.specs.Walked as walked
 use Rattle.planner.specs.declared.Range.{Range}
@@ -110,7 +110,7 @@ module _ {S : Type 0} (empty : S) (occupied : S → Bool) (misordered : S → S 
             let e = below-cost below in
             rw (
               choose-down empty occupied misordered t (rangeOf below) (rangeOf above) l,
-              preferred-lower (bestBelow down n below) (bestAbove up n above) (omega (arith, e, above-cost above)),
+              preferred-down (bestBelow down n below) (bestAbove up n above) (omega (arith, e, above-cost above)),
             )
             record {
               direction = refl;
@@ -124,7 +124,7 @@ module _ {S : Type 0} (empty : S) (occupied : S → Bool) (misordered : S → S 
             let e = above-cost above in
             rw (
               choose-up empty occupied misordered t (rangeOf below) (rangeOf above) (omega arith),
-              preferred-higher (bestBelow down n below) (bestAbove up n above) (omega (arith, e, below-cost below)),
+              preferred-up (bestBelow down n below) (bestAbove up n above) (omega (arith, e, below-cost below)),
             )
             record {
               direction = refl;

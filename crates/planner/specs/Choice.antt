@@ -25,23 +25,23 @@ bestAbove up slots r = bestOf up slots (slots - r .to) (slots - r .from)
 
 -- the smaller of the two wins, down if equal
 unfoldable pub preferred : Best → Best → Choice
-preferred lower higher =
-    cond (leb (lower .cost) (higher .cost))
-    (record { up = false; cost = lower .cost; position = lower .position })
-    (record { up = true; cost = higher .cost; position = higher .position })
+preferred down up =
+    cond (leb (down .cost) (up .cost))
+    (record { up = false; cost = down .cost; position = down .position })
+    (record { up = true; cost = up .cost; position = up .position })
 
 abbrev pub choiceOf : (ℕ → ℕ) → (ℕ → ℕ) → ℕ → Range → Range → Choice
 choiceOf down up slots below above = preferred (bestBelow down slots below) (bestAbove up slots above)
 
-pub preferred-lower : (lower higher : Best) → lower .cost ≤ higher .cost
-    → preferred lower higher ≡ record { up = false; cost = lower .cost; position = lower .position }
+pub preferred-down : (down up : Best) → down .cost ≤ up .cost
+    → preferred down up ≡ record { up = false; cost = down .cost; position = down .position }
 unfolding preferred
-preferred-lower lower higher h = rw (le-leb (lower .cost) (higher .cost) h)
+preferred-down down up h = rw (le-leb (down .cost) (up .cost) h)
 
-pub preferred-higher : (lower higher : Best) → higher .cost < lower .cost
-    → preferred lower higher ≡ record { up = true; cost = higher .cost; position = higher .position }
+pub preferred-up : (down up : Best) → up .cost < down .cost
+    → preferred down up ≡ record { up = true; cost = up .cost; position = up .position }
 unfolding preferred
-preferred-higher lower higher h = rw (lt-leb (lower .cost) (higher .cost) h)
+preferred-up down up h = rw (lt-leb (down .cost) (up .cost) h)
 
 -- a least cost below the number of slots is that of the position found
 pub best-at : (c : ℕ → ℕ) (slots from to : ℕ) → to ≤ slots → bestOf c slots from to .cost < slots
@@ -55,3 +55,8 @@ pub best-found : (c : ℕ → ℕ) (slots from to m p : ℕ) → m ≡ minimum c
     → record { cost = m; position = p } ≡ bestOf c slots from to
 unfolding lowest
 best-found c slots from to m p e f = rw (f, e)
+
+pub choice-found : (down up : ℕ → ℕ) (slots : ℕ) (below above : Range) (end start past : ℕ) (best-down best-up : Best) (choice : Choice)
+    → end ≡ min (below .to) slots → start ≡ slots - above .to → past ≡ slots - above .from → best-down ≡ bestOf down slots (below .from) end
+    → best-up ≡ bestOf up slots start past → choice ≡ preferred best-down best-up → choice ≡ choiceOf down up slots below above
+choice-found down up slots below above end start past best-down best-up choice e f g d u c = rw (c, d, u, e, f, g)

@@ -31,6 +31,12 @@ pub struct Choice {
     pub position: usize,
 }
 
+fn lesser_cost(a: u16, b: u16) -> u16
+    ensures { λ r. ⌜ r ≡ min a b ⌝ }
+{
+    if a < b { a } else { b }
+}
+
 fn lesser(a: usize, b: usize) -> usize
     ensures { λ r. ⌜ r ≡ min a b ⌝ }
 {
@@ -38,17 +44,19 @@ fn lesser(a: usize, b: usize) -> usize
 }
 
 // The least of `top` and the costs of the positions from `from` up to, not including, `to`.
+// The minimum is kept in 16 bits, so that several costs are compared at a time.
 pub fn least_between(costs: &[u16], from: usize, to: usize, top: usize) -> usize
     requires { ⌜ to ≤ length (now costs) ⌝ }
+    requires { ⌜ top < 65536 ⌝ }
     ensures { λ r. ⌜ r ≡ minimum (costOf (now (costs .entry))) top (to - from) from ⌝ }
 {
     let mut at = to;
-    let mut least = top;
+    let mut least = top as u16;
     while from < at {
         at -= 1;
-        least = lesser(costs[at] as usize, least);
+        least = lesser_cost(costs[at], least);
     }
-    least
+    least as usize
 }
 
 // The first of those positions that has this cost, or the position where the search ends.
@@ -94,7 +102,7 @@ pub fn fill_costs(ends: &[u16], costs: &mut [u16], slots: usize)
 }
 
 // The slot at a position.
-fn slot_at(slots: usize, up: bool, position: usize) -> usize
+pub fn slot_at(slots: usize, up: bool, position: usize) -> usize
     requires { ⌜ position < slots ⌝ }
     ensures { λ r. ⌜ r ≡ slotAt slots up position ⌝ }
 {
@@ -105,7 +113,7 @@ fn slot_at(slots: usize, up: bool, position: usize) -> usize
 }
 
 // The plan word of a move between two positions.
-fn write_word(slots: usize, up: bool, from: usize, to: usize) -> u32
+pub fn write_word(slots: usize, up: bool, from: usize, to: usize) -> u32
     requires { ⌜ slots ≤ 1024 ⌝ }
     requires { ⌜ from < slots ⌝ }
     requires { ⌜ to < slots ⌝ }
@@ -131,6 +139,7 @@ pub fn emit(costs: &[u16], slots: usize, up: bool, plan: &mut [u32], position: u
 
 // The least cost among the positions from `from` up to, not including, `to`, and the first position that has it.
 fn best_between(costs: &[u16], slots: usize, from: usize, to: usize) -> Best
+    requires { ⌜ slots ≤ 1024 ⌝ }
     requires { ⌜ to ≤ length (now costs) ⌝ }
     ensures { λ r. ⌜ r ≡ bestOf (costOf (now (costs .entry))) slots from to ⌝ }
 {
@@ -147,33 +156,34 @@ fn slots_from(slots: usize, slot: usize) -> usize
 }
 
 // The smaller of the two wins, down if equal.
-fn prefer(lower: Best, higher: Best) -> Choice
-    ensures { λ r. ⌜ r ≡ preferred lower higher ⌝ }
+fn prefer(down: Best, up: Best) -> Choice
+    ensures { λ r. ⌜ r ≡ preferred down up ⌝ }
 {
-    if lower.cost <= higher.cost {
+    if down.cost <= up.cost {
         return Choice {
             up: false,
-            cost: lower.cost,
-            position: lower.position,
+            cost: down.cost,
+            position: down.position,
         };
     }
     Choice {
         up: true,
-        cost: higher.cost,
-        position: higher.position,
+        cost: up.cost,
+        position: up.position,
     }
 }
 
 // The direction of least cost within the two ranges of slots, and the position from which its chain starts.
 pub fn choose(down: &[u16], up: &[u16], slots: usize, below: Range, above: Range) -> Choice
+    requires { ⌜ slots ≤ 1024 ⌝ }
     requires { ⌜ slots ≤ length (now down) ⌝ }
     requires { ⌜ slots ≤ length (now up) ⌝ }
     ensures { λ r. ⌜ r ≡ choiceOf (costOf (now (down .entry))) (costOf (now (up .entry))) slots below above ⌝ }
 {
     let end = lesser(below.to, slots);
-    let lower = best_between(down, slots, below.from, end);
+    let best_down = best_between(down, slots, below.from, end);
     let start = slots_from(slots, above.to);
     let past = slots_from(slots, above.from);
-    let higher = best_between(up, slots, start, past);
-    prefer(lower, higher)
+    let best_up = best_between(up, slots, start, past);
+    prefer(best_down, best_up)
 }

@@ -1,7 +1,6 @@
 -- `planner::choose` meets its contract.
 -- Each range is cut to the slots there are, and the range going up is turned to positions.
-use mathlib.Core.Path.{_≡_, ap, ap₂, _∙_}
-use Rattle.planner.specs.Choice.{bestOf, preferred}
+use Rattle.planner.specs.Choice.{choice-found}
 use borrow.Author.Needs.{needs}
 use Rattle.planner.proofs.choose.Statement.{statement}
 use Rattle.planner.proofs.choose.Tie as tie
@@ -26,11 +25,8 @@ prefer-requires c κs = search needs
 
 returns : tie.Need-returns
 returns c =
-    let a = c .before .before .before .before .before .before .before .before .args in
-    c .prefer .ensures
-    ∙ ap₂ preferred
-    (c .before .before .before .before .best-between .ensures ∙ ap (bestOf _ _ _) (c .before .before .before .before .before .lesser .ensures))
-    (c .before .best-between2 .ensures ∙ ap₂ (bestOf _ _) (c .before .before .before .slots-from .ensures) (c .before .before .slots-from2 .ensures))
+    choice-found _ _ _ _ _ _ _ _ _ _ _ (c .before .before .before .before .before .lesser .ensures) (c .before .before .before .slots-from .ensures)
+    (c .before .before .slots-from2 .ensures) (c .before .before .before .before .best-between .ensures) (c .before .best-between2 .ensures) (c .prefer .ensures)
 
 pub choose-spec : {M : Type 1} → statement M
 choose-spec =

@@ -5,7 +5,7 @@ use Prim.Native.Nat.{ℕ, _-_, _≤_, min}
 use borrow.Author.Needs.{needs}
 use native.Mathlib.Omega.{arith}
 use Rattle.layout.specs.Minimum.{minimum}
-use Rattle.planner.specs.Costs.{costOf, minimum-more, minimum-whole}
+use Rattle.planner.specs.Costs.{costOf, minimum-high, minimum-more, minimum-whole}
 use Rattle.planner.proofs.least_between.Statement.{statement}
 use Rattle.planner.proofs.least_between.Tie as tie
 
@@ -15,6 +15,9 @@ Inv-loop costs from to top at₀ least₀ at least = (at ≤ to) × (to - at ≤
 abbrev μ-loop : tie.MeasureT-loop
 μ-loop costs from to top at₀ least₀ at least = at
 
+cast-least : tie.Need-cast-least Inv-loop μ-loop
+cast-least c = omega arith
+
 loop-holds : tie.Need-loop-holds Inv-loop μ-loop
 unfolding minimum
 loop-holds c = let e : c .before .args .to - c .before .args .to ≡ 0 = omega arith in (omega arith, omega arith, rw e)
@@ -22,17 +25,14 @@ loop-holds c = let e : c .before .args .to - c .before .args .to ≡ 0 = omega a
 sub-at : tie.Need-sub-at Inv-loop μ-loop
 sub-at c = omega arith
 
-mul-lesser : tie.Need-mul-lesser Inv-loop μ-loop
-mul-lesser c = omega arith
+mul-lesser-cost : tie.Need-mul-lesser-cost Inv-loop μ-loop
+mul-lesser-cost c = omega arith
 
-shared-slice-read-lesser : tie.Need-shared-slice-read-lesser Inv-loop μ-loop
-shared-slice-read-lesser c = omega arith
+shared-slice-read-lesser-cost : tie.Need-shared-slice-read-lesser-cost Inv-loop μ-loop
+shared-slice-read-lesser-cost c = omega arith
 
-cast-lesser : tie.Need-cast-lesser Inv-loop μ-loop
-cast-lesser c = omega (arith, c .shared-slice-known2 .given (c .before .before .loop .at - 1))
-
-lesser-requires : tie.Need-lesser-requires Inv-loop μ-loop
-lesser-requires c κs = search needs
+lesser-cost-requires : tie.Need-lesser-cost-requires Inv-loop μ-loop
+lesser-cost-requires c κs = search needs
 
 loop-less : tie.Need-loop-less Inv-loop μ-loop
 loop-less c = omega arith
@@ -43,13 +43,16 @@ loop-again c = (
   omega arith,
   omega (
     arith,
-    c .lesser .ensures,
+    c .lesser-cost .ensures,
     c .before .before .before .loop .inv .2,
     minimum-more (costOf (c .before .before .before .before .before .args .costs .now))
         (c .before .before .before .before .before .args .top) (c .before .before .before .before .before .args .to) (c .before .before .before .loop .at)
         (omega arith) (omega arith),
   ),
 )
+
+cast-result : tie.Need-cast-result Inv-loop μ-loop
+cast-result c = omega (arith, minimum-high _ _ _ _ _ (c .before .loop .inv .2))
 
 returns : tie.Need-returns Inv-loop μ-loop
 returns c = c .before .loop .inv .2 ∙ minimum-whole _ _ _ _ _ (omega arith) (omega arith)
@@ -60,12 +63,13 @@ least-between-spec =
     (tie.spec
     Inv-loop
     μ-loop
+    cast-least
     loop-holds
     sub-at
-    mul-lesser
-    shared-slice-read-lesser
-    cast-lesser
-    lesser-requires
+    mul-lesser-cost
+    shared-slice-read-lesser-cost
+    lesser-cost-requires
     loop-less
     loop-again
+    cast-result
     returns)
