@@ -1,26 +1,25 @@
 -- The numbers' choice is the layout's: its direction and cost always, and where the cost is finite its slot and the words of its moves.
 -- So a plan written from numbers is the plan of the layout that they were taken from.
-use mathlib.Core.Path.{_≡_, refl, sym, ap, ap₂, _∙_}
-use mathlib.Core.Bool.{Bool, true, false, not, cond}
-use mathlib.Core.List.{List, map, map-id, reverse}
-use Prim.Native.Nat.{ℕ, suc, _+_, _-_, _≤_, _<_, min}
+use mathlib.Core.Path.{_≡_, refl, sym, ap, _∙_}
+use mathlib.Core.Bool.{Bool, not, cond}
+use mathlib.Core.List.{List, [], _∷_, map, map-id, map-append, reverse}
+use Prim.Native.Nat.{ℕ, _+_, _-_, _≤_, _<_, min}
 use native.Mathlib.Omega.{arith}
 use native.Mathlib.Decide.{decLe}
 use lib.Dec.{eqb}
 use lib.ListN.{length, length-reverse}
 use Rattle.search.specs.Search.{least-cong}
 use Rattle.layout.specs.Order.{swapped}
-use Rattle.layout.specs.Minimum.{minimum, minimum-cong, lowest, lowest-law}
+use Rattle.layout.specs.Minimum.{minimum, minimum-cong, lowest}
 use Rattle.layout.specs.Cost.{slotCost}
 use Rattle.layout.specs.Mirror.{mirror, mirror-twice}
-use Rattle.layout.specs.Chain.{steps}
-use Rattle.layout.specs.Write.{moves}
+use Rattle.layout.specs.Write.{moves, put}
 use Rattle.layout.specs.Plan.{Range as LayoutRange, Choice as LayoutChoice}
 use Rattle.layout.specs.Plan.{downCost, upCost, downChain, upChain, bestDown, bestUp, slotDown, slotUp}
-use Rattle.layout.specs.Plan.{choose}
+use Rattle.layout.specs.Plan.{choose, writes}
 use Rattle.layout.specs.Choose.{choose-down, choose-up}
 use Rattle.planner.specs.Emit.{slotAt, wordOf, Stays, emitted}
-use Rattle.planner.specs.Choice.{bestBelow, bestAbove, choiceOf, preferred-down, preferred-up, best-at}
+use Rattle.planner.specs.Choice.{bestBelow, bestAbove, choiceOf, planWords, preferred-down, preferred-up, best-at}
 use Rattle.planner.specs.Mirrored.{minimum-mirror, highest-mirror}
 use Rattle.planner.specs.Walked as walked
 use Rattle.planner.specs.declared.Range.{Range}
@@ -40,6 +39,12 @@ pub record Agrees (n : ℕ) (down up : ℕ → ℕ) (mine : Choice) (theirs : La
   pub direction : theirs .down ≡ not (mine .up)
   pub cost : mine .cost ≡ theirs .cost
   pub finite : theirs .cost < n → Emits (cond (mine .up) up down) n mine theirs
+
+-- then the whole plan's words are those of the layout's writes, the new rule last
+pub plan-law : {c : ℕ → ℕ} {n : ℕ} {mine : Choice} {theirs : LayoutChoice} → Emits c n mine theirs → planWords c n mine ≡ map wordOf (writes theirs)
+unfolding planWords
+plan-law {theirs = theirs} e =
+    rw (e .words, e .slot) (sym (map-append wordOf (moves (theirs .slot) (theirs .chain)) (put (theirs .slot) ∷ [])))
 
 lowest-cong : {c d : ℕ → ℕ} (top k i : ℕ) → ((j : ℕ) → i ≤ j → j < i + k → c j ≡ d j) → lowest c top k i ≡ lowest d top k i
 unfolding lowest

@@ -2,12 +2,16 @@
 -- Ranges are in slot numbers; going up, the slots from f up to, not including, e stand at the positions from slots − e up to slots − f.
 use mathlib.Core.Path.{_≡_}
 use mathlib.Core.Bool.{true, false, cond}
-use Prim.Native.Nat.{ℕ, _-_, _≤_, _<_, min}
+use mathlib.Core.List.{List, [], _∷_, _++_}
+use Prim.Native.Nat.{ℕ, suc, _-_, _≤_, _<_, min}
 use native.Mathlib.Omega.{arith}
 use lib.Dec.{eqb, leb}
 use borrow.Author.Tests.{le-leb, lt-leb}
 use Rattle.search.specs.Search.{least}
+use lib.ListN.{length, drop, set}
+use Rattle.layout.specs.Write.{put}
 use Rattle.layout.specs.Minimum.{minimum, lowest, lowest-law}
+use Rattle.planner.specs.Emit.{slotAt, wordOf, emitted, emitted-length, stored-after}
 use Rattle.planner.specs.declared.Range.{Range}
 use Rattle.planner.specs.declared.Best.{Best}
 use Rattle.planner.specs.declared.Choice.{Choice}
@@ -32,6 +36,11 @@ preferred down up =
 
 abbrev pub choiceOf : (ℕ → ℕ) → (ℕ → ℕ) → ℕ → Range → Range → Choice
 choiceOf down up slots below above = preferred (bestBelow down slots below) (bestAbove up slots above)
+
+-- the words of the whole plan: the chain's, and last the one that puts the new rule in
+unfoldable pub planWords : (ℕ → ℕ) → ℕ → Choice → List ℕ
+planWords c slots choice =
+    emitted c slots (choice .up) (choice .position) (choice .cost) ++ (wordOf (put (slotAt slots (choice .up) (choice .position))) ∷ [])
 
 pub preferred-down : (down up : Best) → down .cost ≤ up .cost
     → preferred down up ≡ record { up = false; cost = down .cost; position = down .position }
@@ -60,3 +69,12 @@ pub choice-found : (down up : ℕ → ℕ) (slots : ℕ) (below above : Range) (
     → end ≡ min (below .to) slots → start ≡ slots - above .to → past ≡ slots - above .from → best-down ≡ bestOf down slots (below .from) end
     → best-up ≡ bestOf up slots start past → choice ≡ preferred best-down best-up → choice ≡ choiceOf down up slots below above
 choice-found down up slots below above end start past best-down best-up choice e f g d u c = rw (c, d, u, e, f, g)
+
+pub plan-stored : (c : ℕ → ℕ) (slots : ℕ) (choice : Choice) (plan after : List ℕ) (w : ℕ) → choice .cost < length plan
+    → after ≡ emitted c slots (choice .up) (choice .position) (choice .cost) ++ drop (choice .cost) plan
+    → w ≡ wordOf (put (slotAt slots (choice .up) (choice .position))) → set after (choice .cost) w ≡ planWords c slots choice ++ drop (suc (choice .cost)) plan
+unfolding planWords
+plan-stored c slots choice plan after w h e f =
+    rw (e, f)
+    (stored-after (emitted c slots (choice .up) (choice .position) (choice .cost)) plan (choice .cost)
+    (wordOf (put (slotAt slots (choice .up) (choice .position)))) (emitted-length c slots (choice .up) (choice .position) (choice .cost)) h)

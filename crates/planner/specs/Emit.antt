@@ -1,6 +1,6 @@
 -- The words of a chain of moves, walked by positions and costs alone.
 -- With k moves left the next position is the first one after the present whose cost is k − 1; a chain's words list its far end first.
-use mathlib.Core.Path.{_≡_, refl, sym, ap, _∙_}
+use mathlib.Core.Path.{_≡_, refl, sym, _∙_}
 use mathlib.Core.Bool.{Bool, true, false, cond}
 use mathlib.Core.List.{List, [], _∷_, _++_}
 use Prim.Native.Nat.{ℕ, zero, suc, _+_, _-_, _*_, _≤_, _<_}
@@ -67,21 +67,19 @@ unfolding emitted
 emitted-length c slots up s zero = refl
 emitted-length c slots up s (suc k) = simp (length-append, emitted-length c slots up (firstOfCost c slots k s) k, add-one)
 
--- the last move's word is stored after those of the moves before it
-pub emitted-more : (c : ℕ → ℕ) (slots : ℕ) (up : Bool) (plan : List ℕ) (s k : ℕ) → k < length plan
-    → set (emitted c slots up (firstOfCost c slots k s) k ++ drop k plan) k (wordOf (copy (slotAt slots up s) (slotAt slots up (firstOfCost c slots k s))))
-    ≡ emitted c slots up s (suc k) ++ drop (suc k) plan
-unfolding emitted
-emitted-more c slots up plan s k h =
-    let j = firstOfCost c slots k s in
-    let w = wordOf (copy (slotAt slots up s) (slotAt slots up j)) in
-    let front = emitted c slots up j k in
-    rw (drop-cons plan k 0 h)
-    (set-at front (getD plan k 0) (drop (suc k) plan) w k (emitted-length c slots up j k) ∙ sym (append-snoc front w (drop (suc k) plan)))
+-- one word more is stored after those that stand at the plan's front
+pub stored-after : (front plan : List ℕ) (k w : ℕ) → length front ≡ k → k < length plan
+    → set (front ++ drop k plan) k w ≡ (front ++ (w ∷ [])) ++ drop (suc k) plan
+stored-after front plan k w e h =
+    rw (drop-cons plan k 0 h) (set-at front (getD plan k 0) (drop (suc k) plan) w k e ∙ sym (append-snoc front w (drop (suc k) plan)))
 
+-- the last move's word is stored after those of the moves further on
 pub emitted-stored : (c : ℕ → ℕ) (slots : ℕ) (up : Bool) (plan : List ℕ) (s k j : ℕ) (after : List ℕ) (w : ℕ) → 0 < k → k ≤ length plan
     → j ≡ firstOfCost c slots (k - 1) s → after ≡ emitted c slots up j (k - 1) ++ drop (k - 1) plan
     → w ≡ wordOf (copy (slotAt slots up s) (slotAt slots up j)) → set after (k - 1) w ≡ emitted c slots up s k ++ drop k plan
-emitted-stored c slots up plan s k j after w z h e f g =
-    let n : suc (k - 1) ≡ k = omega arith in
-    rw (f, g, e) (rw n at (emitted-more c slots up plan s (k - 1) (omega arith)))
+unfolding emitted
+emitted-stored c slots up plan s zero j after w z h e f g = absurd (omega arith)
+emitted-stored c slots up plan s (suc k) j after w z h e f g =
+    let n : suc k - 1 ≡ k = omega arith in
+    let e′ : j ≡ firstOfCost c slots k s = rw n at e in
+    rw (f, g, n, e′) (stored-after (emitted c slots up (firstOfCost c slots k s) k) plan k _ (emitted-length c slots up (firstOfCost c slots k s) k) (omega arith))

@@ -1,11 +1,11 @@
 -- From the ends of a layout's windows, in both directions, to the layout's choice: the law that a planning call cites.
 -- Going up the ends are stated by slot, as a table is searched.
-use mathlib.Core.Path.{_≡_, sym, ap, ap₂, _∙_}
+use mathlib.Core.Path.{_≡_}
 use mathlib.Core.Bool.{Bool, true, false, cond}
 use mathlib.Core.Logic.{_↔_, _⊎_}
 use mathlib.Core.Logic._⊎_.{inl, inr}
 use mathlib.Core.List.{List, reverse}
-use Prim.Native.Nat.{ℕ, suc, _-_, _≤_, _<_}
+use Prim.Native.Nat.{ℕ, _-_, _≤_, _<_}
 use native.Mathlib.Omega.{arith}
 use native.Mathlib.Decide.{decLt}
 use lib.ListN.{length, getD, length-reverse}
@@ -15,7 +15,7 @@ use Rattle.layout.specs.Cost.{windowEnd, window-end, window-end-low, window-end
 use Rattle.layout.specs.Mirror.{mirror, mirror-twice, getD-reverse, window-mirrored}
 use Rattle.layout.specs.CostLaws.{window-start, window-start-high}
 use Rattle.layout.specs.Plan.{windowStart, downCost, choose}
-use Rattle.planner.specs.Costs.{costOf, SolvedFrom}
+use Rattle.planner.specs.Costs.{SolvedFrom}
 use Rattle.planner.specs.Choice.{choiceOf}
 use Rattle.planner.specs.Walked.{Ends, costs-settled}
 use Rattle.planner.specs.Agree.{Agrees, rangeOf, choice-law}

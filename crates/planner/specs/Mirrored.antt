@@ -1,7 +1,7 @@
 -- The least number of a stretch, and where it stands, seen from the other end: index i is the index as far from the last one.
 -- The highest index of least value seen from one end is the lowest seen from the other.
-use mathlib.Core.Path.{_≡_, sym, ap, _∙_}
-use Prim.Native.Nat.{ℕ, suc, _+_, _-_, _≤_, _<_}
+use mathlib.Core.Path.{_≡_, ap, _∙_}
+use Prim.Native.Nat.{ℕ, _+_, _-_, _≤_, _<_}
 use native.Mathlib.Omega.{arith}
 use native.Mathlib.Decide.{decLt}
 use Rattle.layout.specs.Order.{Higher, Lower}

@@ -4,19 +4,19 @@ use mathlib.Core.Path.{_≡_, refl, sym, ap, _∙_}
 use mathlib.Core.Bool.{Bool, true, false, cond}
 use mathlib.Core.Logic.{_⊎_}
 use mathlib.Core.Logic._⊎_.{inl, inr}
-use mathlib.Core.List.{List, [], _∷_, _++_, map, map-append}
-use Prim.Native.Nat.{ℕ, zero, suc, _-_, _≤_, _<_}
+use mathlib.Core.List.{List, [], _∷_, map, map-append}
+use Prim.Native.Nat.{ℕ, zero, suc, _-_, _<_}
 use native.Mathlib.Omega.{arith}
 use lib.ListN.{length, getD}
 use Rattle.search.specs.Search.{decided}
 use Rattle.layout.specs.Order.{Higher}
 use Rattle.layout.specs.Minimum.{minimum}
-use Rattle.layout.specs.Cost.{InWindow, windowEnd, window-end-low, slotCost}
+use Rattle.layout.specs.Cost.{InWindow, windowEnd, window-end-low}
 use Rattle.layout.specs.Chain.{Walk, steps, firstOfCost, first-of-cost, first-of-cost-cong, walk-steps}
 use Rattle.layout.specs.Write.{moves, copy}
 use Rattle.layout.specs.Plan.{downCost, downChain}
 use Rattle.layout.specs.CostLaws.{down-costs, down-walk, down-cost-only}
-use Rattle.planner.specs.Costs.{positionCost, SolvedFrom, cost-vacant, cost-occupied}
+use Rattle.planner.specs.Costs.{SolvedFrom, cost-vacant, cost-occupied}
 use Rattle.planner.specs.Emit.{slotAt, wordOf, Stays, emitted}
 
 -- the ends of a layout's windows, 0 where a position is empty

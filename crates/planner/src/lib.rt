@@ -2,15 +2,15 @@
 // Everything runs in one direction along positions; position p is slot p going down and the slot as far from the last one going up.
 ghost use mathlib.Core.Path.{_≡_};
 ghost use mathlib.Core.List.{_++_};
-ghost use Prim.Native.Nat.{ℕ, suc, _+_, _-_, _*_, _≤_, _<_, min};
+ghost use Prim.Native.Nat.{ℕ, suc, _-_, _≤_, _<_, min};
 ghost use lib.Dec.{eqb};
-ghost use lib.ListN.{length, getD, drop};
+ghost use lib.ListN.{length, drop};
 ghost use Rattle.search.specs.Search.{least};
 ghost use Rattle.layout.specs.Minimum.{minimum};
 ghost use Rattle.layout.specs.Write.{copy};
 ghost use Rattle.planner.specs.Costs.{costOf, positionCost, Sized, Filled};
 ghost use Rattle.planner.specs.Emit.{slotAt, wordOf, Walkable, emitted};
-ghost use Rattle.planner.specs.Choice.{bestOf, preferred, choiceOf};
+ghost use Rattle.planner.specs.Choice.{bestOf, preferred, choiceOf, planWords};
 
 // Slots from the one number up to, not including, the other.
 pub struct Range {
@@ -186,4 +186,16 @@ pub fn choose(down: &[u16], up: &[u16], slots: usize, below: Range, above: Range
     let past = slots_from(slots, above.from);
     let best_up = best_between(up, slots, start, past);
     prefer(best_down, best_up)
+}
+
+// The whole plan of a choice, by the costs of its direction: the words of its chain, and last the one that puts the new rule in.
+pub fn write_plan(costs: &[u16], slots: usize, choice: Choice, plan: &mut [u32])
+    requires { ⌜ Walkable (now costs) (now plan) slots (choice .position) (choice .cost) ⌝ }
+    requires { ⌜ choice .cost < length (now plan) ⌝ }
+    ensures { λ _. ⌜ now (plan .exit) ≡ planWords (costOf (now (costs .entry))) slots choice ++ drop (suc (choice .cost)) (now (plan .entry)) ⌝ }
+{
+    let cost = choice.cost;
+    emit(costs, slots, choice.up, plan, choice.position, cost);
+    let slot = slot_at(slots, choice.up, choice.position);
+    plan[cost] = (65535 * 65536 + slot) as u32;
 }

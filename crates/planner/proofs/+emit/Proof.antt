@@ -1,9 +1,7 @@
 -- `planner::emit` meets its contract.
 -- The moves left fall with each call, and on the way back each word is stored after those of the moves further on.
-use mathlib.Core.Path.{_≡_, ap, _∙_}
-use mathlib.Core.List.{List, _++_}
-use lib.ListN.{length, drop, set, length-set}
-use native.Mathlib.Numerals.{add-one}
+use mathlib.Core.Path.{_≡_}
+use lib.ListN.{length-set}
 use native.Mathlib.Omega.{arith}
 use Rattle.layout.specs.Chain.{firstOfCost}
 use Rattle.planner.specs.Costs.{costOf}

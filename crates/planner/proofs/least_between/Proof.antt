@@ -1,7 +1,7 @@
 -- `planner::least_between` meets its contract.
 -- The loop counts down, so that what it has found is the minimum of the positions from its own on.
-use mathlib.Core.Path.{_≡_, ap, _∙_}
-use Prim.Native.Nat.{ℕ, _-_, _≤_, min}
+use mathlib.Core.Path.{_≡_, _∙_}
+use Prim.Native.Nat.{_-_, _≤_}
 use borrow.Author.Needs.{needs}
 use native.Mathlib.Omega.{arith}
 use Rattle.layout.specs.Minimum.{minimum}
