@@ -30,21 +30,21 @@ abbrev pub rangeOf : Range → LayoutRange
 rangeOf r = record { from = r .from; to = r .to }
 
 -- what a choice of finite cost gives: the slot, a walk that stays among the positions, and the words of the chain's moves
-pub record Emits (c : ℕ → ℕ) (n : ℕ) (mine : Choice) (theirs : LayoutChoice) : Type 0 where
-  pub slot : slotAt n (mine .up) (mine .position) ≡ theirs .slot
-  pub stays : Stays c n (mine .position) (mine .cost)
-  pub words : emitted c n (mine .up) (mine .position) (mine .cost) ≡ map wordOf (moves (theirs .slot) (theirs .chain))
+pub record Emits (c : ℕ → ℕ) (n : ℕ) (choice : Choice) (planned : LayoutChoice) : Type 0 where
+  pub slot : slotAt n (choice .up) (choice .position) ≡ planned .slot
+  pub stays : Stays c n (choice .position) (choice .cost)
+  pub words : emitted c n (choice .up) (choice .position) (choice .cost) ≡ map wordOf (moves (planned .slot) (planned .chain))
 
-pub record Agrees (n : ℕ) (down up : ℕ → ℕ) (mine : Choice) (theirs : LayoutChoice) : Type 0 where
-  pub direction : theirs .down ≡ not (mine .up)
-  pub cost : mine .cost ≡ theirs .cost
-  pub finite : theirs .cost < n → Emits (cond (mine .up) up down) n mine theirs
+pub record Agrees (n : ℕ) (down up : ℕ → ℕ) (choice : Choice) (planned : LayoutChoice) : Type 0 where
+  pub direction : planned .down ≡ not (choice .up)
+  pub cost : choice .cost ≡ planned .cost
+  pub finite : planned .cost < n → Emits (cond (choice .up) up down) n choice planned
 
 -- then the whole plan's words are those of the layout's writes, the new rule last
-pub plan-law : {c : ℕ → ℕ} {n : ℕ} {mine : Choice} {theirs : LayoutChoice} → Emits c n mine theirs → planWords c n mine ≡ map wordOf (writes theirs)
+pub plan-law : {c : ℕ → ℕ} {n : ℕ} {choice : Choice} {planned : LayoutChoice} → Emits c n choice planned → planWords c n choice ≡ map wordOf (writes planned)
 unfolding planWords
-plan-law {theirs = theirs} e =
-    rw (e .words, e .slot) (sym (map-append wordOf (moves (theirs .slot) (theirs .chain)) (put (theirs .slot) ∷ [])))
+plan-law {planned = planned} e =
+    rw (e .words, e .slot) (sym (map-append wordOf (moves (planned .slot) (planned .chain)) (put (planned .slot) ∷ [])))
 
 lowest-cong : {c d : ℕ → ℕ} (top k i : ℕ) → ((j : ℕ) → i ≤ j → j < i + k → c j ≡ d j) → lowest c top k i ≡ lowest d top k i
 unfolding lowest
@@ -53,17 +53,17 @@ lowest-cong {d = d} top k i h =
 
 -- in either direction, from the position found: the layout is the one whose windows lie after their positions
 emits : {S : Type 0} (empty : S) (occupied : S → Bool) (misplaced : S → S → Bool) (u : List S) (n : ℕ) → length u ≡ n → (c : ℕ → ℕ)
-    → ((p : ℕ) → p < n → c p ≡ slotCost empty occupied misplaced n u p) → (mine : Choice) (theirs : LayoutChoice) → mine .cost < n
-    → (mine .position < n) × (c (mine .position) ≡ mine .cost) → slotAt n (mine .up) (mine .position) ≡ theirs .slot
-    → theirs .chain ≡ map (slotAt n (mine .up)) (downChain empty occupied misplaced u (mine .position)) → Emits c n mine theirs
+    → ((p : ℕ) → p < n → c p ≡ slotCost empty occupied misplaced n u p) → (choice : Choice) (planned : LayoutChoice) → choice .cost < n
+    → (choice .position < n) × (c (choice .position) ≡ choice .cost) → slotAt n (choice .up) (choice .position) ≡ planned .slot
+    → planned .chain ≡ map (slotAt n (choice .up)) (downChain empty occupied misplaced u (choice .position)) → Emits c n choice planned
 unfolding downCost
-emits empty occupied misplaced u n size c costs mine theirs h at slot chain =
+emits empty occupied misplaced u n size c costs choice planned h at slot chain =
     let costs′ : (p : ℕ) → p < length u → c p ≡ downCost empty occupied misplaced u p = λ p b. rw size (costs p (omega arith)) in
-    let s = mine .position in
+    let s = choice .position in
     record {
       slot = slot;
       stays = rw (← size, ← at .1) (walked.stays empty occupied misplaced u c costs′ s (omega (arith, at .0)) (omega (arith, at .1)));
-      words = rw (← slot, chain, ← size, ← at .1) (walked.words empty occupied misplaced u c costs′ s (omega (arith, at .0)) (omega (arith, at .1)) (mine .up));
+      words = rw (← slot, chain, ← size, ← at .1) (walked.words empty occupied misplaced u c costs′ s (omega (arith, at .0)) (omega (arith, at .1)) (choice .up));
     }
 
 module _ {S : Type 0} (empty : S) (occupied : S → Bool) (misordered : S → S → Bool) (t : List S) where

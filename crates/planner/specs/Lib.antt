@@ -7,3 +7,4 @@ pub mod Mirrored
 pub mod Walked
 pub mod Agree
 pub mod Ends
+pub mod Examples
