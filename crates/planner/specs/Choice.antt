@@ -1,0 +1,80 @@
+-- The choice between the two directions, by the costs of positions.
+-- Ranges are in slot numbers; going up, the slots from f up to, not including, e stand at the positions from slots − e up to slots − f.
+use mathlib.Core.Path.{_≡_}
+use mathlib.Core.Bool.{true, false, cond}
+use mathlib.Core.List.{List, [], _∷_, _++_}
+use Prim.Native.Nat.{ℕ, suc, _-_, _≤_, _<_, min}
+use native.Mathlib.Omega.{arith}
+use lib.Dec.{eqb, leb}
+use borrow.Author.Tests.{le-leb, lt-leb}
+use Rattle.search.specs.Search.{least}
+use lib.ListN.{length, drop, set}
+use Rattle.layout.specs.Write.{put}
+use Rattle.layout.specs.Minimum.{minimum, lowest, lowest-law}
+use Rattle.planner.specs.Emit.{slotAt, wordOf, emitted, emitted-length, stored-after}
+use Rattle.planner.specs.declared.Range.{Range}
+use Rattle.planner.specs.declared.Best.{Best}
+use Rattle.planner.specs.declared.Choice.{Choice}
+
+-- the least cost in a stretch of positions, and the first position that has it
+abbrev pub bestOf : (ℕ → ℕ) → ℕ → ℕ → ℕ → Best
+bestOf c slots from to = record { cost = minimum c slots (to - from) from; position = lowest c slots (to - from) from }
+
+-- the best going down and going up
+abbrev pub bestBelow : (ℕ → ℕ) → ℕ → Range → Best
+bestBelow down slots r = bestOf down slots (r .from) (min (r .to) slots)
+
+abbrev pub bestAbove : (ℕ → ℕ) → ℕ → Range → Best
+bestAbove up slots r = bestOf up slots (slots - r .to) (slots - r .from)
+
+-- the smaller of the two wins, down if equal
+unfoldable pub preferred : Best → Best → Choice
+preferred down up =
+    cond (leb (down .cost) (up .cost))
+    (record { up = false; cost = down .cost; position = down .position })
+    (record { up = true; cost = up .cost; position = up .position })
+
+abbrev pub choiceOf : (ℕ → ℕ) → (ℕ → ℕ) → ℕ → Range → Range → Choice
+choiceOf down up slots below above = preferred (bestBelow down slots below) (bestAbove up slots above)
+
+-- the words of the whole plan: the chain's, and last the one that puts the new rule in
+unfoldable pub planWords : (ℕ → ℕ) → ℕ → Choice → List ℕ
+planWords c slots choice =
+    emitted c slots (choice .up) (choice .position) (choice .cost) ++ (wordOf (put (slotAt slots (choice .up) (choice .position))) ∷ [])
+
+pub preferred-down : (down up : Best) → down .cost ≤ up .cost
+    → preferred down up ≡ record { up = false; cost = down .cost; position = down .position }
+unfolding preferred
+preferred-down down up h = rw (le-leb (down .cost) (up .cost) h)
+
+pub preferred-up : (down up : Best) → up .cost < down .cost
+    → preferred down up ≡ record { up = true; cost = up .cost; position = up .position }
+unfolding preferred
+preferred-up down up h = rw (lt-leb (down .cost) (up .cost) h)
+
+-- a least cost below the number of slots is that of the position found
+pub best-at : (c : ℕ → ℕ) (slots from to : ℕ) → to ≤ slots → bestOf c slots from to .cost < slots
+    → (bestOf c slots from to .position < slots) × (c (bestOf c slots from to .position) ≡ bestOf c slots from to .cost)
+best-at c slots from to h finite =
+    let r = lowest-law c slots (to - from) from finite in
+    (omega (arith, r .below, r .from), r .value)
+
+-- found in two steps, the cost first
+pub best-found : (c : ℕ → ℕ) (slots from to m p : ℕ) → m ≡ minimum c slots (to - from) from → p ≡ least (λ j. eqb (c j) m) (to - from) from
+    → record { cost = m; position = p } ≡ bestOf c slots from to
+unfolding lowest
+best-found c slots from to m p e f = rw (f, e)
+
+pub choice-found : (down up : ℕ → ℕ) (slots : ℕ) (below above : Range) (end start past : ℕ) (best-down best-up : Best) (choice : Choice)
+    → end ≡ min (below .to) slots → start ≡ slots - above .to → past ≡ slots - above .from → best-down ≡ bestOf down slots (below .from) end
+    → best-up ≡ bestOf up slots start past → choice ≡ preferred best-down best-up → choice ≡ choiceOf down up slots below above
+choice-found down up slots below above end start past best-down best-up choice e f g d u c = rw (c, d, u, e, f, g)
+
+pub plan-stored : (c : ℕ → ℕ) (slots : ℕ) (choice : Choice) (plan after : List ℕ) (w : ℕ) → choice .cost < length plan
+    → after ≡ emitted c slots (choice .up) (choice .position) (choice .cost) ++ drop (choice .cost) plan
+    → w ≡ wordOf (put (slotAt slots (choice .up) (choice .position))) → set after (choice .cost) w ≡ planWords c slots choice ++ drop (suc (choice .cost)) plan
+unfolding planWords
+plan-stored c slots choice plan after w h e f =
+    rw (e, f)
+    (stored-after (emitted c slots (choice .up) (choice .position) (choice .cost)) plan (choice .cost)
+    (wordOf (put (slotAt slots (choice .up) (choice .position)))) (emitted-length c slots (choice .up) (choice .position) (choice .cost)) h)

@@ -1,0 +1,109 @@
+-- Costs of positions in one direction, from the ends of their windows alone.
+-- A position's window starts right after it; its end is one past the window's last position, and 0 says that the position is empty.
+use mathlib.Core.Path.{_≡_, sym, ap, _∙_}
+use mathlib.Core.Bool.{Bool, true, false, cond}
+use mathlib.Core.List.{List}
+use Prim.Native.Nat.{ℕ, suc, _+_, _-_, _≤_, _<_, min}
+use native.Mathlib.Numerals.{add-one}
+use native.Mathlib.Omega.{arith}
+use native.Mathlib.Decide.{ℕ-discrete}
+use lib.Dec.{eqb}
+use lib.ListN.{length, getD, drop, set}
+use lib.Seq.{getD-set-same, getD-set-other}
+use borrow.Author.Tests.{eq-eqb, ne-eqb}
+use Rattle.search.specs.Search.{least}
+use Rattle.layout.specs.Minimum.{minimum, minimum-law, minimum-cong}
+
+-- the cost of a position in a list of costs
+abbrev pub costOf : List ℕ → ℕ → ℕ
+costOf costs p = getD costs p 0
+
+-- 0 if the position is empty, else 1 + the least cost in its window; slots or more is infinite
+unfoldable pub positionCost : List ℕ → ℕ → (ℕ → ℕ) → ℕ → ℕ
+positionCost ends slots c p = cond (eqb (getD ends p 0) 0) 0 (suc (minimum c slots (getD ends p 0 - suc p) (suc p)))
+
+-- what filling asks of the two buffers: a word for each position, and no window that reaches past the last one
+pub record Sized (ends costs : List ℕ) (slots : ℕ) : Type 0 where
+  pub few : slots ≤ 1024
+  pub ends-long : slots ≤ length ends
+  pub costs-long : slots ≤ length costs
+  pub within : (p : ℕ) → p < slots → getD ends p 0 ≤ slots
+
+-- the equation of costs holds at each position from i on
+abbrev pub SolvedFrom : List ℕ → ℕ → ℕ → (ℕ → ℕ) → Type 0
+SolvedFrom ends slots i c = (p : ℕ) → i ≤ p → p < slots → c p ≡ positionCost ends slots c p
+
+-- a buffer of costs, before and after it is filled
+pub record Filled (ends : List ℕ) (slots : ℕ) (before after : List ℕ) : Type 0 where
+  pub solved : SolvedFrom ends slots 0 (costOf after)
+  pub rest : drop slots after ≡ drop slots before
+
+pub cost-vacant : (ends : List ℕ) (slots : ℕ) (c : ℕ → ℕ) (p : ℕ) → getD ends p 0 ≡ 0 → positionCost ends slots c p ≡ 0
+unfolding positionCost
+cost-vacant ends slots c p e = rw (eq-eqb (getD ends p 0) 0 e)
+
+pub cost-occupied : (ends : List ℕ) (slots : ℕ) (c : ℕ → ℕ) (p : ℕ) → (getD ends p 0 ≡ 0 → ⊥)
+    → positionCost ends slots c p ≡ suc (minimum c slots (getD ends p 0 - suc p) (suc p))
+unfolding positionCost
+cost-occupied ends slots c p e = rw (ne-eqb (getD ends p 0) 0 e)
+
+-- the code's sums, and the bound by which they fit
+pub cost-found : (ends : List ℕ) (slots : ℕ) (c : ℕ → ℕ) (p m : ℕ) → (getD ends p 0 ≡ 0 → ⊥)
+    → m ≡ minimum c slots (getD ends p 0 - (p + 1)) (p + 1) → m + 1 ≡ positionCost ends slots c p
+cost-found ends slots c p m o e = rw (add-one m) (ap suc (rw (add-one p) at e) ∙ sym (cost-occupied ends slots c p o))
+
+pub minimum-high : (c : ℕ → ℕ) (top k i m : ℕ) → m ≡ minimum c top k i → m ≤ top
+minimum-high c top k i m e = omega (arith, minimum-law c top k i .high)
+
+-- a cost sees those of the positions after its own
+pub position-cost-cong : (ends : List ℕ) (slots p : ℕ) {c d : ℕ → ℕ} → ((j : ℕ) → p < j → c j ≡ d j)
+    → positionCost ends slots c p ≡ positionCost ends slots d p
+unfolding positionCost
+position-cost-cong ends slots p h =
+    ap (λ (m : ℕ). cond (eqb (getD ends p 0) 0) 0 (suc m)) (minimum-cong slots (getD ends p 0 - suc p) (suc p) (λ j l r. h j l))
+
+-- one position more is stored
+pub solved-more : (ends costs : List ℕ) (slots i v : ℕ) → 0 < i → i ≤ slots → slots ≤ length costs → SolvedFrom ends slots i (costOf costs)
+    → v ≡ positionCost ends slots (costOf costs) (i - 1) → SolvedFrom ends slots (i - 1) (costOf (set costs (i - 1) v))
+solved-more ends costs slots i v z h l inv e p a b = pick (ℕ-discrete p (i - 1))
+  where
+    kept : (j : ℕ) → i - 1 < j → costOf costs j ≡ costOf (set costs (i - 1) v) j
+    kept j r = sym (getD-set-other costs (i - 1) j v 0 (λ q. omega arith))
+
+    pick : Dec (p ≡ i - 1) → costOf (set costs (i - 1) v) p ≡ positionCost ends slots (costOf (set costs (i - 1) v)) p
+    pick (yes q) = rw q (getD-set-same costs (i - 1) v 0 (omega arith) ∙ (e ∙ position-cost-cong ends slots (i - 1) kept))
+    pick (no q) =
+        sym (kept p (omega arith)) ∙ (inv p (omega arith) b ∙ position-cost-cong ends slots p (λ j r. kept j (omega arith)))
+
+-- a minimum counted down: one index more, ..
+pub minimum-more : (c : ℕ → ℕ) (top to i : ℕ) → 0 < i → i ≤ to → minimum c top (to - (i - 1)) (i - 1) ≡ min (c (i - 1)) (minimum c top (to - i) i)
+unfolding minimum
+minimum-more c top to i z h =
+    let e : to - (i - 1) ≡ suc (to - i) = omega arith in
+    let s : suc (i - 1) ≡ i = omega arith in
+    rw (e, s)
+
+-- .. and all of them, none where the stretch is empty
+pub minimum-whole : (c : ℕ → ℕ) (top from to i : ℕ) → i ≤ from → to - i ≤ to - from → minimum c top (to - i) i ≡ minimum c top (to - from) from
+unfolding minimum
+minimum-whole c top from to i l h = pick (ℕ-discrete i from)
+  where
+    pick : Dec (i ≡ from) → minimum c top (to - i) i ≡ minimum c top (to - from) from
+    pick (yes e) = rw e
+    pick (no e) =
+        let a : to - i ≡ 0 = omega arith in
+        let b : to - from ≡ 0 = omega arith in
+        rw (a, b)
+
+-- a search counted up: the test holds at this index, fails at it, or no index is left
+pub least-here : (p : ℕ → Bool) (to i : ℕ) → i < to → p i ≡ true → least p (to - i) i ≡ i
+unfolding least
+least-here p to i h t = let e : to - i ≡ suc (to - suc i) = omega arith in rw (e, t)
+
+pub least-further : (p : ℕ → Bool) (to i : ℕ) → i < to → p i ≡ false → least p (to - i) i ≡ least p (to - (i + 1)) (i + 1)
+unfolding least
+least-further p to i h t = let e : to - i ≡ suc (to - suc i) = omega arith in rw (e, t, add-one)
+
+pub least-over : (p : ℕ → Bool) (to i : ℕ) → to ≤ i → least p (to - i) i ≡ i
+unfolding least
+least-over p to i h = let e : to - i ≡ 0 = omega arith in rw e

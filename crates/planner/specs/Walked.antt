@@ -1,0 +1,82 @@
+-- One direction along positions: numbers computed from the ends of a layout's windows are its costs, and the walk by costs is its chain.
+-- Going up the layout is the reversed one and the relation swapped.
+use mathlib.Core.Path.{_≡_, refl, sym, ap, _∙_}
+use mathlib.Core.Bool.{Bool, true, false, cond}
+use mathlib.Core.Logic.{_⊎_}
+use mathlib.Core.Logic._⊎_.{inl, inr}
+use mathlib.Core.List.{List, [], _∷_, map, map-append}
+use Prim.Native.Nat.{ℕ, zero, suc, _-_, _<_}
+use native.Mathlib.Omega.{arith}
+use lib.ListN.{length, getD}
+use Rattle.search.specs.Search.{decided}
+use Rattle.layout.specs.Order.{Higher}
+use Rattle.layout.specs.Minimum.{minimum}
+use Rattle.layout.specs.Cost.{InWindow, windowEnd, window-end-low}
+use Rattle.layout.specs.Chain.{Walk, steps, firstOfCost, first-of-cost, first-of-cost-cong, walk-steps}
+use Rattle.layout.specs.Write.{moves, copy}
+use Rattle.layout.specs.Plan.{downCost, downChain}
+use Rattle.layout.specs.CostLaws.{down-costs, down-walk, down-cost-only}
+use Rattle.planner.specs.Costs.{SolvedFrom, cost-vacant, cost-occupied}
+use Rattle.planner.specs.Emit.{slotAt, wordOf, Stays, emitted}
+
+-- the ends of a layout's windows, 0 where a position is empty
+abbrev pub Ends : {S : Type 0} → S → (S → Bool) → (S → S → Bool) → List S → List ℕ → Type 0
+Ends empty occupied misplaced t ends =
+    (p : ℕ) → p < length t → getD ends p 0 ≡ cond (occupied (getD t p empty)) (windowEnd empty misplaced t p) 0
+
+-- the words of a walk are those of its moves, from slot to slot
+pub emitted-moves : (c : ℕ → ℕ) (slots : ℕ) (up : Bool) (s k : ℕ)
+    → emitted c slots up s k ≡ map wordOf (moves (slotAt slots up s) (map (slotAt slots up) (steps (firstOfCost c slots) k s)))
+unfolding emitted moves steps
+emitted-moves c slots up s zero = refl
+emitted-moves c slots up s (suc k) =
+    let j = firstOfCost c slots k s in
+    rw (emitted-moves c slots up j k)
+    (sym (map-append wordOf (moves (slotAt slots up j) (map (slotAt slots up) (steps (firstOfCost c slots) k j)))
+    (copy (slotAt slots up s) (slotAt slots up j) ∷ [])))
+
+module _ {S : Type 0} (empty : S) (occupied : S → Bool) (misplaced : S → S → Bool) (t : List S) where
+  -- numbers that satisfy the equation of costs, over those ends, are the layout's costs
+  pub costs-settled : (ends : List ℕ) (c : ℕ → ℕ) → Ends empty occupied misplaced t ends → SolvedFrom ends (length t) 0 c
+      → (p : ℕ) → p < length t → c p ≡ downCost empty occupied misplaced t p
+  costs-settled ends c e f = down-cost-only empty occupied misplaced t c (λ i b. at i b (decided (occupied (getD t i empty))))
+    where
+      least-in : ℕ → ℕ → ℕ
+      least-in i w = suc (minimum c (length t) (w - suc i) (suc i))
+
+      at : (i : ℕ) → i < length t → (occupied (getD t i empty) ≡ true) ⊎ (occupied (getD t i empty) ≡ false)
+          → c i ≡ cond (occupied (getD t i empty)) (suc (minimum c (length t) (windowEnd empty misplaced t i - suc i) (suc i))) 0
+      at i b (inl o) =
+          let w : getD ends i 0 ≡ windowEnd empty misplaced t i = rw o at (e i b) in
+          rw o (f i (omega arith) b
+          ∙ (cost-occupied ends (length t) c i (λ z. omega (arith, window-end-low empty misplaced t i b)) ∙ ap (least-in i) w))
+      at i b (inr o) = rw o (f i (omega arith) b ∙ cost-vacant ends (length t) c i (rw o at (e i b)))
+
+  module _ (c : ℕ → ℕ) (costs : (p : ℕ) → p < length t → c p ≡ downCost empty occupied misplaced t p) where
+    -- the first position after s of the cost that is left is where the tie rule goes
+    next-position : (s j k : ℕ) → s < length t → InWindow empty Higher misplaced t s j → downCost empty occupied misplaced t j ≡ k
+        → ((y : ℕ) → y < length t → s < y → y < j → downCost empty occupied misplaced t j < downCost empty occupied misplaced t y)
+        → firstOfCost c (length t) k s ≡ j
+    next-position s j k b w e f = first-of-cost-cong (length t) costs k s ∙ first-of-cost s j k b w e f
+
+    walk-stays : {s : ℕ} {rest : List ℕ} → Walk empty occupied Higher misplaced t (downCost empty occupied misplaced t) s rest
+        → (k : ℕ) → downCost empty occupied misplaced t s ≡ k → Stays c (length t) s k
+    unfolding Stays
+    walk-stays {s} (Walk.stop b o) zero e = b
+    walk-stays {s} (Walk.stop b o) (suc k) e = absurd (omega (arith, down-costs empty occupied misplaced t .vacant s b o))
+    walk-stays {s} (Walk.link b o w q g x) zero e = absurd (omega arith)
+    walk-stays {s} (Walk.link {j = j} b o w q g x) (suc k) e =
+        (b, rw (next-position s j k b w (omega arith) g) (walk-stays x k (omega arith)))
+
+    module _ (s : ℕ) (b : s < length t) (finite : c s < length t) where
+      pub stays : Stays c (length t) s (c s)
+      stays = walk-stays (down-walk empty occupied misplaced t s b (omega (arith, costs s b))) (c s) (sym (costs s b))
+
+      pub chain-steps : downChain empty occupied misplaced t s ≡ steps (firstOfCost c (length t)) (c s) s
+      chain-steps =
+          walk-steps (down-costs empty occupied misplaced t) (firstOfCost c (length t)) next-position
+          (down-walk empty occupied misplaced t s b (omega (arith, costs s b))) (c s) (sym (costs s b))
+
+      pub words : (up : Bool) → emitted c (length t) up s (c s)
+          ≡ map wordOf (moves (slotAt (length t) up s) (map (slotAt (length t) up) (downChain empty occupied misplaced t s)))
+      words up = rw chain-steps (emitted-moves c (length t) up s (c s))

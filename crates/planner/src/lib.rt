@@ -1,0 +1,201 @@
+// From numbers to a plan: costs of positions from the ends of their windows, the choice of direction and position, the chain's words.
+// Everything runs in one direction along positions; position p is slot p going down and the slot as far from the last one going up.
+ghost use mathlib.Core.Path.{_≡_};
+ghost use mathlib.Core.List.{_++_};
+ghost use Prim.Native.Nat.{ℕ, suc, _-_, _≤_, _<_, min};
+ghost use lib.Dec.{eqb};
+ghost use lib.ListN.{length, drop};
+ghost use Rattle.search.specs.Search.{least};
+ghost use Rattle.layout.specs.Minimum.{minimum};
+ghost use Rattle.layout.specs.Write.{copy};
+ghost use Rattle.planner.specs.Costs.{costOf, positionCost, Sized, Filled};
+ghost use Rattle.planner.specs.Emit.{slotAt, wordOf, Walkable, emitted};
+ghost use Rattle.planner.specs.Choice.{bestOf, preferred, choiceOf, planWords};
+
+// Slots from the one number up to, not including, the other.
+pub struct Range {
+    pub from: usize,
+    pub to: usize,
+}
+
+// The least cost among some positions, and the first position that has it.
+pub struct Best {
+    pub cost: usize,
+    pub position: usize,
+}
+
+// The direction taken, the moves to make, and the position from which the chain starts.
+pub struct Choice {
+    pub up: bool,
+    pub cost: usize,
+    pub position: usize,
+}
+
+fn lesser_cost(a: u16, b: u16) -> u16
+    ensures { λ r. ⌜ r ≡ min a b ⌝ }
+{
+    if a < b { a } else { b }
+}
+
+fn lesser(a: usize, b: usize) -> usize
+    ensures { λ r. ⌜ r ≡ min a b ⌝ }
+{
+    if a < b { a } else { b }
+}
+
+// The least of `top` and the costs of the positions from `from` up to, not including, `to`.
+// The minimum is kept in 16 bits, so that several costs are compared at a time.
+pub fn least_between(costs: &[u16], from: usize, to: usize, top: usize) -> usize
+    requires { ⌜ to ≤ length (now costs) ⌝ }
+    requires { ⌜ top < 65536 ⌝ }
+    ensures { λ r. ⌜ r ≡ minimum (costOf (now (costs .entry))) top (to - from) from ⌝ }
+{
+    let mut at = to;
+    let mut least = top as u16;
+    while from < at {
+        at -= 1;
+        least = lesser_cost(costs[at], least);
+    }
+    least as usize
+}
+
+// The first of those positions that has this cost, or the position where the search ends.
+pub fn first_of_cost(costs: &[u16], from: usize, to: usize, cost: usize) -> usize
+    requires { ⌜ to ≤ length (now costs) ⌝ }
+    ensures { λ r. ⌜ r ≡ least (λ (j : ℕ). eqb (costOf (now (costs .entry)) j) cost) (to - from) from ⌝ }
+{
+    let mut at = from;
+    while at < to {
+        if costs[at] as usize == cost {
+            return at;
+        }
+        at += 1;
+    }
+    at
+}
+
+// The cost of one position, from those after it.
+fn position_cost(ends: &[u16], costs: &[u16], slots: usize, position: usize) -> u16
+    requires { ⌜ Sized (now ends) (now costs) slots ⌝ }
+    requires { ⌜ position < slots ⌝ }
+    ensures { λ r. ⌜ r ≡ positionCost (now (ends .entry)) slots (costOf (now (costs .entry))) position ⌝ }
+{
+    let end = ends[position] as usize;
+    if end == 0 {
+        return 0;
+    }
+    let least = least_between(costs, position + 1, end, slots);
+    (least + 1) as u16
+}
+
+// The cost of every position, the last one first, since each rests on those after it.
+pub fn fill_costs(ends: &[u16], costs: &mut [u16], slots: usize)
+    requires { ⌜ Sized (now ends) (now costs) slots ⌝ }
+    ensures { λ _. ⌜ Filled (now (ends .entry)) slots (now (costs .entry)) (now (costs .exit)) ⌝ }
+{
+    let mut position = slots;
+    while 0 < position {
+        position -= 1;
+        let cost = position_cost(ends, costs, slots, position);
+        costs[position] = cost;
+    }
+}
+
+// The slot at a position.
+pub fn slot_at(slots: usize, up: bool, position: usize) -> usize
+    requires { ⌜ position < slots ⌝ }
+    ensures { λ r. ⌜ r ≡ slotAt slots up position ⌝ }
+{
+    if up {
+        return slots - 1 - position;
+    }
+    position
+}
+
+// The plan word of a move between two positions.
+pub fn write_word(slots: usize, up: bool, from: usize, to: usize) -> u32
+    requires { ⌜ slots ≤ 1024 ⌝ }
+    requires { ⌜ from < slots ⌝ }
+    requires { ⌜ to < slots ⌝ }
+    ensures { λ r. ⌜ r ≡ wordOf (copy (slotAt slots up from) (slotAt slots up to)) ⌝ }
+{
+    let source = slot_at(slots, up, from);
+    let target = slot_at(slots, up, to);
+    (source * 65536 + target) as u32
+}
+
+// The words of the chain from a position with `left` moves to make: each is stored on the way back, so that the far end stands first.
+pub fn emit(costs: &[u16], slots: usize, up: bool, plan: &mut [u32], position: usize, left: usize)
+    requires { ⌜ Walkable (now costs) (now plan) slots position left ⌝ }
+    ensures { λ _. ⌜ now (plan .exit) ≡ emitted (costOf (now (costs .entry))) slots up position left ++ drop left (now (plan .entry)) ⌝ }
+{
+    if left == 0 {
+        return;
+    }
+    let next = first_of_cost(costs, position + 1, slots, left - 1);
+    emit(costs, slots, up, plan, next, left - 1);
+    plan[left - 1] = write_word(slots, up, position, next);
+}
+
+// The least cost among the positions from `from` up to, not including, `to`, and the first position that has it.
+fn best_between(costs: &[u16], slots: usize, from: usize, to: usize) -> Best
+    requires { ⌜ slots ≤ 1024 ⌝ }
+    requires { ⌜ to ≤ length (now costs) ⌝ }
+    ensures { λ r. ⌜ r ≡ bestOf (costOf (now (costs .entry))) slots from to ⌝ }
+{
+    let cost = least_between(costs, from, to, slots);
+    let position = first_of_cost(costs, from, to, cost);
+    Best { cost, position }
+}
+
+// How many slots there are from this one on: the position, going up, just past it.
+fn slots_from(slots: usize, slot: usize) -> usize
+    ensures { λ r. ⌜ r ≡ slots - slot ⌝ }
+{
+    if slot < slots { slots - slot } else { 0 }
+}
+
+// The smaller of the two wins, down if equal.
+fn prefer(down: Best, up: Best) -> Choice
+    ensures { λ r. ⌜ r ≡ preferred down up ⌝ }
+{
+    if down.cost <= up.cost {
+        return Choice {
+            up: false,
+            cost: down.cost,
+            position: down.position,
+        };
+    }
+    Choice {
+        up: true,
+        cost: up.cost,
+        position: up.position,
+    }
+}
+
+// The direction of least cost within the two ranges of slots, and the position from which its chain starts.
+pub fn choose(down: &[u16], up: &[u16], slots: usize, below: Range, above: Range) -> Choice
+    requires { ⌜ slots ≤ 1024 ⌝ }
+    requires { ⌜ slots ≤ length (now down) ⌝ }
+    requires { ⌜ slots ≤ length (now up) ⌝ }
+    ensures { λ r. ⌜ r ≡ choiceOf (costOf (now (down .entry))) (costOf (now (up .entry))) slots below above ⌝ }
+{
+    let end = lesser(below.to, slots);
+    let best_down = best_between(down, slots, below.from, end);
+    let start = slots_from(slots, above.to);
+    let past = slots_from(slots, above.from);
+    let best_up = best_between(up, slots, start, past);
+    prefer(best_down, best_up)
+}
+
+// The whole plan of a choice, by the costs of its direction: the words of its chain, and last the one that puts the new rule in.
+pub fn write_plan(costs: &[u16], slots: usize, choice: Choice, plan: &mut [u32])
+    requires { ⌜ Walkable (now costs) (now plan) slots (choice .position) (choice .cost) ⌝ }
+    requires { ⌜ choice .cost < length (now plan) ⌝ }
+    ensures { λ _. ⌜ now (plan .exit) ≡ planWords (costOf (now (costs .entry))) slots choice ++ drop (suc (choice .cost)) (now (plan .entry)) ⌝ }
+{
+    let cost = choice.cost;
+    emit(costs, slots, choice.up, plan, choice.position, cost);
+    let slot = slot_at(slots, choice.up, choice.position);
+    plan[cost] = (65535 * 65536 + slot) as u32;
+}
