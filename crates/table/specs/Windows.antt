@@ -13,16 +13,12 @@ use Rattle.search.specs.Search.{least, Least, least-law, least-unique}
 use Rattle.records.specs.Record.{slotWords, empty, listed}
 use Rattle.records.specs.Rules.{length-listed}
 use Rattle.records.specs.Order.{slots, misordered}
-
--- the slot at a position
-abbrev pub slotOf : ℕ → Bool → ℕ → ℕ
-slotOf n true p = n - suc p
-slotOf n false p = p
+use Rattle.planner.specs.Emit.{slotAt}
 
 -- the rule at position q, later along the direction, stands on the wrong side if it comes before the one at p
 unfoldable pub misplacedAt : ℕ → List ℕ → Bool → ℕ → ℕ → Bool
-misplacedAt w t true p q = misordered w (slotWords w t (slotOf (slots w t) true p)) (slotWords w t (slotOf (slots w t) true q))
-misplacedAt w t false p q = misordered w (slotWords w t (slotOf (slots w t) false q)) (slotWords w t (slotOf (slots w t) false p))
+misplacedAt w t true p q = misordered w (slotWords w t (slotAt (slots w t) true p)) (slotWords w t (slotAt (slots w t) true q))
+misplacedAt w t false p q = misordered w (slotWords w t (slotAt (slots w t) false q)) (slotWords w t (slotAt (slots w t) false p))
 
 -- one past the last position of p's window: the nearest such rule, or the last position
 unfoldable pub windowEndAt : ℕ → List ℕ → Bool → ℕ → ℕ
@@ -30,21 +26,17 @@ windowEndAt w t up p = min (suc (least (misplacedAt w t up p) (slots w t - suc p
 
 -- the planner's number for a position: 0 where it is empty, else the end of its window
 unfoldable pub endAt : ℕ → List ℕ → Bool → ℕ → ℕ
-endAt w t up p = cond (empty w (slotWords w t (slotOf (slots w t) up p))) 0 (windowEndAt w t up p)
-
-pub slot-of-inside : (n : ℕ) (up : Bool) (p : ℕ) → p < n → slotOf n up p < n
-slot-of-inside n true p h = omega arith
-slot-of-inside n false p h = h
+endAt w t up p = cond (empty w (slotWords w t (slotAt (slots w t) up p))) 0 (windowEndAt w t up p)
 
 -- the pair that is tested going up, and going down
 pub misplaced-up : (w : ℕ) (t : List ℕ) (up : Bool) (p q : ℕ) → up ≡ true
-    → misordered w (slotWords w t (slotOf (slots w t) up p)) (slotWords w t (slotOf (slots w t) up q)) ≡ misplacedAt w t up p q
+    → misordered w (slotWords w t (slotAt (slots w t) up p)) (slotWords w t (slotAt (slots w t) up q)) ≡ misplacedAt w t up p q
 unfolding misplacedAt
 misplaced-up w t true p q e = refl
 misplaced-up w t false p q e = absurd (false≢true e)
 
 pub misplaced-down : (w : ℕ) (t : List ℕ) (up : Bool) (p q : ℕ) → up ≡ false
-    → misordered w (slotWords w t (slotOf (slots w t) up q)) (slotWords w t (slotOf (slots w t) up p)) ≡ misplacedAt w t up p q
+    → misordered w (slotWords w t (slotAt (slots w t) up q)) (slotWords w t (slotAt (slots w t) up p)) ≡ misplacedAt w t up p q
 unfolding misplacedAt
 misplaced-down w t true p q e = absurd (true≢false e)
 misplaced-down w t false p q e = refl
@@ -74,18 +66,18 @@ window-high w t up p = omega arith
 
 pub end-high : (w : ℕ) (t : List ℕ) (up : Bool) (p : ℕ) → endAt w t up p ≤ slots w t
 unfolding endAt windowEndAt
-end-high w t up p = pick (empty w (slotWords w t (slotOf (slots w t) up p)))
+end-high w t up p = pick (empty w (slotWords w t (slotAt (slots w t) up p)))
   where
     pick : (b : Bool) → cond b 0 (min (suc (least (misplacedAt w t up p) (slots w t - suc p) (suc p))) (slots w t)) ≤ slots w t
     pick true = omega arith
     pick false = omega arith
 
 -- a position that is empty, and one that is not
-pub end-empty : (w : ℕ) (t : List ℕ) (up : Bool) (p : ℕ) → empty w (slotWords w t (slotOf (slots w t) up p)) ≡ true → endAt w t up p ≡ 0
+pub end-empty : (w : ℕ) (t : List ℕ) (up : Bool) (p : ℕ) → empty w (slotWords w t (slotAt (slots w t) up p)) ≡ true → endAt w t up p ≡ 0
 unfolding endAt
 end-empty w t up p e = rw e
 
-pub end-window : (w : ℕ) (t : List ℕ) (up : Bool) (p : ℕ) → empty w (slotWords w t (slotOf (slots w t) up p)) ≡ false
+pub end-window : (w : ℕ) (t : List ℕ) (up : Bool) (p : ℕ) → empty w (slotWords w t (slotAt (slots w t) up p)) ≡ false
     → endAt w t up p ≡ windowEndAt w t up p
 unfolding endAt
 end-window w t up p e = rw e

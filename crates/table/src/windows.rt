@@ -1,5 +1,6 @@
 // The windows of a table's rules along one direction, for the planner: position p is slot p going down, slot n − 1 − p going up.
 // Words are read in the table itself; the numbers go into a lent array.
+use planner::slot_at;
 use records::slot::misordered_pair;
 use records::slot::slot_empty;
 ghost use mathlib.Core.Path.{_≡_};
@@ -7,18 +8,7 @@ ghost use mathlib.Core.List.{_++_};
 ghost use Prim.Native.Nat.{_≤_, _<_, _/_};
 ghost use lib.ListN.{length, drop};
 ghost use Rattle.records.specs.Record.{listed};
-ghost use Rattle.table.specs.Windows.{slotOf, misplacedAt, windowEndAt, endAt};
-
-// The slot at a position.
-pub fn slot_of(slots: usize, up: bool, position: usize) -> usize
-    requires { ⌜ position < slots ⌝ }
-    ensures { λ r. ⌜ r ≡ slotOf slots up position ⌝ }
-{
-    if up {
-        return slots - (position + 1);
-    }
-    position
-}
+ghost use Rattle.table.specs.Windows.{misplacedAt, windowEndAt, endAt};
 
 // Whether the rule at a later position may not come before the one at a position.
 fn misplaced_pair(table: &[u64], up: bool, position: usize, later: usize) -> bool
@@ -26,8 +16,8 @@ fn misplaced_pair(table: &[u64], up: bool, position: usize, later: usize) -> boo
     ensures { λ r. ⌜ r ≡ misplacedAt 2 (now (table .entry)) up position later ⌝ }
 {
     let slots = table.len() / 6;
-    let slot = slot_of(slots, up, position);
-    let other = slot_of(slots, up, later);
+    let slot = slot_at(slots, up, position);
+    let other = slot_at(slots, up, later);
     if up {
         return misordered_pair(table, slot, table, other);
     }
@@ -56,7 +46,7 @@ fn end_at(table: &[u64], up: bool, position: usize) -> u16
     ensures { λ r. ⌜ r ≡ endAt 2 (now (table .entry)) up position ⌝ }
 {
     let slots = table.len() / 6;
-    let slot = slot_of(slots, up, position);
+    let slot = slot_at(slots, up, position);
     if slot_empty(table, slot) {
         return 0;
     }

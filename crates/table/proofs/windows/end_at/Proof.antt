@@ -7,22 +7,23 @@ use lib.ListN.{length}
 use denote.Ref.{now}
 use borrow.Author.Needs.{needs}
 use Rattle.records.specs.Record.{slotWords, empty}
-use Rattle.table.specs.Windows.{slot-of-inside, end-empty, end-window, window-high}
+use Rattle.planner.specs.Emit.{slot-below}
+use Rattle.table.specs.Windows.{end-empty, end-window, window-high}
 use Rattle.table.proofs.windows.end_at.Statement.{statement}
 use Rattle.table.proofs.windows.end_at.Tie as tie
 
-slot-of-requires : tie.Need-slot-of-requires
-slot-of-requires c κs = search needs
+slot-at-requires : tie.Need-slot-at-requires
+slot-at-requires c κs = search needs
 
 slot-empty-requires : tie.Need-slot-empty-requires
 slot-empty-requires c κs =
     let a = c .before .before .args in
-    omega (arith, c .slot-of .ensures, slot-of-inside (length (now (a .table)) / 6) (a .up) (a .position) (omega arith))
+    omega (arith, c .slot-at .ensures, slot-below (length (now (a .table)) / 6) (a .up) (a .position) (omega arith))
 
 returns : tie.Need-returns
 returns c =
     let t = now (c .before .before .before .before .args .table) in
-    sym (end-empty 2 t _ _ (ap (λ (k : ℕ). empty 2 (slotWords 2 t k)) (sym (c .before .before .slot-of .ensures)) ∙ (sym (c .before .slot-empty .ensures) ∙ c .if1 .taken)))
+    sym (end-empty 2 t _ _ (ap (λ (k : ℕ). empty 2 (slotWords 2 t k)) (sym (c .before .before .slot-at .ensures)) ∙ (sym (c .before .slot-empty .ensures) ∙ c .if1 .taken)))
 
 window-end-requires : tie.Need-window-end-requires
 window-end-requires c κs = search needs
@@ -36,13 +37,13 @@ returns-2 : tie.Need-returns-2
 returns-2 c =
     let t = now (c .before .before .before .before .before .args .table) in
     c .window-end .ensures
-    ∙ sym (end-window 2 t _ _ (ap (λ (k : ℕ). empty 2 (slotWords 2 t k)) (sym (c .before .before .before .slot-of .ensures)) ∙ (sym (c .before .before .slot-empty .ensures) ∙ c .before .if1 .left)))
+    ∙ sym (end-window 2 t _ _ (ap (λ (k : ℕ). empty 2 (slotWords 2 t k)) (sym (c .before .before .before .slot-at .ensures)) ∙ (sym (c .before .before .slot-empty .ensures) ∙ c .before .if1 .left)))
 
 pub end-at-spec : {M : Type 1} → statement M
 end-at-spec =
     tie.close
     (tie.spec
-    slot-of-requires
+    slot-at-requires
     slot-empty-requires
     returns
     window-end-requires

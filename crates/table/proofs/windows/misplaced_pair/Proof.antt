@@ -8,22 +8,23 @@ use denote.Ref.{now}
 use borrow.Author.Needs.{needs}
 use Rattle.records.specs.Record.{slotWords}
 use Rattle.records.specs.Order.{misordered}
-use Rattle.table.specs.Windows.{slot-of-inside, misplaced-up, misplaced-down}
+use Rattle.planner.specs.Emit.{slot-below}
+use Rattle.table.specs.Windows.{misplaced-up, misplaced-down}
 use Rattle.table.proofs.windows.misplaced_pair.Statement.{statement}
 use Rattle.table.proofs.windows.misplaced_pair.Tie as tie
 
-slot-of-requires : tie.Need-slot-of-requires
-slot-of-requires c κs = search needs
+slot-at-requires : tie.Need-slot-at-requires
+slot-at-requires c κs = search needs
 
-slot-of-requires-2 : tie.Need-slot-of-requires-2
-slot-of-requires-2 c κs = search needs
+slot-at-requires-2 : tie.Need-slot-at-requires-2
+slot-at-requires-2 c κs = search needs
 
 -- both slots exist
-inside : (c : tie.After-slot-of2) → (c .before .slot-of .result < length (now (c .before .before .before .args .table)) / 6) × (c .slot-of2 .result < length (now (c .before .before .before .args .table)) / 6)
+inside : (c : tie.After-slot-at2) → (c .before .slot-at .result < length (now (c .before .before .before .args .table)) / 6) × (c .slot-at2 .result < length (now (c .before .before .before .args .table)) / 6)
 inside c =
     let a = c .before .before .before .args in (
-      omega (arith, c .before .slot-of .ensures, slot-of-inside (length (now (a .table)) / 6) (a .up) (a .position) (omega arith)),
-      omega (arith, c .slot-of2 .ensures, slot-of-inside (length (now (a .table)) / 6) (a .up) (a .later) (omega arith)),
+      omega (arith, c .before .slot-at .ensures, slot-below (length (now (a .table)) / 6) (a .up) (a .position) (omega arith)),
+      omega (arith, c .slot-at2 .ensures, slot-below (length (now (a .table)) / 6) (a .up) (a .later) (omega arith)),
     )
 
 misordered-pair-requires : tie.Need-misordered-pair-requires
@@ -33,7 +34,7 @@ returns : tie.Need-returns
 returns c =
     let t = now (c .before .before .before .before .before .args .table) in
     c .misordered-pair .ensures
-    ∙ (ap₂ (λ (a b : ℕ). misordered 2 (slotWords 2 t a) (slotWords 2 t b)) (c .before .before .before .slot-of .ensures) (c .before .before .slot-of2 .ensures)
+    ∙ (ap₂ (λ (a b : ℕ). misordered 2 (slotWords 2 t a) (slotWords 2 t b)) (c .before .before .before .slot-at .ensures) (c .before .before .slot-at2 .ensures)
     ∙ misplaced-up 2 _ _ _ _ (c .before .if1 .taken))
 
 misordered-pair-requires-2 : tie.Need-misordered-pair-requires-2
@@ -43,15 +44,15 @@ returns-2 : tie.Need-returns-2
 returns-2 c =
     let t = now (c .before .before .before .before .before .args .table) in
     c .misordered-pair2 .ensures
-    ∙ (ap₂ (λ (a b : ℕ). misordered 2 (slotWords 2 t a) (slotWords 2 t b)) (c .before .before .slot-of2 .ensures) (c .before .before .before .slot-of .ensures)
+    ∙ (ap₂ (λ (a b : ℕ). misordered 2 (slotWords 2 t a) (slotWords 2 t b)) (c .before .before .slot-at2 .ensures) (c .before .before .before .slot-at .ensures)
     ∙ misplaced-down 2 _ _ _ _ (c .before .if1 .left))
 
 pub misplaced-pair-spec : {M : Type 1} → statement M
 misplaced-pair-spec =
     tie.close
     (tie.spec
-    slot-of-requires
-    slot-of-requires-2
+    slot-at-requires
+    slot-at-requires-2
     misordered-pair-requires
     returns
     misordered-pair-requires-2
