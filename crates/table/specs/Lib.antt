@@ -3,5 +3,6 @@
 pub mod Lookup
 pub mod Neighbours
 pub mod Windows
+pub mod Joined
 pub mod Plans
 pub mod Deletes
