@@ -112,9 +112,14 @@ shaped-law w t =
     )
 
 -- a test that picks between passing and one refusal
-pass-law : (cause : Cause) (spot : ℕ) (b : Bool) → (cond b Pass (Fail cause spot) ≡ Pass) ↔ (b ≡ true)
+pub pass-law : (cause : Cause) (spot : ℕ) (b : Bool) → (cond b Pass (Fail cause spot) ≡ Pass) ↔ (b ≡ true)
 pass-law cause spot true = (λ e. refl, λ e. refl)
 pass-law cause spot false = (λ e. absurd (pass-fail e), λ e. absurd (false≢true e))
+
+-- and one that picks the other way round
+pub cond-pass : (cause : Cause) (spot : ℕ) (b : Bool) → cond b (Fail cause spot) Pass ≡ Pass → b ≡ false
+cond-pass cause spot true e = absurd (pass-fail e)
+cond-pass cause spot false e = refl
 
 pub shape-law : (w : ℕ) (t : List ℕ) → (checkShape w t ≡ Pass) ↔ Shaped w t
 unfolding checkShape

@@ -6,3 +6,4 @@ pub mod Windows
 pub mod Joined
 pub mod Plans
 pub mod Deletes
+pub mod Inserts
