@@ -1,6 +1,6 @@
 -- Planning an insert: the words of its plan, its answer and the buffer afterwards; and what the checks give the theory of layouts.
 -- Document 01, "How a plan is found", on the table's words.
-use mathlib.Core.Path.{_≡_, refl, sym, ap, _∙_, fun-ext, subst}
+use mathlib.Core.Path.{_≡_, refl, sym, ap, ap₂, _∙_, fun-ext, subst}
 use mathlib.Core.Bool.{Bool, true, false, cond, false≢true}
 use mathlib.Core.Logic.{_≢_}
 use mathlib.Core.List.{List}
@@ -12,19 +12,25 @@ use lib.ListN.{length, getD}
 use borrow.Author.Tests.{ltb-false}
 use Rattle.search.specs.Search.{any, any-yes, least, afterLast, decided}
 use Rattle.ternary.specs.Pattern.{Words}
-use Rattle.layout.specs.Plan.{Choice}
+use Rattle.layout.specs.Plan.{Choice, Range as LayoutRange, afterPreceding, firstDependant, rangeDown, rangeUp, choose, insertChoice}
+use Rattle.planner.specs.Costs.{costOf, SolvedFrom}
+use Rattle.planner.specs.Choice.{choiceOf}
+use Rattle.planner.specs.Agree.{Agrees}
+use Rattle.planner.specs.Ends.{numbers-law}
 use Rattle.layout.specs.Insert.{LeastPlan}
 use Rattle.records.specs.Record.{word, slotWords, empty, soundRule, recordOf, recordWords}
 use Rattle.records.specs.Order.{slots, sameId, tied, precedes}
 use Rattle.records.specs.Checks.{Told, orElse, slotChecks, tableChecks, checkShape, checkRecords, checkTwice, checkOrder}
 use Rattle.records.specs.Laws.{or-else-pass, lowest-pass, sound-law, pass-law, cond-pass}
-use Rattle.records.specs.Entries.{vacant, entries, entryOccupied, entrySame, entryMisordered}
+use Rattle.records.specs.Entries.{vacant, entries, entryOccupied, entrySame, entryMisordered, entries-length}
 use Rattle.records.specs.Inserts.{insertChoiceOf, planWords, Untied, IdNew, newMisordered, misorderedNew, uncrossed-apart, insert-words}
 use Rattle.records.specs.Inserts.{after-preceding-precedes, first-dependant-precedes, after-preceding-slots, first-dependant-slots}
 use Rattle.records.specs.declared.Rule.{Rule}
 use Rattle.records.specs.declared.Check.{Check}
 use Rattle.records.specs.declared.Check.the-variants.{Pass, Fail}
 use Rattle.table.specs.Plans.{planAnswer, planBuffer}
+use Rattle.table.specs.Windows.{endAt}
+use Rattle.table.specs.Joined.{ends-down as ends-down-law, ends-up as ends-up-law}
 use Rattle.table.specs.Neighbours.{checkRule, checkKnown, checkTie, checkFull, checkCrossed, afterA, slotB, newChecks, ruleWords, insertChecks}
 
 -- the plan's words: the far end of the chain first, the new rule last
@@ -75,3 +81,55 @@ plannable w t rule e =
       room = any-yes (λ (i : ℕ). empty w (slotWords w t i)) (slots w t) (pass-law _ 0 (any (λ (i : ℕ). empty w (slotWords w t i)) (slots w t)) .0 (h .0));
       uncrossed = ltb-false (suc (slotB w t new)) (afterA w t new) (cond-pass _ _ _ (h .1));
     }
+
+module _ (w : ℕ) (t : List ℕ) (rule : Rule) (p : Plannable w t rule) where
+  -- A + 1 and B of the table are those of its layout
+  pub after-is : afterA w t (ruleWords w rule) ≡ afterPreceding (vacant w) (entryMisordered w) (entries w t) (recordOf w rule)
+  unfolding afterA
+  after-is =
+      ap (λ (x : Words). afterLast (λ (i : ℕ). precedes w (slotWords w t i) x) (slots w t)) (rule-words w rule)
+      ∙ after-preceding-precedes w t rule (p .untied) (p .idNew)
+
+  pub dependant-is : slotB w t (ruleWords w rule) ≡ firstDependant (vacant w) (entryMisordered w) (entries w t) (recordOf w rule)
+  unfolding slotB
+  dependant-is =
+      ap (λ (x : Words). least (λ (i : ℕ). precedes w x (slotWords w t i)) (slots w t) 0) (rule-words w rule)
+      ∙ first-dependant-precedes w t rule (p .untied) (p .idNew)
+
+  apart : afterLast (newMisordered w rule t) (slots w t) ≤ least (misorderedNew w rule t) (slots w t) 0
+  apart =
+      uncrossed-apart w t rule (p .untied) (p .idNew)
+      (let a = after-is in
+      let b = dependant-is in
+      omega (arith, p .uncrossed, after-preceding-slots w t rule, first-dependant-slots w t rule))
+
+  -- the plan is valid, at most as long as the table has slots, and a shortest one of the comparison class
+  pub insert-least : rule .action < 4294967296
+      → LeastPlan (vacant w) (entryOccupied w) (entrySame w) (entryMisordered w) (entries w t) (recordOf w rule) (insertChoiceOf w t rule)
+  insert-least small =
+      let e = p .room in
+      insert-words w t rule (p .once) (p .order) (p .idNew) (sound-law w _ _ _ _ .0 (p .sound) .0) small (e .0) (e .1) (e .2) apart
+
+  -- the planner's choice, from costs that solve the equations of the table's window ends, is the layout's
+  pub numbers-agree : (ends-down ends-up down up : List ℕ)
+      → ((i : ℕ) → i < slots w t → getD ends-down i 0 ≡ endAt w t false i) → ((i : ℕ) → i < slots w t → getD ends-up i 0 ≡ endAt w t true i)
+      → SolvedFrom ends-down (slots w t) 0 (costOf down) → SolvedFrom ends-up (slots w t) 0 (costOf up)
+      → (a b : ℕ) → a ≡ afterA w t (ruleWords w rule) → b ≡ slotB w t (ruleWords w rule)
+      → Agrees (slots w t) (costOf down) (costOf up)
+      (choiceOf (costOf down) (costOf up) (slots w t) (record { from = a; to = b + 1 }) (record { from = a - 1; to = b })) (insertChoiceOf w t rule)
+  unfolding insertChoice
+  numbers-agree ends-down ends-up down up e f g h a b ea eb =
+      let n = entries-length w t in
+      let x = ea ∙ after-is in
+      let y = eb ∙ dependant-is in
+      let z : b + 1 ≡ suc (firstDependant (vacant w) (entryMisordered w) (entries w t) (recordOf w rule)) = omega arith in
+      let below : _≡_ {A = LayoutRange} (record { from = a; to = b + 1 }) (rangeDown (vacant w) (entryMisordered w) (entries w t) (recordOf w rule)) =
+      λ k. record { from = x k; to = z k } in
+      let above : _≡_ {A = LayoutRange} (record { from = a - 1; to = b }) (rangeUp (vacant w) (entryMisordered w) (entries w t) (recordOf w rule)) =
+      λ k. record { from = x k - 1; to = y k } in
+      subst
+      (λ (c : Choice). Agrees (slots w t) (costOf down) (costOf up)
+      (choiceOf (costOf down) (costOf up) (slots w t) (record { from = a; to = b + 1 }) (record { from = a - 1; to = b })) c)
+      (ap₂ (choose (vacant w) (entryOccupied w) (entryMisordered w) (entries w t)) below above)
+      (rw n at (numbers-law (vacant w) (entryOccupied w) (entryMisordered w) (entries w t) ends-down ends-up (costOf down) (costOf up)
+      (ends-down-law w t ends-down e) (ends-up-law w t ends-up f) (rw n g) (rw n h) (record { from = a; to = b + 1 }) (record { from = a - 1; to = b })))

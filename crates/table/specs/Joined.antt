@@ -37,6 +37,7 @@ along w t up u misplaced slotOf n occupied number test ends e p h =
     turn : (b : Bool) → cond b 0 (windowEndAt w t up p) ≡ cond (not b) (windowEndAt w t up p) 0
     turn true = refl
     turn false = refl
+
     window : windowEndAt w t up p ≡ windowEnd (vacant w) misplaced u p
     window =
         ap (λ (k : ℕ). min (suc (least (misplacedAt w t up p) (k - suc p) (suc p))) k) (sym n)
