@@ -1,6 +1,7 @@
 // The library's face: calls on a lent table with an answer for every input.
 // Each contract is an equation for the reply on all inputs, refused ones too; specs/ has the definitions.
 pub mod deletes;
+pub mod inserts;
 pub mod lookup;
 pub mod neighbours;
 pub mod windows;

@@ -1,0 +1,99 @@
+// Planning an insert: costs in both directions, the choice between them, and the words of its chain.
+// The table is never changed, and a call that declines leaves the plan buffer as it was.
+use crate::PlanAnswer;
+use crate::PlanInfo;
+use crate::neighbours::after_a;
+use crate::neighbours::check_insert;
+use crate::neighbours::slot_b;
+use crate::windows::fill_ends;
+use planner::Choice;
+use planner::Range;
+use planner::choose;
+use planner::fill_costs;
+use planner::write_plan;
+use records::Cause;
+use records::Check;
+use records::Rule;
+use records::rules::record_of;
+ghost use mathlib.Core.Path.{_≡_};
+ghost use mathlib.Core.Bool.{cond};
+ghost use mathlib.Core.List.{_++_};
+ghost use Prim.Native.Nat.{_+_, _-_, _≤_, _<_, _/_};
+ghost use lib.ListN.{length, drop};
+ghost use Rattle.planner.specs.Costs.{costOf, SolvedFrom};
+ghost use Rattle.planner.specs.Emit.{Stays};
+ghost use Rattle.planner.specs.Choice.{choiceOf, planWords};
+ghost use Rattle.records.specs.Record.{slotWords, listed};
+ghost use Rattle.records.specs.declared.Check.the-variants.{Pass};
+ghost use Rattle.table.specs.Windows.{endAt};
+ghost use Rattle.table.specs.Plans.{planTold, planAnswer, planBuffer};
+ghost use Rattle.table.specs.Neighbours.{afterA, slotB, insertChecks};
+ghost use Rattle.table.specs.Inserts.{insertWords, insertAnswer, insertPlan};
+
+// The costs of all positions along one direction, with the ends of their windows.
+fn costs_along(table: &[u64], up: bool, ends: &mut [u16], costs: &mut [u16])
+    requires { ⌜ (length (now table) ≤ 6144) × (length (now table) / 6 ≤ length (now ends)) × (length (now table) / 6 ≤ length (now costs)) ⌝ }
+    ensures { λ _. ⌜ now (ends .exit) ≡ listed (length (now (table .entry)) / 6) (endAt 2 (now (table .entry)) up) ++ drop (length (now (table .entry)) / 6) (now (ends .entry)) ⌝ }
+    ensures { λ _. ⌜ SolvedFrom (now (ends .exit)) (length (now (table .entry)) / 6) 0 (costOf (now (costs .exit))) ⌝ }
+{
+    let slots = table.len() / 6;
+    fill_ends(table, up, ends);
+    fill_costs(ends, costs, slots);
+}
+
+// A, where there is one: the first slot of the range going up.
+fn slot_before(after: usize) -> usize
+    ensures { λ r. ⌜ r ≡ after - 1 ⌝ }
+{
+    if 0 < after { after - 1 } else { 0 }
+}
+
+// The choice within the ranges A + 1 to B going down and A to B − 1 going up.
+fn choose_insert(table: &[u64], new: &[u64], down: &[u16], up: &[u16]) -> Choice
+    requires { ⌜ (length (now table) ≤ 6144) × (length (now new) ≡ 6) ⌝ }
+    requires { ⌜ (length (now table) / 6 ≤ length (now down)) × (length (now table) / 6 ≤ length (now up)) ⌝ }
+    ensures { λ r. ⌜ r ≡ choiceOf (costOf (now (down .entry))) (costOf (now (up .entry))) (length (now (table .entry)) / 6)
+        (record { from = afterA 2 (now (table .entry)) (slotWords 2 (now (new .entry)) 0); to = slotB 2 (now (table .entry)) (slotWords 2 (now (new .entry)) 0) + 1 })
+        (record { from = afterA 2 (now (table .entry)) (slotWords 2 (now (new .entry)) 0) - 1; to = slotB 2 (now (table .entry)) (slotWords 2 (now (new .entry)) 0) }) ⌝ }
+{
+    let after = after_a(table, new);
+    let dependant = slot_b(table, new);
+    let below = Range {
+        from: after,
+        to: dependant + 1,
+    };
+    let above = Range {
+        from: slot_before(after),
+        to: dependant,
+    };
+    choose(down, up, table.len() / 6, below, above)
+}
+
+// The words of a choice, where the buffer has room for them.
+fn write_choice(
+    down: &[u16],
+    up: &[u16],
+    slots: usize,
+    choice: Choice,
+    plan: &mut [u32],
+) -> PlanAnswer
+    requires { ⌜ (slots ≤ 1024) × (slots ≤ length (now down)) × (slots ≤ length (now up)) × (choice .cost < slots) ⌝ }
+    requires { ⌜ Stays (costOf (cond (choice .up) (now up) (now down))) slots (choice .position) (choice .cost) ⌝ }
+    ensures { λ r. ⌜ planTold r ≡ planAnswer Pass (length (planWords (costOf (cond (choice .up) (now (up .entry)) (now (down .entry)))) slots choice)) (length (now (plan .entry))) ⌝ }
+    ensures { λ _. ⌜ now (plan .exit) ≡ planBuffer Pass (planWords (costOf (cond (choice .up) (now (up .entry)) (now (down .entry)))) slots choice) (now (plan .entry)) ⌝ }
+{
+    let count = choice.cost + 1;
+    if plan.len() < count {
+        return PlanAnswer::Refused(Cause::Short, count as u32);
+    }
+    if choice.up {
+        write_plan(up, slots, choice, plan);
+        return PlanAnswer::Planned(PlanInfo {
+            count: count as u32,
+        });
+    }
+    write_plan(down, slots, choice, plan);
+    PlanAnswer::Planned(PlanInfo {
+        count: count as u32,
+    })
+}
