@@ -80,14 +80,13 @@ module _ {S : Type 0} (empty : S) (occupied : S → Bool) (misordered : S → S 
       let h : p < length t = omega (arith, length-reverse t) in
       rw (getD-reverse t empty p h, end-reversed p h) (e p h)
 
-  -- costs computed from those ends choose as the layout does
-  pub numbers-law : (ends-down ends-up : List ℕ) (down up : ℕ → ℕ) → Ends empty occupied misordered t ends-down
-      → Ends empty occupied (swapped misordered) (reverse t) ends-up → SolvedFrom ends-down (length t) 0 down → SolvedFrom ends-up (length t) 0 up
-      → (below above : Range)
-      → Agrees (length t) down up (choiceOf down up (length t) below above) (choose empty occupied misordered t (rangeOf below) (rangeOf above))
+  -- costs computed from those ends, over as many slots as the layout has, choose as the layout does
+  pub numbers-law : (n : ℕ) → length t ≡ n → (ends-down ends-up : List ℕ) (down up : ℕ → ℕ) → Ends empty occupied misordered t ends-down
+      → Ends empty occupied (swapped misordered) (reverse t) ends-up → SolvedFrom ends-down n 0 down → SolvedFrom ends-up n 0 up → (below above : Range)
+      → Agrees n down up (choiceOf down up n below above) (choose empty occupied misordered t (rangeOf below) (rangeOf above))
   unfolding downCost
-  numbers-law ends-down ends-up down up e f g h =
-      let n : length (reverse t) ≡ length t = length-reverse t in
+  numbers-law n size ends-down ends-up down up e f g h below above =
+      let back : length (reverse t) ≡ length t = length-reverse t in
       let up-costs : (p : ℕ) → p < length t → up p ≡ slotCost empty occupied (swapped misordered) (length t) (reverse t) p =
-      λ p b. rw n at (costs-settled empty occupied (swapped misordered) (reverse t) ends-up up f (rw n h) p (omega arith)) in
-      choice-law empty occupied misordered t down up (costs-settled empty occupied misordered t ends-down down e g) up-costs
+      λ p b. rw back at (costs-settled empty occupied (swapped misordered) (reverse t) ends-up up f (rw (back, size) h) p (omega arith)) in
+      rw (← size) (choice-law empty occupied misordered t down up (costs-settled empty occupied misordered t ends-down down e (rw size g)) up-costs below above)
