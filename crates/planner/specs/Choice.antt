@@ -1,6 +1,6 @@
 -- The choice between the two directions, by the costs of positions.
 -- Ranges are in slot numbers; going up, the slots from f up to, not including, e stand at the positions from slots − e up to slots − f.
-use mathlib.Core.Path.{_≡_}
+use mathlib.Core.Path.{_≡_, _∙_}
 use mathlib.Core.Bool.{true, false, cond}
 use mathlib.Core.List.{List, [], _∷_, _++_}
 use Prim.Native.Nat.{ℕ, suc, _-_, _≤_, _<_, min}
@@ -8,7 +8,7 @@ use native.Mathlib.Omega.{arith}
 use lib.Dec.{eqb, leb}
 use borrow.Author.Tests.{le-leb, lt-leb}
 use Rattle.search.specs.Search.{least}
-use lib.ListN.{length, drop, set}
+use lib.ListN.{length, drop, set, length-append}
 use Rattle.layout.specs.Write.{put}
 use Rattle.layout.specs.Minimum.{minimum, lowest, lowest-law}
 use Rattle.planner.specs.Emit.{slotAt, wordOf, emitted, emitted-length, stored-after}
@@ -41,6 +41,13 @@ choiceOf down up slots below above = preferred (bestBelow down slots below) (bes
 unfoldable pub planWords : (ℕ → ℕ) → ℕ → Choice → List ℕ
 planWords c slots choice =
     emitted c slots (choice .up) (choice .position) (choice .cost) ++ (wordOf (put (slotAt slots (choice .up) (choice .position))) ∷ [])
+
+-- a plan has a word for each move and one for the new rule
+pub plan-words-length : (c : ℕ → ℕ) (slots : ℕ) (choice : Choice) → length (planWords c slots choice) ≡ suc (choice .cost)
+unfolding planWords
+plan-words-length c slots choice =
+    length-append (emitted c slots (choice .up) (choice .position) (choice .cost)) (wordOf (put (slotAt slots (choice .up) (choice .position))) ∷ [])
+    ∙ (let e = emitted-length c slots (choice .up) (choice .position) (choice .cost) in omega arith)
 
 pub preferred-down : (down up : Best) → down .cost ≤ up .cost
     → preferred down up ≡ record { up = false; cost = down .cost; position = down .position }

@@ -3,32 +3,34 @@
 use mathlib.Core.Path.{_≡_, refl, sym, ap, ap₂, _∙_, fun-ext, subst}
 use mathlib.Core.Bool.{Bool, true, false, cond, false≢true}
 use mathlib.Core.Logic.{_≢_}
-use mathlib.Core.List.{List}
+use mathlib.Core.List.{List, [], _∷_, _++_}
 use Prim.Native.Nat.{ℕ, suc, _+_, _-_, _≤_, _<_}
 use native.Mathlib.Nat.{zero-mul, zero-add}
 use native.Mathlib.Omega.{arith}
 use lib.Dec.{ltb}
-use lib.ListN.{length, getD}
+use lib.ListN.{length, getD, drop}
 use borrow.Author.Tests.{ltb-false}
 use Rattle.search.specs.Search.{any, any-yes, least, afterLast, decided}
 use Rattle.ternary.specs.Pattern.{Words}
 use Rattle.layout.specs.Plan.{Choice, Range as LayoutRange, afterPreceding, firstDependant, rangeDown, rangeUp, choose, insertChoice}
 use Rattle.planner.specs.Costs.{costOf, SolvedFrom}
-use Rattle.planner.specs.Choice.{choiceOf}
+use Rattle.planner.specs.Choice.{choiceOf, planWords as numberWords, plan-words-length}
+use Rattle.planner.specs.declared.Choice.{Choice as NumberChoice}
 use Rattle.planner.specs.Agree.{Agrees}
 use Rattle.planner.specs.Ends.{numbers-law}
 use Rattle.layout.specs.Insert.{LeastPlan}
 use Rattle.records.specs.Record.{word, slotWords, empty, soundRule, recordOf, recordWords}
 use Rattle.records.specs.Order.{slots, sameId, tied, precedes}
-use Rattle.records.specs.Checks.{Told, orElse, slotChecks, tableChecks, checkShape, checkRecords, checkTwice, checkOrder}
+use Rattle.records.specs.Checks.{Told, success, refusal, orElse, slotChecks, tableChecks, checkShape, checkRecords, checkTwice, checkOrder}
 use Rattle.records.specs.Laws.{or-else-pass, lowest-pass, sound-law, pass-law, cond-pass}
 use Rattle.records.specs.Entries.{vacant, entries, entryOccupied, entrySame, entryMisordered, entries-length}
 use Rattle.records.specs.Inserts.{insertChoiceOf, planWords, Untied, IdNew, newMisordered, misorderedNew, uncrossed-apart, insert-words}
 use Rattle.records.specs.Inserts.{after-preceding-precedes, first-dependant-precedes, after-preceding-slots, first-dependant-slots}
 use Rattle.records.specs.declared.Rule.{Rule}
+use Rattle.records.specs.declared.Cause.the-variants.{Short}
 use Rattle.records.specs.declared.Check.{Check}
 use Rattle.records.specs.declared.Check.the-variants.{Pass, Fail}
-use Rattle.table.specs.Plans.{planAnswer, planBuffer}
+use Rattle.table.specs.Plans.{planAnswer, planBuffer, plan-short, plan-written}
 use Rattle.table.specs.Windows.{endAt}
 use Rattle.table.specs.Joined.{ends-down as ends-down-law, ends-up as ends-up-law}
 use Rattle.table.specs.Neighbours.{checkRule, checkKnown, checkTie, checkFull, checkCrossed, afterA, slotB, newChecks, ruleWords, insertChecks}
@@ -119,7 +121,6 @@ module _ (w : ℕ) (t : List ℕ) (rule : Rule) (p : Plannable w t rule) where
       (choiceOf (costOf down) (costOf up) (slots w t) (record { from = a; to = b + 1 }) (record { from = a - 1; to = b })) (insertChoiceOf w t rule)
   unfolding insertChoice
   numbers-agree ends-down ends-up down up e f g h a b ea eb =
-      let n = entries-length w t in
       let x = ea ∙ after-is in
       let y = eb ∙ dependant-is in
       let z : b + 1 ≡ suc (firstDependant (vacant w) (entryMisordered w) (entries w t) (recordOf w rule)) = omega arith in
@@ -131,5 +132,26 @@ module _ (w : ℕ) (t : List ℕ) (rule : Rule) (p : Plannable w t rule) where
       (λ (c : Choice). Agrees (slots w t) (costOf down) (costOf up)
       (choiceOf (costOf down) (costOf up) (slots w t) (record { from = a; to = b + 1 }) (record { from = a - 1; to = b })) c)
       (ap₂ (choose (vacant w) (entryOccupied w) (entryMisordered w) (entries w t)) below above)
-      (rw n at (numbers-law (vacant w) (entryOccupied w) (entryMisordered w) (entries w t) ends-down ends-up (costOf down) (costOf up)
-      (ends-down-law w t ends-down e) (ends-up-law w t ends-up f) (rw n g) (rw n h) (record { from = a; to = b + 1 }) (record { from = a - 1; to = b })))
+      (numbers-law (vacant w) (entryOccupied w) (entryMisordered w) (entries w t) (slots w t) (entries-length w t) ends-down ends-up (costOf down)
+      (costOf up) (ends-down-law w t ends-down e) (ends-up-law w t ends-up f) g h (record { from = a; to = b + 1 }) (record { from = a - 1; to = b }))
+
+-- what the planner writes of a choice: nothing where the buffer is too short, ..
+pub write-short : (c : ℕ → ℕ) (n : ℕ) (choice : NumberChoice) (plan : List ℕ) → length plan < choice .cost + 1
+    → (refusal Short (choice .cost + 1) ≡ planAnswer Pass (length (numberWords c n choice)) (length plan))
+    × (plan ≡ planBuffer Pass (numberWords c n choice) plan)
+write-short c n choice plan h =
+    let e = plan-words-length c n choice in
+    let r = plan-short (numberWords c n choice) plan refl refl (omega arith) in
+    let k : choice .cost + 1 ≡ length (numberWords c n choice) = omega arith in
+    (ap (refusal Short) k ∙ r .0, r .1)
+
+-- .. else the plan's words
+pub write-done : (c : ℕ → ℕ) (n : ℕ) (choice : NumberChoice) (plan after : List ℕ) → choice .cost + 1 ≤ length plan
+    → after ≡ numberWords c n choice ++ drop (suc (choice .cost)) plan
+    → (success ((choice .cost + 1) ∷ []) ≡ planAnswer Pass (length (numberWords c n choice)) (length plan))
+    × (after ≡ planBuffer Pass (numberWords c n choice) plan)
+write-done c n choice plan after h f =
+    let e = plan-words-length c n choice in
+    let r = plan-written (numberWords c n choice) plan refl refl (omega arith) in
+    let k : choice .cost + 1 ≡ length (numberWords c n choice) = omega arith in
+    (ap (λ (m : ℕ). success (m ∷ [])) k ∙ r .0, f ∙ (ap (λ (m : ℕ). numberWords c n choice ++ drop m plan) (sym e) ∙ r .1))

@@ -1,3 +1,8 @@
+use mathlib.Core.Path.{_∙_}
+use native.Mathlib.Omega.{arith}
+use denote.Ref.{now}
+use Rattle.records.specs.Record.{slotWords}
+use Rattle.table.specs.Neighbours.{slot-b-high}
 use borrow.Author.Needs.{needs}
 use Rattle.table.proofs.inserts.choose_insert.Statement.{statement}
 use Rattle.table.proofs.inserts.choose_insert.Tie as tie
@@ -18,7 +23,9 @@ slot-b-requires c κs = search needs
 
 -- src/inserts.rt:63:13
 add-choose : tie.Need-add-choose
-add-choose c = ?
+add-choose c =
+    let a = c .before .before .before .before .before .before .args in
+    omega (arith, c .slot-b .ensures, slot-b-high 2 (now (a .table)) (slotWords 2 (now (a .new)) 0))
 
 -- src/inserts.rt:66:15
 slot-before-requires : tie.Need-slot-before-requires
@@ -30,7 +37,7 @@ choose-requires c κs = search needs
 
 -- src/inserts.rt:52:1
 returns : tie.Need-returns
-returns c = ?
+returns c = c .choose .ensures ∙ rw (c .before .slot-before .ensures, c .before .before .slot-b .ensures, c .before .before .before .after-a .ensures)
 
 pub choose-insert-spec : {M : Type 1} → statement M
 choose-insert-spec =

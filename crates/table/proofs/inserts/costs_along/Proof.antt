@@ -1,3 +1,11 @@
+use mathlib.Core.Path.{sym, ap, subst, _∙_}
+use mathlib.Core.List.{List}
+use Prim.Native.Nat.{ℕ, _/_, _≤_, _<_}
+use lib.ListN.{length, getD, drop}
+use denote.Ref.{now}
+use Rattle.table.specs.Windows.{endAt, end-high}
+use Rattle.table.specs.Joined.{numbers-front}
+use native.Mathlib.Omega.{arith}
 use borrow.Author.Needs.{needs}
 use Rattle.table.proofs.inserts.costs_along.Statement.{statement}
 use Rattle.table.proofs.inserts.costs_along.Tie as tie
@@ -12,7 +20,16 @@ fill-ends-requires c κs = search needs
 
 -- src/inserts.rt:41:5
 fill-costs-requires : tie.Need-fill-costs-requires
-fill-costs-requires c κs = ?
+fill-costs-requires c κs =
+    record { few = omega arith; ends-long = omega arith; costs-long = omega arith; within = λ p h. bounded p h }
+  where
+    bounded : (p : ℕ) → p < length (now (c .before .before .before .before .before .before .before .before .before .args .table)) / 6 → getD (c .before .before .before .before .fill-ends .last .1 .1 .0) p 0 ≤ length (now (c .before .before .before .before .before .before .before .before .before .args .table)) / 6
+    bounded p h =
+        let a = c .before .before .before .before .before .before .before .before .before .args in
+        let n = length (now (a .table)) / 6 in
+        subst (λ (x : ℕ). x ≤ n)
+        (sym (ap (λ (l : List ℕ). getD l p 0) (c .before .before .before .before .fill-ends .ensures) ∙ numbers-front n (endAt 2 (now (a .table)) (a .up)) (drop n (now (a .ends))) p h))
+        (end-high 2 (now (a .table)) (a .up) p)
 
 -- src/inserts.rt:34:1
 same-length : tie.Need-same-length

@@ -1,3 +1,14 @@
+use mathlib.Core.Path.{sym, ap, subst, _∙_}
+use mathlib.Core.Bool.{Bool, cond}
+use mathlib.Core.List.{_++_}
+use Prim.Native.Nat.{suc}
+use native.Mathlib.Omega.{arith}
+use lib.ListN.{drop}
+use denote.Ref.{now}
+use Rattle.planner.specs.Costs.{costOf}
+use Rattle.planner.specs.Emit.{Stays}
+use Rattle.planner.specs.Choice.{planWords}
+use Rattle.table.specs.Inserts.{write-short, write-done}
 use borrow.Author.Needs.{needs}
 use Rattle.table.proofs.inserts.write_choice.Statement.{statement}
 use Rattle.table.proofs.inserts.write_choice.Tie as tie
@@ -15,11 +26,21 @@ cast-t10 c = search needs
 
 -- src/inserts.rt:87:9
 returns : tie.Need-returns
-returns c = ?
+returns c = let a = c .before .before .before .before .before .args in write-short (costOf (cond (a .choice .up) (now (a .up)) (now (a .down)))) (a .slots) (a .choice) (now (a .plan)) (c .if1 .taken)
 
 -- src/inserts.rt:90:9
 write-plan-requires : tie.Need-write-plan-requires
-write-plan-requires c κs = ?
+write-plan-requires c κs =
+    let a = c .before .before .before .before .before .before .before .args in
+    let pre = c .before .before .before .before .before .before .before .pre in (
+      record {
+        few = omega (arith, pre .0);
+        costs-long = omega (arith, pre .0);
+        plan-long = omega arith;
+        stays = subst (λ (b : Bool). Stays (costOf (cond b (now (a .up)) (now (a .down)))) (a .slots) (a .choice .position) (a .choice .cost)) (c .before .if2 .taken) (pre .1);
+      },
+      omega arith,
+    )
 
 -- src/inserts.rt:92:20
 cast-t14 : tie.Need-cast-t14
@@ -31,11 +52,25 @@ same-length c = search needs
 
 -- src/inserts.rt:91:9
 returns-2 : tie.Need-returns-2
-returns-2 c = ?
+returns-2 c =
+    let a = c .before .before .before .before .before .before .before .before .before .before .args in
+    write-done (costOf (cond (a .choice .up) (now (a .up)) (now (a .down)))) (a .slots) (a .choice) (now (a .plan)) _ (omega arith)
+    (c .before .before .write-plan .ensures
+    ∙ ap (λ (b : Bool). planWords (costOf (cond b (now (a .up)) (now (a .down)))) (a .slots) (a .choice) ++ drop (suc (a .choice .cost)) (now (a .plan))) (sym (c .before .before .before .before .if2 .taken)))
 
 -- src/inserts.rt:95:5
 write-plan-requires-2 : tie.Need-write-plan-requires-2
-write-plan-requires-2 c κs = ?
+write-plan-requires-2 c κs =
+    let a = c .before .before .before .before .before .before .before .args in
+    let pre = c .before .before .before .before .before .before .before .pre in (
+      record {
+        few = omega (arith, pre .0);
+        costs-long = omega (arith, pre .0);
+        plan-long = omega arith;
+        stays = subst (λ (b : Bool). Stays (costOf (cond b (now (a .up)) (now (a .down)))) (a .slots) (a .choice .position) (a .choice .cost)) (c .before .if2 .left) (pre .1);
+      },
+      omega arith,
+    )
 
 -- src/inserts.rt:97:16
 cast-t19 : tie.Need-cast-t19
@@ -47,7 +82,11 @@ same-length-2 c = search needs
 
 -- src/inserts.rt:73:1
 returns-3 : tie.Need-returns-3
-returns-3 c = ?
+returns-3 c =
+    let a = c .before .before .before .before .before .before .before .before .before .before .args in
+    write-done (costOf (cond (a .choice .up) (now (a .up)) (now (a .down)))) (a .slots) (a .choice) (now (a .plan)) _ (omega arith)
+    (c .before .before .write-plan2 .ensures
+    ∙ ap (λ (b : Bool). planWords (costOf (cond b (now (a .up)) (now (a .down)))) (a .slots) (a .choice) ++ drop (suc (a .choice .cost)) (now (a .plan))) (sym (c .before .before .before .before .if2 .left)))
 
 pub write-choice-spec : {M : Type 1} → statement M
 write-choice-spec =
