@@ -3,8 +3,8 @@
 use mathlib.Core.Path.{_≡_, refl, sym, ap, ap₂, _∙_, fun-ext, subst}
 use mathlib.Core.Bool.{Bool, true, false, cond, false≢true}
 use mathlib.Core.Logic.{_≢_}
-use mathlib.Core.List.{List, [], _∷_, _++_}
-use Prim.Native.Nat.{ℕ, suc, _+_, _-_, _≤_, _<_}
+use mathlib.Core.List.{List, [], _∷_, _++_, map}
+use Prim.Native.Nat.{ℕ, suc, _+_, _-_, _*_, _≤_, _<_}
 use native.Mathlib.Nat.{zero-mul, zero-add}
 use native.Mathlib.Omega.{arith}
 use lib.Dec.{ltb}
@@ -12,27 +12,30 @@ use lib.ListN.{length, getD, drop}
 use borrow.Author.Tests.{ltb-false}
 use Rattle.search.specs.Search.{any, any-yes, least, afterLast, decided}
 use Rattle.ternary.specs.Pattern.{Words}
-use Rattle.layout.specs.Plan.{Choice, Range as LayoutRange, afterPreceding, firstDependant, rangeDown, rangeUp, choose, insertChoice}
+use Rattle.layout.specs.Plan.{Choice, Range as LayoutRange, afterPreceding, firstDependant, rangeDown, rangeUp, choose, insertChoice, writes}
+use Rattle.layout.specs.Write.{Write, copy, put, clear}
+use Rattle.planner.specs.Emit.{wordOf, Stays}
 use Rattle.planner.specs.Costs.{costOf, SolvedFrom}
 use Rattle.planner.specs.Choice.{choiceOf, planWords as numberWords, plan-words-length}
 use Rattle.planner.specs.declared.Choice.{Choice as NumberChoice}
-use Rattle.planner.specs.Agree.{Agrees}
+use Rattle.planner.specs.Agree.{Agrees, Emits, plan-law}
 use Rattle.planner.specs.Ends.{numbers-law}
 use Rattle.layout.specs.Insert.{LeastPlan}
-use Rattle.records.specs.Record.{word, slotWords, empty, soundRule, recordOf, recordWords}
+use Rattle.records.specs.Record.{word, slotWords, empty, soundRule, recordOf, recordWords, listed}
 use Rattle.records.specs.Order.{slots, sameId, tied, precedes}
 use Rattle.records.specs.Checks.{Told, success, refusal, orElse, slotChecks, tableChecks, checkShape, checkRecords, checkTwice, checkOrder}
-use Rattle.records.specs.Laws.{or-else-pass, lowest-pass, sound-law, pass-law, cond-pass}
+use Rattle.records.specs.Laws.{or-else-pass, lowest-pass, sound-law, pass-law, cond-pass, shape-length}
 use Rattle.records.specs.Entries.{vacant, entries, entryOccupied, entrySame, entryMisordered, entries-length}
 use Rattle.records.specs.Inserts.{insertChoiceOf, planWords, Untied, IdNew, newMisordered, misorderedNew, uncrossed-apart, insert-words}
 use Rattle.records.specs.Inserts.{after-preceding-precedes, first-dependant-precedes, after-preceding-slots, first-dependant-slots}
+use Rattle.records.specs.Writes.{writeWord}
 use Rattle.records.specs.declared.Rule.{Rule}
 use Rattle.records.specs.declared.Cause.the-variants.{Short}
 use Rattle.records.specs.declared.Check.{Check}
 use Rattle.records.specs.declared.Check.the-variants.{Pass, Fail}
 use Rattle.table.specs.Plans.{planAnswer, planBuffer, plan-short, plan-written}
 use Rattle.table.specs.Windows.{endAt}
-use Rattle.table.specs.Joined.{ends-down as ends-down-law, ends-up as ends-up-law}
+use Rattle.table.specs.Joined.{Costed, ends-listed, ends-down as ends-down-law, ends-up as ends-up-law}
 use Rattle.table.specs.Neighbours.{checkRule, checkKnown, checkTie, checkFull, checkCrossed, afterA, slotB, newChecks, ruleWords, insertChecks}
 
 -- the plan's words: the far end of the chain first, the new rule last
@@ -155,3 +158,50 @@ write-done c n choice plan after h f =
     let r = plan-written (numberWords c n choice) plan refl refl (omega arith) in
     let k : choice .cost + 1 ≡ length (numberWords c n choice) = omega arith in
     (ap (λ (m : ℕ). success (m ∷ [])) k ∙ r .0, f ∙ (ap (λ (m : ℕ). numberWords c n choice ++ drop m plan) (sym e) ∙ r .1))
+
+-- the costs of the direction taken
+cond-costs : (b : Bool) (u d : List ℕ) → cond b (costOf u) (costOf d) ≡ costOf (cond b u d)
+cond-costs true u d = refl
+cond-costs false u d = refl
+
+-- a choice in numbers that is the layout's: its cost is finite, its walk stays among the slots, and its words are the insert's
+pub record Joined (w : ℕ) (t : List ℕ) (rule : Rule) (down up : List ℕ) (choice : NumberChoice) : Type 0 where
+  pub finite : choice .cost < slots w t
+  pub stays : Stays (costOf (cond (choice .up) up down)) (slots w t) (choice .position) (choice .cost)
+  pub words : numberWords (costOf (cond (choice .up) up down)) (slots w t) choice ≡ insertWords w t rule
+
+pub joined : (w : ℕ) (t : List ℕ) (rule : Rule) → Plannable w t rule → rule .action < 4294967296 → (down up : List ℕ) (choice : NumberChoice)
+    → Agrees (slots w t) (costOf down) (costOf up) choice (insertChoiceOf w t rule) → Joined w t rule down up choice
+joined w t rule p small down up choice agrees =
+    let plan = insert-least w t rule p small in
+    let n = entries-length w t in
+    let low : insertChoiceOf w t rule .cost < slots w t = omega (arith, plan .short, plan .valid .count) in
+    let emits : Emits (costOf (cond (choice .up) up down)) (slots w t) choice (insertChoiceOf w t rule) =
+    subst (λ (c : ℕ → ℕ). Emits c (slots w t) choice (insertChoiceOf w t rule)) (cond-costs (choice .up) up down) (agrees .finite low) in
+    record {
+      finite = omega (arith, agrees .cost);
+      stays = emits .stays;
+      words = plan-law emits ∙ ap (λ (f : Write → ℕ). map f (writes (insertChoiceOf w t rule))) (fun-ext same-word);
+    }
+  where
+    same-word : (x : Write) → wordOf x ≡ writeWord x
+    same-word (copy from to) = refl
+    same-word (put to) = refl
+    same-word (clear to) = refl
+
+-- costs of both directions and the neighbours of the rule are all that a choice needs
+pub choice-joined : (w : ℕ) (t : List ℕ) (rule : Rule) → insertChecks w t rule ≡ Pass → rule .action < 4294967296 → (down up : List ℕ)
+    → Costed w t false down → Costed w t true up → (choice : NumberChoice)
+    → choice ≡ choiceOf (costOf down) (costOf up) (slots w t)
+    (record { from = afterA w t (ruleWords w rule); to = slotB w t (ruleWords w rule) + 1 })
+    (record { from = afterA w t (ruleWords w rule) - 1; to = slotB w t (ruleWords w rule) })
+    → Joined w t rule down up choice
+choice-joined w t rule e small down up g h choice f =
+    let p = plannable w t rule e in
+    joined w t rule p small down up choice
+    (subst (λ (c : NumberChoice). Agrees (slots w t) (costOf down) (costOf up) c (insertChoiceOf w t rule)) (sym f)
+    (numbers-agree w t rule p (listed (slots w t) (endAt w t false)) (listed (slots w t) (endAt w t true)) down up (ends-listed w t false)
+    (ends-listed w t true) g h (afterA w t (ruleWords w rule)) (slotB w t (ruleWords w rule)) refl refl))
+
+pub insert-length : (w : ℕ) (t : List ℕ) (rule : Rule) → insertChecks w t rule ≡ Pass → length t ≤ 1024 * recordWords w
+insert-length w t rule e = shape-length w t (plannable w t rule e .shape)

@@ -5,13 +5,16 @@ use mathlib.Core.Bool.{Bool, true, false, not, cond}
 use mathlib.Core.List.{List, _++_, reverse}
 use Prim.Native.Nat.{ℕ, suc, _-_, _≤_, _<_, min}
 use native.Mathlib.Omega.{arith}
-use lib.ListN.{length, getD, drop, length-reverse, List·getD-append}
+use lib.Dec.{eqb}
+use lib.ListN.{length, getD, length-reverse, List·getD-append}
 use Rattle.search.specs.Search.{least}
 use Rattle.ternary.specs.Pattern.{Words}
 use Rattle.layout.specs.Order.{swapped}
 use Rattle.layout.specs.Cost.{windowEnd}
 use Rattle.layout.specs.Mirror.{mirror, getD-reverse}
 use Rattle.layout.specs.InPlace.{window-end-by}
+use Rattle.layout.specs.Minimum.{minimum}
+use Rattle.planner.specs.Costs.{costOf, positionCost, SolvedFrom}
 use Rattle.planner.specs.Walked.{Ends}
 use Rattle.records.specs.Record.{slotWords, empty, listed}
 use Rattle.records.specs.Rules.{length-listed, word-listed}
@@ -68,3 +71,21 @@ module _ (w : ℕ) (t : List ℕ) (ends : List ℕ) where
 -- the numbers as the code leaves them: in front of whatever stood in the buffer
 pub numbers-front : (n : ℕ) (f : Words) (rest : List ℕ) (p : ℕ) → p < n → getD (listed n f ++ rest) p 0 ≡ f p
 numbers-front n f rest p h = List·getD-append (listed n f) rest 0 p (let k = length-listed n f in omega arith) ∙ word-listed n f p h
+
+-- costs along one direction: they solve the equations of the table's window ends
+abbrev pub Costed : ℕ → List ℕ → Bool → List ℕ → Type 0
+Costed w t up costs = SolvedFrom (listed (slots w t) (endAt w t up)) (slots w t) 0 (costOf costs)
+
+-- as the code finds them, from numbers in front of whatever stood in the buffer
+pub costed : (w : ℕ) (t : List ℕ) (up : Bool) (ends rest costs : List ℕ) → ends ≡ listed (slots w t) (endAt w t up) ++ rest
+    → SolvedFrom ends (slots w t) 0 (costOf costs) → Costed w t up costs
+unfolding positionCost
+costed w t up ends rest costs e solved p l h =
+    let same : getD ends p 0 ≡ getD (listed (slots w t) (endAt w t up)) p 0 =
+    ap (λ (x : List ℕ). getD x p 0) e
+    ∙ (numbers-front (slots w t) (endAt w t up) rest p h ∙ sym (word-listed (slots w t) (endAt w t up) p h)) in
+    solved p l h
+    ∙ ap (λ (x : ℕ). cond (eqb x 0) 0 (suc (minimum (costOf costs) (slots w t) (x - suc p) (suc p)))) same
+
+pub ends-listed : (w : ℕ) (t : List ℕ) (up : Bool) (p : ℕ) → p < slots w t → getD (listed (slots w t) (endAt w t up)) p 0 ≡ endAt w t up p
+ends-listed w t up p h = word-listed (slots w t) (endAt w t up) p h

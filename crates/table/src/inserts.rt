@@ -16,16 +16,15 @@ use records::Check;
 use records::Rule;
 use records::rules::record_of;
 ghost use mathlib.Core.Path.{_≡_};
-ghost use mathlib.Core.Bool.{cond};
-ghost use mathlib.Core.List.{_++_};
+ghost use mathlib.Core.Bool.{true, false, cond};
 ghost use Prim.Native.Nat.{_+_, _-_, _≤_, _<_, _/_};
-ghost use lib.ListN.{length, drop};
-ghost use Rattle.planner.specs.Costs.{costOf, SolvedFrom};
+ghost use lib.ListN.{length};
+ghost use Rattle.planner.specs.Costs.{costOf};
 ghost use Rattle.planner.specs.Emit.{Stays};
 ghost use Rattle.planner.specs.Choice.{choiceOf, planWords};
-ghost use Rattle.records.specs.Record.{slotWords, listed};
+ghost use Rattle.records.specs.Record.{slotWords};
 ghost use Rattle.records.specs.declared.Check.the-variants.{Pass};
-ghost use Rattle.table.specs.Windows.{endAt};
+ghost use Rattle.table.specs.Joined.{Costed};
 ghost use Rattle.table.specs.Plans.{planTold, planAnswer, planBuffer};
 ghost use Rattle.table.specs.Neighbours.{afterA, slotB, insertChecks};
 ghost use Rattle.table.specs.Inserts.{insertWords, insertAnswer, insertPlan};
@@ -33,8 +32,7 @@ ghost use Rattle.table.specs.Inserts.{insertWords, insertAnswer, insertP
 // The costs of all positions along one direction, with the ends of their windows.
 fn costs_along(table: &[u64], up: bool, ends: &mut [u16], costs: &mut [u16])
     requires { ⌜ (length (now table) ≤ 6144) × (length (now table) / 6 ≤ length (now ends)) × (length (now table) / 6 ≤ length (now costs)) ⌝ }
-    ensures { λ _. ⌜ now (ends .exit) ≡ listed (length (now (table .entry)) / 6) (endAt 2 (now (table .entry)) up) ++ drop (length (now (table .entry)) / 6) (now (ends .entry)) ⌝ }
-    ensures { λ _. ⌜ SolvedFrom (now (ends .exit)) (length (now (table .entry)) / 6) 0 (costOf (now (costs .exit))) ⌝ }
+    ensures { λ _. ⌜ Costed 2 (now (table .entry)) up (now (costs .exit)) ⌝ }
 {
     let slots = table.len() / 6;
     fill_ends(table, up, ends);
@@ -96,4 +94,59 @@ fn write_choice(
     PlanAnswer::Planned(PlanInfo {
         count: count as u32,
     })
+}
+
+// The plan of an insert that passes checks 1 to 10, from the costs of both directions.
+fn plan_priced(table: &[u64], rule: Rule, down: &[u16], up: &[u16], plan: &mut [u32]) -> PlanAnswer
+    requires { ⌜ insertChecks 2 (now table) rule ≡ Pass ⌝ }
+    requires { ⌜ (Costed 2 (now table) false (now down)) × (1024 ≤ length (now down)) × (Costed 2 (now table) true (now up)) × (1024 ≤ length (now up)) ⌝ }
+    ensures { λ r. ⌜ planTold r ≡ planAnswer Pass (length (insertWords 2 (now (table .entry)) rule)) (length (now (plan .entry))) ⌝ }
+    ensures { λ _. ⌜ now (plan .exit) ≡ planBuffer Pass (insertWords 2 (now (table .entry)) rule) (now (plan .entry)) ⌝ }
+{
+    let new = record_of(rule);
+    let choice = choose_insert(table, &new, down, up);
+    write_choice(down, up, table.len() / 6, choice, plan)
+}
+
+// The same, with working arrays of at least a word for each slot.
+fn plan_with(
+    table: &[u64],
+    rule: Rule,
+    ends: &mut [u16],
+    down: &mut [u16],
+    up: &mut [u16],
+    plan: &mut [u32],
+) -> PlanAnswer
+    requires { ⌜ insertChecks 2 (now table) rule ≡ Pass ⌝ }
+    requires { ⌜ (1024 ≤ length (now ends)) × (1024 ≤ length (now down)) × (1024 ≤ length (now up)) ⌝ }
+    ensures { λ r. ⌜ planTold r ≡ planAnswer Pass (length (insertWords 2 (now (table .entry)) rule)) (length (now (plan .entry))) ⌝ }
+    ensures { λ _. ⌜ now (plan .exit) ≡ planBuffer Pass (insertWords 2 (now (table .entry)) rule) (now (plan .entry)) ⌝ }
+{
+    costs_along(table, false, ends, down);
+    costs_along(table, true, ends, up);
+    plan_priced(table, rule, down, up, plan)
+}
+
+// The same with arrays of its own.
+fn plan_checked(table: &[u64], rule: Rule, plan: &mut [u32]) -> PlanAnswer
+    requires { ⌜ insertChecks 2 (now table) rule ≡ Pass ⌝ }
+    ensures { λ r. ⌜ planTold r ≡ planAnswer Pass (length (insertWords 2 (now (table .entry)) rule)) (length (now (plan .entry))) ⌝ }
+    ensures { λ _. ⌜ now (plan .exit) ≡ planBuffer Pass (insertWords 2 (now (table .entry)) rule) (now (plan .entry)) ⌝ }
+{
+    let mut ends = [0u16; 1024];
+    let mut down = [0u16; 1024];
+    let mut up = [0u16; 1024];
+    plan_with(table, rule, &mut ends, &mut down, &mut up, plan)
+}
+
+// The shortest plan of an insert, or a refusal that leaves the buffer as it was.
+pub fn plan_insert(table: &[u64], rule: Rule, plan: &mut [u32]) -> PlanAnswer
+    ensures { λ r. ⌜ planTold r ≡ insertAnswer 2 (now (table .entry)) rule (length (now (plan .entry))) ⌝ }
+    ensures { λ _. ⌜ now (plan .exit) ≡ insertPlan 2 (now (table .entry)) rule (now (plan .entry)) ⌝ }
+{
+    let check = check_insert(table, rule);
+    if let Check::Fail(cause, spot) = check {
+        return PlanAnswer::Refused(cause, spot);
+    }
+    plan_checked(table, rule, plan)
 }

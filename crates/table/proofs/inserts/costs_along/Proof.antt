@@ -1,24 +1,20 @@
+-- `table::inserts::costs_along` meets its contract.
+-- The numbers filled in are window ends within the table, and the costs solve their equations.
 use mathlib.Core.Path.{sym, ap, subst, _∙_}
 use mathlib.Core.List.{List}
 use Prim.Native.Nat.{ℕ, _/_, _≤_, _<_}
+use native.Mathlib.Omega.{arith}
 use lib.ListN.{length, getD, drop}
 use denote.Ref.{now}
-use Rattle.table.specs.Windows.{endAt, end-high}
-use Rattle.table.specs.Joined.{numbers-front}
-use native.Mathlib.Omega.{arith}
 use borrow.Author.Needs.{needs}
+use Rattle.table.specs.Windows.{endAt, end-high}
+use Rattle.table.specs.Joined.{numbers-front, costed}
 use Rattle.table.proofs.inserts.costs_along.Statement.{statement}
 use Rattle.table.proofs.inserts.costs_along.Tie as tie
-use Rattle.table.proofs.inserts.costs_along.Reads as reads
-use Rattle.table.proofs.inserts.costs_along.Lts as lts
-use Rattle.planner.proofs.fill_costs.Reads as fill-costs-reads
-use Rattle.table.proofs.windows.fill_ends.Reads as fill-ends-reads
 
--- src/inserts.rt:40:5
 fill-ends-requires : tie.Need-fill-ends-requires
 fill-ends-requires c κs = search needs
 
--- src/inserts.rt:41:5
 fill-costs-requires : tie.Need-fill-costs-requires
 fill-costs-requires c κs =
     record { few = omega arith; ends-long = omega arith; costs-long = omega arith; within = λ p h. bounded p h }
@@ -31,17 +27,17 @@ fill-costs-requires c κs =
         (sym (ap (λ (l : List ℕ). getD l p 0) (c .before .before .before .before .fill-ends .ensures) ∙ numbers-front n (endAt 2 (now (a .table)) (a .up)) (drop n (now (a .ends))) p h))
         (end-high 2 (now (a .table)) (a .up) p)
 
--- src/inserts.rt:34:1
 same-length : tie.Need-same-length
 same-length c = search needs
 
--- src/inserts.rt:34:1
 same-length-2 : tie.Need-same-length-2
 same-length-2 c = search needs
 
--- src/inserts.rt:34:1
 returns : tie.Need-returns
-returns c = search needs
+returns c =
+    let a = c .before .before .before .before .before .before .before .before .before .before .before .before .args in
+    costed 2 (now (a .table)) (a .up) (c .before .before .before .before .before .before .before .fill-ends .last .1 .1 .0) (drop (length (now (a .table)) / 6) (now (a .ends))) (c .before .before .fill-costs .last .1 .0)
+    (c .before .before .before .before .before .before .before .fill-ends .ensures) (c .before .before .fill-costs .ensures .solved)
 
 pub costs-along-spec : {M : Type 1} → statement M
 costs-along-spec =

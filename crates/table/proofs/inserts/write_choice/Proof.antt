@@ -1,3 +1,5 @@
+-- `table::inserts::write_choice` meets its contract.
+-- The buffer's length decides; the costs are those of the direction taken.
 use mathlib.Core.Path.{sym, ap, subst, _∙_}
 use mathlib.Core.Bool.{Bool, cond}
 use mathlib.Core.List.{_++_}
@@ -5,30 +7,23 @@ use Prim.Native.Nat.{suc}
 use native.Mathlib.Omega.{arith}
 use lib.ListN.{drop}
 use denote.Ref.{now}
+use borrow.Author.Needs.{needs}
 use Rattle.planner.specs.Costs.{costOf}
 use Rattle.planner.specs.Emit.{Stays}
 use Rattle.planner.specs.Choice.{planWords}
 use Rattle.table.specs.Inserts.{write-short, write-done}
-use borrow.Author.Needs.{needs}
 use Rattle.table.proofs.inserts.write_choice.Statement.{statement}
 use Rattle.table.proofs.inserts.write_choice.Tie as tie
-use Rattle.table.proofs.inserts.write_choice.Reads as reads
-use Rattle.table.proofs.inserts.write_choice.Lts as lts
-use Rattle.planner.proofs.write_plan.Reads as write-plan-reads
 
--- src/inserts.rt:85:17
 add-count : tie.Need-add-count
 add-count c = search needs
 
--- src/inserts.rt:87:50
 cast-t10 : tie.Need-cast-t10
 cast-t10 c = search needs
 
--- src/inserts.rt:87:9
 returns : tie.Need-returns
 returns c = let a = c .before .before .before .before .before .args in write-short (costOf (cond (a .choice .up) (now (a .up)) (now (a .down)))) (a .slots) (a .choice) (now (a .plan)) (c .if1 .taken)
 
--- src/inserts.rt:90:9
 write-plan-requires : tie.Need-write-plan-requires
 write-plan-requires c κs =
     let a = c .before .before .before .before .before .before .before .args in
@@ -42,15 +37,12 @@ write-plan-requires c κs =
       omega arith,
     )
 
--- src/inserts.rt:92:20
 cast-t14 : tie.Need-cast-t14
 cast-t14 c = search needs
 
--- src/inserts.rt:91:9
 same-length : tie.Need-same-length
 same-length c = search needs
 
--- src/inserts.rt:91:9
 returns-2 : tie.Need-returns-2
 returns-2 c =
     let a = c .before .before .before .before .before .before .before .before .before .before .args in
@@ -58,7 +50,6 @@ returns-2 c =
     (c .before .before .write-plan .ensures
     ∙ ap (λ (b : Bool). planWords (costOf (cond b (now (a .up)) (now (a .down)))) (a .slots) (a .choice) ++ drop (suc (a .choice .cost)) (now (a .plan))) (sym (c .before .before .before .before .if2 .taken)))
 
--- src/inserts.rt:95:5
 write-plan-requires-2 : tie.Need-write-plan-requires-2
 write-plan-requires-2 c κs =
     let a = c .before .before .before .before .before .before .before .args in
@@ -72,15 +63,12 @@ write-plan-requires-2 c κs =
       omega arith,
     )
 
--- src/inserts.rt:97:16
 cast-t19 : tie.Need-cast-t19
 cast-t19 c = search needs
 
--- src/inserts.rt:73:1
 same-length-2 : tie.Need-same-length-2
 same-length-2 c = search needs
 
--- src/inserts.rt:73:1
 returns-3 : tie.Need-returns-3
 returns-3 c =
     let a = c .before .before .before .before .before .before .before .before .before .before .args in

@@ -1,0 +1,53 @@
+-- `table::inserts::plan_insert` meets its contract.
+-- A refusal where a check fails; else the plan of the checked insert.
+use mathlib.Core.Path.{sym, ap, _∙_}
+use lib.ListN.{length}
+use denote.Ref.{now}
+use borrow.Author.Needs.{needs}
+use Rattle.records.specs.declared.Check.{Check}
+use Rattle.table.specs.Plans.{planAnswer, planBuffer, plan-refused}
+use Rattle.table.specs.Inserts.{insertWords}
+use Rattle.table.proofs.inserts.plan_insert.Statement.{statement}
+use Rattle.table.proofs.inserts.plan_insert.Tie as tie
+
+check-insert-requires : tie.Need-check-insert-requires
+check-insert-requires c κs = search needs
+
+enum-known-check : tie.Need-enum-known-check
+enum-known-check c = search needs
+
+returns : tie.Need-returns
+returns c =
+    let a = c .before .before .before .before .before .before .args in
+    plan-refused (insertWords 2 (now (a .table)) (a .rule)) (now (a .plan)) (c .before .before .before .check-insert .ensures) (c .before .check .given .1)
+
+enum-told : tie.Need-enum-told
+enum-told c = search needs
+
+plan-checked-requires : tie.Need-plan-checked-requires
+plan-checked-requires c κs = sym (c .before .before .before .check-insert .ensures) ∙ c .before .enum-told .given .1
+
+same-length : tie.Need-same-length
+same-length c = search needs
+
+returns-2 : tie.Need-returns-2
+returns-2 c =
+    let a = c .before .before .before .before .before .before .before .before .before .args in
+    let e = sym (c .before .before .before .before .before .before .check-insert .ensures) ∙ c .before .before .before .before .enum-told .given .1 in
+    let words = insertWords 2 (now (a .table)) (a .rule) in
+    let plan = now (a .plan) in (
+      c .before .before .plan-checked .ensures .0 ∙ ap (λ (k : Check). planAnswer k (length words) (length plan)) (sym e),
+      c .before .before .plan-checked .ensures .1 ∙ ap (λ (k : Check). planBuffer k words plan) (sym e),
+    )
+
+pub plan-insert-spec : {M : Type 1} → statement M
+plan-insert-spec =
+    tie.close
+    (tie.spec
+    check-insert-requires
+    enum-known-check
+    returns
+    enum-told
+    plan-checked-requires
+    same-length
+    returns-2)
