@@ -27,6 +27,7 @@ ghost use Rattle.records.specs.declared.Check.the-variants.{Pass};
 ghost use Rattle.table.specs.Joined.{Costed};
 ghost use Rattle.table.specs.Plans.{planTold, planAnswer, planBuffer};
 ghost use Rattle.table.specs.Neighbours.{afterA, slotB, insertChecks};
+ghost use Rattle.table.specs.Demand3.{ShortestPlan};
 ghost use Rattle.table.specs.Inserts.{insertWords, insertAnswer, insertPlan};
 
 // The costs of all positions along one direction, with the ends of their windows.
@@ -143,6 +144,8 @@ fn plan_checked(table: &[u64], rule: Rule, plan: &mut [u32]) -> PlanAnswer
 pub fn plan_insert(table: &[u64], rule: Rule, plan: &mut [u32]) -> PlanAnswer
     ensures { λ r. ⌜ planTold r ≡ insertAnswer 2 (now (table .entry)) rule (length (now (plan .entry))) ⌝ }
     ensures { λ _. ⌜ now (plan .exit) ≡ insertPlan 2 (now (table .entry)) rule (now (plan .entry)) ⌝ }
+    ensures shortest { λ r. ⌜ (insertChecks 2 (now (table .entry)) rule ≡ Pass → length (insertWords 2 (now (table .entry)) rule) ≤ length (now (plan .entry))
+        → ShortestPlan 2 (now (table .entry)) rule (planTold r) (now (plan .entry)) (now (plan .exit))) ⌝ }
 {
     let check = check_insert(table, rule);
     if let Check::Fail(cause, spot) = check {

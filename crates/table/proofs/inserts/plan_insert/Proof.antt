@@ -1,12 +1,14 @@
 -- `table::inserts::plan_insert` meets its contract.
 -- A refusal where a check fails; else the plan of the checked insert.
 use mathlib.Core.Path.{sym, ap, _∙_}
+use native.Mathlib.Omega.{arith}
 use lib.ListN.{length}
 use denote.Ref.{now}
 use borrow.Author.Needs.{needs}
 use Rattle.records.specs.declared.Check.{Check}
 use Rattle.table.specs.Plans.{planAnswer, planBuffer, plan-refused}
 use Rattle.table.specs.Inserts.{insertWords}
+use Rattle.table.specs.Demand3.{demand-3-call}
 use Rattle.table.proofs.inserts.plan_insert.Statement.{statement}
 use Rattle.table.proofs.inserts.plan_insert.Tie as tie
 
@@ -19,7 +21,8 @@ enum-known-check c = search needs
 returns : tie.Need-returns
 returns c =
     let a = c .before .before .before .before .before .before .args in
-    plan-refused (insertWords 2 (now (a .table)) (a .rule)) (now (a .plan)) (c .before .before .before .check-insert .ensures) (c .before .check .given .1)
+    let p = plan-refused (insertWords 2 (now (a .table)) (a .rule)) (now (a .plan)) (c .before .before .before .check-insert .ensures) (c .before .check .given .1) in
+    (p .0, (p .1, demand-3-call 2 (now (a .table)) (a .rule) (now (a .plan)) _ _ (omega arith) (p .0) (p .1)))
 
 enum-told : tie.Need-enum-told
 enum-told c = search needs
@@ -35,10 +38,10 @@ returns-2 c =
     let a = c .before .before .before .before .before .before .before .before .before .args in
     let e = sym (c .before .before .before .before .before .before .check-insert .ensures) ∙ c .before .before .before .before .enum-told .given .1 in
     let words = insertWords 2 (now (a .table)) (a .rule) in
-    let plan = now (a .plan) in (
-      c .before .before .plan-checked .ensures .0 ∙ ap (λ (k : Check). planAnswer k (length words) (length plan)) (sym e),
-      c .before .before .plan-checked .ensures .1 ∙ ap (λ (k : Check). planBuffer k words plan) (sym e),
-    )
+    let plan = now (a .plan) in
+    let told = c .before .before .plan-checked .ensures .0 ∙ ap (λ (k : Check). planAnswer k (length words) (length plan)) (sym e) in
+    let buffer = c .before .before .plan-checked .ensures .1 ∙ ap (λ (k : Check). planBuffer k words plan) (sym e) in
+    (told, (buffer, demand-3-call 2 (now (a .table)) (a .rule) plan _ _ (omega arith) told buffer))
 
 pub plan-insert-spec : {M : Type 1} → statement M
 plan-insert-spec =
