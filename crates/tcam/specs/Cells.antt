@@ -2,19 +2,35 @@
 -- A success leaves the spot and a refusal leaves the data as they were; a miss, a success without data, puts 0 into the data cells.
 use mathlib.Core.Path.{_≡_, ap, _∙_}
 use mathlib.Core.Bool.{cond}
-use Prim.Native.Nat.{ℕ}
+use Prim.Native.Nat.{ℕ, _≤_}
 use lib.Dec.{eqb}
-use lib.ListN.{getD}
+use lib.ListN.{length, getD}
 use mathlib.Core.List.{List, [], _∷_}
 use Rattle.records.specs.Record.{word}
 use Rattle.records.specs.Checks.{Told, causeNumber, success, refusal}
 use Rattle.records.specs.Laws.{cause-not-zero}
 use Rattle.records.specs.declared.Cause.{Cause}
+use Rattle.records.specs.declared.Check.the-variants.{Pass}
+use Rattle.records.specs.declared.Rule.{Rule}
 use Rattle.table.specs.Lookup.{lookupAnswer}
+use Rattle.table.specs.Neighbours.{insertChecks}
+use Rattle.table.specs.Inserts.{insertWords, insertAnswer, insertPlan}
+use Rattle.table.specs.Deletes.{deleteAnswer, deletePlan}
+use Rattle.table.specs.Demand3.{ShortestPlan}
 
 -- what a key of two words is answered
 abbrev pub keyAnswer : List ℕ → ℕ → ℕ → Told
 keyAnswer t high low = lookupAnswer 2 t (word (high ∷ low ∷ []))
+
+-- a rule that crosses as seven numbers
+abbrev pub ruleFrom : ℕ → ℕ → ℕ → ℕ → ℕ → ℕ → ℕ → Rule
+ruleFrom id priority value-high value-low mask-high mask-low action = record {
+  id = id;
+  priority = priority;
+  value = value-high ∷ value-low ∷ [];
+  mask = mask-high ∷ mask-low ∷ [];
+  action = action;
+}
 
 -- the cell for value k of a success; a success that has no such value, as a miss, leaves 0
 abbrev pub dataCell : Told → ℕ → ℕ → ℕ
@@ -38,14 +54,33 @@ success-cells values slot id action spot e = (
 )
 
 -- a refusal leaves the data cells, and puts its spot into the spot cell
+pub refusal-kept : (cause : Cause) (place k before : ℕ) {told : Told} → refusal cause place ≡ told → before ≡ dataCell told k before
+refusal-kept cause place k before e = (rw (cause-not-zero cause)) ∙ ap (λ (t : Told). dataCell t k before) e
+
+pub refusal-put : (cause : Cause) (place spot : ℕ) {told : Told} → refusal cause place ≡ told → place ≡ spotCell told spot
+refusal-put cause place spot e = (rw (cause-not-zero cause)) ∙ ap (λ (t : Told). spotCell t spot) e
+
 pub refusal-cells : (cause : Cause) (place : ℕ) {told : Told} (slot id action spot : ℕ) → refusal cause place ≡ told
     → (causeNumber cause ≡ told .number)
     × ((slot ≡ dataCell told 0 slot) × ((id ≡ dataCell told 1 id) × ((action ≡ dataCell told 2 action) × (place ≡ spotCell told spot))))
-refusal-cells cause place {told} slot id action spot e =
-    (ap (λ (t : Told). t .number) e, (kept 0 slot, (kept 1 id, (kept 2 action, put))))
-  where
-    kept : (k before : ℕ) → before ≡ dataCell told k before
-    kept k before = (rw (cause-not-zero cause)) ∙ ap (λ (t : Told). dataCell t k before) e
+refusal-cells cause place slot id action spot e = (
+  ap (λ (t : Told). t .number) e,
+  (refusal-kept cause place 0 slot e, (refusal-kept cause place 1 id e, (refusal-kept cause place 2 action e, refusal-put cause place spot e))),
+)
 
-    put : place ≡ spotCell told spot
-    put = (rw (cause-not-zero cause)) ∙ ap (λ (t : Told). spotCell t spot) e
+-- What a planning call leaves: its result, the plan buffer and the two cells, before and after; told is its answer.
+pub record PlanLeft (told : Told) (planned : List ℕ) (result : ℕ) (after : List ℕ) (count count′ spot spot′ : ℕ) : Type 0 where
+  pub number : result ≡ told .number
+  pub plan : after ≡ planned
+  pub counted : count′ ≡ dataCell told 0 count
+  pub spotted : spot′ ≡ spotCell told spot
+
+-- an insert; demand 3 of it too
+pub record InsertLeft (t : List ℕ) (rule : Rule) (result : ℕ) (plan after : List ℕ) (count count′ spot spot′ : ℕ) : Type 0 where
+  pub left : PlanLeft (insertAnswer 2 t rule (length plan)) (insertPlan 2 t rule plan) result after count count′ spot spot′
+  pub shortest : insertChecks 2 t rule ≡ Pass → length (insertWords 2 t rule) ≤ length plan
+      → ShortestPlan 2 t rule (insertAnswer 2 t rule (length plan)) plan after
+
+-- a delete
+abbrev pub DeleteLeft : List ℕ → ℕ → ℕ → List ℕ → List ℕ → ℕ → ℕ → ℕ → ℕ → Type 0
+DeleteLeft t id result plan after = PlanLeft (deleteAnswer 2 t id (length plan)) (deletePlan 2 t id plan) result after

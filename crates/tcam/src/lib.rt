@@ -2,9 +2,14 @@
 // A call that can decline returns 0 or the number of the cause; data goes to lent cells.
 ghost use mathlib.Core.Path.{_≡_};
 ghost use Rattle.table.specs.Lookup.{partStart, partLength};
-ghost use Rattle.tcam.specs.Cells.{keyAnswer, dataCell, spotCell};
+ghost use Rattle.table.specs.Plans.{planTold};
+ghost use Rattle.tcam.specs.Cells.{keyAnswer, dataCell, spotCell, ruleFrom, InsertLeft, DeleteLeft};
+use records::Rule;
 use records::cause_number;
 use table::LookupAnswer;
+use table::PlanAnswer;
+use table::deletes::plan_delete;
+use table::inserts::plan_insert;
 use table::lookup::lookup;
 use table::lookup::slot_record;
 
@@ -58,4 +63,88 @@ pub extern "C" fn tcam_slot_record(table: &[u64], slot: u32, first: &mut u32) ->
     }
     *first = slot * 6;
     6
+}
+
+// A rule from the numbers that cross.
+fn rule_from(
+    id: u32,
+    priority: u32,
+    value_high: u64,
+    value_low: u64,
+    mask_high: u64,
+    mask_low: u64,
+    action: u32,
+) -> Rule
+    ensures { λ r. ⌜ r ≡ ruleFrom id priority «value_high» «value_low» «mask_high» «mask_low» action ⌝ }
+{
+    Rule {
+        id,
+        priority,
+        value: [value_high, value_low],
+        mask: [mask_high, mask_low],
+        action,
+    }
+}
+
+// A planning call's answer, spread over its number and the lent cells.
+fn spread(answer: PlanAnswer, count: &mut u32, spot: &mut u32) -> u32
+    ensures { λ r. ⌜ r ≡ planTold answer .number ⌝ }
+    ensures { λ _. ⌜ now (count .exit) ≡ dataCell (planTold answer) 0 (now (count .entry)) ⌝ }
+    ensures { λ _. ⌜ now (spot .exit) ≡ spotCell (planTold answer) (now (spot .entry)) ⌝ }
+{
+    match answer {
+        PlanAnswer::Planned(info) => {
+            *count = info.count;
+            0
+        }
+        PlanAnswer::Refused(cause, place) => {
+            *spot = place;
+            cause_number(cause)
+        }
+    }
+}
+
+// The shortest plan of an insert, into the lent buffer: its count, or a refusal.
+#[no_mangle]
+pub extern "C" fn tcam_plan_insert(
+    table: &[u64],
+    id: u32,
+    priority: u32,
+    value_high: u64,
+    value_low: u64,
+    mask_high: u64,
+    mask_low: u64,
+    action: u32,
+    plan: &mut [u32],
+    count: &mut u32,
+    spot: &mut u32,
+) -> u32
+    ensures { λ r. ⌜ InsertLeft (now (table .entry)) (ruleFrom id priority «value_high» «value_low» «mask_high» «mask_low» action) r (now (plan .entry)) (now (plan .exit)) (now (count .entry)) (now (count .exit)) (now (spot .entry)) (now (spot .exit)) ⌝ }
+{
+    let rule = rule_from(
+        id,
+        priority,
+        value_high,
+        value_low,
+        mask_high,
+        mask_low,
+        action,
+    );
+    let answer = plan_insert(table, rule, plan);
+    spread(answer, count, spot)
+}
+
+// The plan of a delete, into the lent buffer: its count, or a refusal.
+#[no_mangle]
+pub extern "C" fn tcam_plan_delete(
+    table: &[u64],
+    id: u32,
+    plan: &mut [u32],
+    count: &mut u32,
+    spot: &mut u32,
+) -> u32
+    ensures { λ r. ⌜ DeleteLeft (now (table .entry)) id r (now (plan .entry)) (now (plan .exit)) (now (count .entry)) (now (count .exit)) (now (spot .entry)) (now (spot .exit)) ⌝ }
+{
+    let answer = plan_delete(table, id, plan);
+    spread(answer, count, spot)
 }
