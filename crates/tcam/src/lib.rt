@@ -97,8 +97,8 @@ fn spread(answer: PlanAnswer, count: &mut u32, spot: &mut u32) -> u32
             *count = info.count;
             0
         }
-        PlanAnswer::Refused(cause, place) => {
-            *spot = place;
+        PlanAnswer::Refused(cause, at) => {
+            *spot = at;
             cause_number(cause)
         }
     }
