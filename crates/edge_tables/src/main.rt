@@ -1,5 +1,5 @@
 // Test program: tables at the edge of document 01, looked up and checked; what it prints is held to the file stdout.
-// A slot id action, M (miss), R number spot; C: passes checks 1 to 4; W words last: a slot's record; S 0 or 1: is a rule sound.
+// A slot id action, M (miss), R number spot; P count and B with the buffer's first words; C: passes checks 1 to 4; W words last: a slot's record; S 0 or 1: is a rule sound.
 ghost use mathlib.Core.Path.{_≡_};
 ghost use lib.ListN.{length};
 use records::Cause;
@@ -12,6 +12,9 @@ use records::rules::rule_of;
 use records::rules::rule_sound;
 use records::slot::put_record;
 use table::LookupAnswer;
+use table::PlanAnswer;
+use table::deletes::plan_delete;
+use table::inserts::plan_insert;
 use table::lookup::lookup;
 use table::lookup::slot_record;
 
@@ -172,6 +175,94 @@ fn ids(table: &mut [u64]) {
     show_lookup(table, [3, 0]);
 }
 
+fn wide(word: u32) -> u64 {
+    word as u64
+}
+
+// Prints a planning call's answer and the buffer's first two words, which keep their filler where nothing is written.
+fn show_plan(answer: PlanAnswer, plan: &[u32]) {
+    match answer {
+        PlanAnswer::Planned(info) => {
+            io::write_all(1, b"P");
+            number(info.count as u64);
+            io::write_all(1, b"\n");
+        }
+        PlanAnswer::Refused(cause, spot) => refused(cause, spot),
+    }
+    io::write_all(1, b"B");
+    if 0 < plan.len() {
+        number(wide(plan[0]));
+    }
+    if 1 < plan.len() {
+        number(wide(plan[1]));
+    }
+    io::write_all(1, b"\n");
+}
+
+fn show_insert(table: &[u64], given: Rule) {
+    let mut plan = [7u32; 2];
+    let answer = plan_insert(table, given, &mut plan);
+    show_plan(answer, &plan);
+}
+
+fn show_delete(table: &[u64], id: u32) {
+    let mut plan = [7u32; 2];
+    let answer = plan_delete(table, id, &mut plan);
+    show_plan(answer, &plan);
+}
+
+// Buffers of one word and of none.
+fn short_buffers(table: &[u64], given: Rule) {
+    let mut one = [7u32; 1];
+    let answer = plan_insert(table, given, &mut one);
+    show_plan(answer, &one);
+    let mut none = [7u32; 0];
+    let deleted = plan_delete(table, 2, &mut none);
+    show_plan(deleted, &none);
+}
+
+// The largest table, and one slot more.
+fn largest(table: &[u64])
+    requires { ⌜ length (now table) ≡ 6150 ⌝ }
+{
+    io::write_all(1, b"plans\n");
+    show_insert(&table[0..6144], rule(5, 65535, 4, 4));
+    show_insert(&table[0..6150], rule(5, 65535, 4, 4));
+}
+
+// One empty slot: a priority past the limit, a rule that cares for no bit, ids to delete that are not there.
+fn one_slot(table: &[u64]) {
+    show_insert(table, rule(5, 65536, 4, 4));
+    show_insert(table, rule(5, 0, 0, 0));
+    show_delete(table, 0);
+    show_delete(table, 5);
+}
+
+// Two overlapping rules and an empty slot after them.
+fn two_rules(table: &mut [u64]) {
+    put(table, 0, rule(1, 30, 2, 2));
+    put(table, 1, rule(2, 10, 4, 4));
+}
+
+// Between the two, before both, at a tie, after both, of a known id; then buffers that are too short, and a delete.
+fn around_two_rules(table: &[u64]) {
+    show_insert(table, rule(3, 20, 1, 1));
+    show_insert(table, rule(3, 40, 0, 0));
+    show_insert(table, rule(3, 30, 0, 0));
+    show_insert(table, rule(3, 5, 0, 0));
+    show_insert(table, rule(2, 20, 1, 1));
+    short_buffers(table, rule(3, 20, 1, 1));
+    show_delete(table, 2);
+}
+
+fn small_plans() {
+    let one = [0u64; 6];
+    one_slot(&one);
+    let mut three = [0u64; 18];
+    two_rules(&mut three);
+    around_two_rules(&three);
+}
+
 fn small_tables() {
     io::write_all(1, b"rules\n");
     show_sound(65535);
@@ -194,6 +285,8 @@ fn large_table(table: &mut [u64]) {
 fn main() {
     let mut table = [0u64; 6150];
     shapes(&table);
+    largest(&table);
+    small_plans();
     large_table(&mut table[0..6144]);
     small_tables();
 }
