@@ -13,12 +13,12 @@ use Rattle.layout.specs.Order.{swapped}
 use Rattle.layout.specs.Minimum.{minimum, minimum-cong, lowest}
 use Rattle.layout.specs.Cost.{slotCost}
 use Rattle.layout.specs.Mirror.{mirror, mirror-twice}
-use Rattle.layout.specs.Write.{moves, put}
+use Rattle.layout.specs.Write.{moves, put, writeWord}
 use Rattle.layout.specs.Plan.{Range as LayoutRange, Choice as LayoutChoice}
 use Rattle.layout.specs.Plan.{downCost, upCost, downChain, upChain, bestDown, bestUp, slotDown, slotUp}
 use Rattle.layout.specs.Plan.{choose, writes}
 use Rattle.layout.specs.Choose.{choose-down, choose-up}
-use Rattle.planner.specs.Emit.{slotAt, wordOf, Stays, emitted}
+use Rattle.planner.specs.Emit.{slotAt, Stays, emitted}
 use Rattle.planner.specs.Choice.{bestBelow, bestAbove, choiceOf, planWords, preferred-down, preferred-up, best-at}
 use Rattle.planner.specs.Mirrored.{minimum-mirror, highest-mirror}
 use Rattle.planner.specs.Walked as walked
@@ -33,7 +33,7 @@ rangeOf r = record { from = r .from; to = r .to }
 pub record Emits (c : ℕ → ℕ) (n : ℕ) (choice : Choice) (planned : LayoutChoice) : Type 0 where
   pub slot : slotAt n (choice .up) (choice .position) ≡ planned .slot
   pub stays : Stays c n (choice .position) (choice .cost)
-  pub words : emitted c n (choice .up) (choice .position) (choice .cost) ≡ map wordOf (moves (planned .slot) (planned .chain))
+  pub words : emitted c n (choice .up) (choice .position) (choice .cost) ≡ map writeWord (moves (planned .slot) (planned .chain))
 
 pub record Agrees (n : ℕ) (down up : ℕ → ℕ) (choice : Choice) (planned : LayoutChoice) : Type 0 where
   pub direction : planned .down ≡ not (choice .up)
@@ -41,10 +41,10 @@ pub record Agrees (n : ℕ) (down up : ℕ → ℕ) (choice : Choice) (planned :
   pub finite : planned .cost < n → Emits (cond (choice .up) up down) n choice planned
 
 -- then the whole plan's words are those of the layout's writes, the new rule last
-pub plan-law : {c : ℕ → ℕ} {n : ℕ} {choice : Choice} {planned : LayoutChoice} → Emits c n choice planned → planWords c n choice ≡ map wordOf (writes planned)
+pub plan-law : {c : ℕ → ℕ} {n : ℕ} {choice : Choice} {planned : LayoutChoice} → Emits c n choice planned → planWords c n choice ≡ map writeWord (writes planned)
 unfolding planWords
 plan-law {planned = planned} e =
-    rw (e .words, e .slot) (sym (map-append wordOf (moves (planned .slot) (planned .chain)) (put (planned .slot) ∷ [])))
+    rw (e .words, e .slot) (sym (map-append writeWord (moves (planned .slot) (planned .chain)) (put (planned .slot) ∷ [])))
 
 lowest-cong : {c d : ℕ → ℕ} (top k i : ℕ) → ((j : ℕ) → i ≤ j → j < i + k → c j ≡ d j) → lowest c top k i ≡ lowest d top k i
 unfolding lowest

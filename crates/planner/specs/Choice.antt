@@ -9,9 +9,9 @@ use lib.Dec.{eqb, leb}
 use borrow.Author.Tests.{le-leb, lt-leb}
 use Rattle.search.specs.Search.{least}
 use lib.ListN.{length, drop, set, length-append}
-use Rattle.layout.specs.Write.{put}
+use Rattle.layout.specs.Write.{put, writeWord}
 use Rattle.layout.specs.Minimum.{minimum, lowest, lowest-law}
-use Rattle.planner.specs.Emit.{slotAt, wordOf, emitted, emitted-length, stored-after}
+use Rattle.planner.specs.Emit.{slotAt, emitted, emitted-length, stored-after}
 use Rattle.planner.specs.declared.Range.{Range}
 use Rattle.planner.specs.declared.Best.{Best}
 use Rattle.planner.specs.declared.Choice.{Choice}
@@ -40,13 +40,13 @@ choiceOf down up slots below above = preferred (bestBelow down slots below) (bes
 -- the words of the whole plan: the chain's, and last the one that puts the new rule in
 unfoldable pub planWords : (ℕ → ℕ) → ℕ → Choice → List ℕ
 planWords c slots choice =
-    emitted c slots (choice .up) (choice .position) (choice .cost) ++ (wordOf (put (slotAt slots (choice .up) (choice .position))) ∷ [])
+    emitted c slots (choice .up) (choice .position) (choice .cost) ++ (writeWord (put (slotAt slots (choice .up) (choice .position))) ∷ [])
 
 -- a plan has a word for each move and one for the new rule
 pub plan-words-length : (c : ℕ → ℕ) (slots : ℕ) (choice : Choice) → length (planWords c slots choice) ≡ suc (choice .cost)
 unfolding planWords
 plan-words-length c slots choice =
-    length-append (emitted c slots (choice .up) (choice .position) (choice .cost)) (wordOf (put (slotAt slots (choice .up) (choice .position))) ∷ [])
+    length-append (emitted c slots (choice .up) (choice .position) (choice .cost)) (writeWord (put (slotAt slots (choice .up) (choice .position))) ∷ [])
     ∙ (let e = emitted-length c slots (choice .up) (choice .position) (choice .cost) in omega arith)
 
 pub preferred-down : (down up : Best) → down .cost ≤ up .cost
@@ -79,9 +79,9 @@ choice-found down up slots below above end start past best-down best-up choice e
 
 pub plan-stored : (c : ℕ → ℕ) (slots : ℕ) (choice : Choice) (plan after : List ℕ) (w : ℕ) → choice .cost < length plan
     → after ≡ emitted c slots (choice .up) (choice .position) (choice .cost) ++ drop (choice .cost) plan
-    → w ≡ wordOf (put (slotAt slots (choice .up) (choice .position))) → set after (choice .cost) w ≡ planWords c slots choice ++ drop (suc (choice .cost)) plan
+    → w ≡ writeWord (put (slotAt slots (choice .up) (choice .position))) → set after (choice .cost) w ≡ planWords c slots choice ++ drop (suc (choice .cost)) plan
 unfolding planWords
 plan-stored c slots choice plan after w h e f =
     rw (e, f)
     (stored-after (emitted c slots (choice .up) (choice .position) (choice .cost)) plan (choice .cost)
-    (wordOf (put (slotAt slots (choice .up) (choice .position)))) (emitted-length c slots (choice .up) (choice .position) (choice .cost)) h)
+    (writeWord (put (slotAt slots (choice .up) (choice .position)))) (emitted-length c slots (choice .up) (choice .position) (choice .cost)) h)

@@ -11,7 +11,7 @@ use lib.Dec.{eqb}
 use lib.Seq.{drop-cons, set-at, append-snoc}
 use Rattle.search.specs.Search.{least}
 use Rattle.layout.specs.Mirror.{mirror}
-use Rattle.layout.specs.Write.{Write, copy, put, clear}
+use Rattle.layout.specs.Write.{copy, writeWord}
 use Rattle.layout.specs.Chain.{firstOfCost}
 use Rattle.planner.specs.Costs.{costOf}
 
@@ -23,12 +23,6 @@ pub slot-below : (slots : ℕ) (up : Bool) (p : ℕ) → p < slots → slotAt sl
 slot-below slots true p h = omega arith
 slot-below slots false p h = h
 
--- a write as one plan word: from × 65,536 + to, where 65,535 puts the new rule in and 65,534 empties
-abbrev pub wordOf : Write → ℕ
-wordOf (copy from to) = from * 65536 + to
-wordOf (put to) = 65535 * 65536 + to
-wordOf (clear to) = 65534 * 65536 + to
-
 -- the walk from position s with k moves left stays among the positions
 unfoldable pub Stays : (ℕ → ℕ) → ℕ → ℕ → ℕ → Type 0
 Stays c slots s zero = s < slots
@@ -39,7 +33,7 @@ unfoldable pub emitted : (ℕ → ℕ) → ℕ → Bool → ℕ → ℕ → List
 emitted c slots up s zero = []
 emitted c slots up s (suc k) =
     let j = firstOfCost c slots k s in
-    emitted c slots up j k ++ (wordOf (copy (slotAt slots up s) (slotAt slots up j)) ∷ [])
+    emitted c slots up j k ++ (writeWord (copy (slotAt slots up s) (slotAt slots up j)) ∷ [])
 
 -- what emission asks: room for the words, and a walk that stays among the positions
 pub record Walkable (costs plan : List ℕ) (slots s k : ℕ) : Type 0 where
@@ -76,7 +70,7 @@ stored-after front plan k w e h =
 -- the last move's word is stored after those of the moves further on
 pub emitted-stored : (c : ℕ → ℕ) (slots : ℕ) (up : Bool) (plan : List ℕ) (s k j : ℕ) (after : List ℕ) (w : ℕ) → 0 < k → k ≤ length plan
     → j ≡ firstOfCost c slots (k - 1) s → after ≡ emitted c slots up j (k - 1) ++ drop (k - 1) plan
-    → w ≡ wordOf (copy (slotAt slots up s) (slotAt slots up j)) → set after (k - 1) w ≡ emitted c slots up s k ++ drop k plan
+    → w ≡ writeWord (copy (slotAt slots up s) (slotAt slots up j)) → set after (k - 1) w ≡ emitted c slots up s k ++ drop k plan
 unfolding emitted
 emitted-stored c slots up plan s zero j after w z h e f g = absurd (omega arith)
 emitted-stored c slots up plan s (suc k) j after w z h e f g =

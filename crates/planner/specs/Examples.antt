@@ -6,9 +6,9 @@ use mathlib.Core.List.{List, [], _∷_, map}
 use Prim.Native.Nat.{ℕ}
 use Rattle.search.specs.Search.{least}
 use Rattle.layout.specs.Minimum.{minimum, lowest}
-use Rattle.layout.specs.Write.{copy, put}
+use Rattle.layout.specs.Write.{copy, put, writeWord}
 use Rattle.planner.specs.Costs.{costOf, positionCost}
-use Rattle.planner.specs.Emit.{wordOf, emitted}
+use Rattle.planner.specs.Emit.{emitted}
 use Rattle.planner.specs.Choice.{preferred, choiceOf, planWords}
 use Rattle.planner.specs.declared.Range.{Range}
 
@@ -28,7 +28,7 @@ unfolding positionCost minimum
 five-up = refl
 
 five-plan : planOf (2 ∷ 1 ∷ 2 ∷ 1 ∷ 0 ∷ []) (0 ∷ 6 ∷ 6 ∷ 6 ∷ 6 ∷ []) 5 (record { from = 0; to = 1 }) (record { from = 0; to = 0 })
-    ≡ map wordOf (copy 1 4 ∷ copy 0 1 ∷ put 0 ∷ [])
+    ≡ map writeWord (copy 1 4 ∷ copy 0 1 ∷ put 0 ∷ [])
 unfolding least minimum lowest preferred emitted planWords planOf
 five-plan = refl
 
@@ -42,12 +42,12 @@ unfolding positionCost minimum
 between-up = refl
 
 between-plan : planOf (0 ∷ 4 ∷ 4 ∷ []) (2 ∷ 1 ∷ 0 ∷ []) 3 (record { from = 2; to = 3 }) (record { from = 1; to = 2 })
-    ≡ map wordOf (copy 1 0 ∷ put 1 ∷ [])
+    ≡ map writeWord (copy 1 0 ∷ put 1 ∷ [])
 unfolding least minimum lowest preferred emitted planWords planOf
 between-plan = refl
 
 -- with slot 3 empty too the two costs are equal, and the plan goes down: 2→3, new→2
 equal-plan : planOf (0 ∷ 2 ∷ 1 ∷ 0 ∷ []) (0 ∷ 2 ∷ 1 ∷ 0 ∷ []) 4 (record { from = 2; to = 3 }) (record { from = 1; to = 2 })
-    ≡ map wordOf (copy 2 3 ∷ put 2 ∷ [])
+    ≡ map writeWord (copy 2 3 ∷ put 2 ∷ [])
 unfolding least minimum lowest preferred emitted planWords planOf
 equal-plan = refl

@@ -13,11 +13,11 @@ use Rattle.layout.specs.Order.{Higher}
 use Rattle.layout.specs.Minimum.{minimum}
 use Rattle.layout.specs.Cost.{InWindow, windowEnd, window-end-low}
 use Rattle.layout.specs.Chain.{Walk, steps, firstOfCost, first-of-cost, first-of-cost-cong, walk-steps}
-use Rattle.layout.specs.Write.{moves, copy}
+use Rattle.layout.specs.Write.{moves, copy, writeWord}
 use Rattle.layout.specs.Plan.{downCost, downChain}
 use Rattle.layout.specs.CostLaws.{down-costs, down-walk, down-cost-only}
 use Rattle.planner.specs.Costs.{SolvedFrom, cost-vacant, cost-occupied}
-use Rattle.planner.specs.Emit.{slotAt, wordOf, Stays, emitted}
+use Rattle.planner.specs.Emit.{slotAt, Stays, emitted}
 
 -- the ends of a layout's windows, 0 where a position is empty
 abbrev pub Ends : {S : Type 0} → S → (S → Bool) → (S → S → Bool) → List S → List ℕ → Type 0
@@ -26,13 +26,13 @@ Ends empty occupied misplaced t ends =
 
 -- the words of a walk are those of its moves, from slot to slot
 pub emitted-moves : (c : ℕ → ℕ) (slots : ℕ) (up : Bool) (s k : ℕ)
-    → emitted c slots up s k ≡ map wordOf (moves (slotAt slots up s) (map (slotAt slots up) (steps (firstOfCost c slots) k s)))
+    → emitted c slots up s k ≡ map writeWord (moves (slotAt slots up s) (map (slotAt slots up) (steps (firstOfCost c slots) k s)))
 unfolding emitted moves steps
 emitted-moves c slots up s zero = refl
 emitted-moves c slots up s (suc k) =
     let j = firstOfCost c slots k s in
     rw (emitted-moves c slots up j k)
-    (sym (map-append wordOf (moves (slotAt slots up j) (map (slotAt slots up) (steps (firstOfCost c slots) k j)))
+    (sym (map-append writeWord (moves (slotAt slots up j) (map (slotAt slots up) (steps (firstOfCost c slots) k j)))
     (copy (slotAt slots up s) (slotAt slots up j) ∷ [])))
 
 module _ {S : Type 0} (empty : S) (occupied : S → Bool) (misplaced : S → S → Bool) (t : List S) where
@@ -78,5 +78,5 @@ module _ {S : Type 0} (empty : S) (occupied : S → Bool) (misplaced : S → S �
           (down-walk empty occupied misplaced t s b (omega (arith, costs s b))) (c s) (sym (costs s b))
 
       pub words : (up : Bool) → emitted c (length t) up s (c s)
-          ≡ map wordOf (moves (slotAt (length t) up s) (map (slotAt (length t) up) (downChain empty occupied misplaced t s)))
+          ≡ map writeWord (moves (slotAt (length t) up s) (map (slotAt (length t) up) (downChain empty occupied misplaced t s)))
       words up = rw chain-steps (emitted-moves c (length t) up s (c s))

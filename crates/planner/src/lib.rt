@@ -7,9 +7,9 @@ ghost use lib.Dec.{eqb};
 ghost use lib.ListN.{length, drop};
 ghost use Rattle.search.specs.Search.{least};
 ghost use Rattle.layout.specs.Minimum.{minimum};
-ghost use Rattle.layout.specs.Write.{copy};
+ghost use Rattle.layout.specs.Write.{copy, writeWord};
 ghost use Rattle.planner.specs.Costs.{costOf, positionCost, Sized, Filled};
-ghost use Rattle.planner.specs.Emit.{slotAt, wordOf, Walkable, emitted};
+ghost use Rattle.planner.specs.Emit.{slotAt, Walkable, emitted};
 ghost use Rattle.planner.specs.Choice.{bestOf, preferred, choiceOf, planWords};
 
 // Slots from the one number up to, not including, the other.
@@ -117,7 +117,7 @@ pub fn write_word(slots: usize, up: bool, from: usize, to: usize) -> u32
     requires { ⌜ slots ≤ 1024 ⌝ }
     requires { ⌜ from < slots ⌝ }
     requires { ⌜ to < slots ⌝ }
-    ensures { λ r. ⌜ r ≡ wordOf (copy (slotAt slots up from) (slotAt slots up to)) ⌝ }
+    ensures { λ r. ⌜ r ≡ writeWord (copy (slotAt slots up from) (slotAt slots up to)) ⌝ }
 {
     let source = slot_at(slots, up, from);
     let target = slot_at(slots, up, to);

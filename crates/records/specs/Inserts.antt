@@ -24,7 +24,8 @@ use Rattle.records.specs.Rules.{record-value, record-mask, record-ident,
 use Rattle.records.specs.Entries.{vacant, entries, entryOccupied, entrySame, entryMisordered, same-id-cong, misordered-cong}
 use Rattle.records.specs.Entries.{same-truth, eqb-turned, same-id-turned, distinct-turned, entries-length, entry-same, occupied-at}
 use Rattle.records.specs.Entries.{entry-laws, order-entries, unique-entries, rule-occupied}
-use Rattle.records.specs.Writes.{writeOf, writeWord, WritesBelow, words-back, applyWords, apply-plan, plan-below, plan-entries}
+use Rattle.layout.specs.Write.{writeWord}
+use Rattle.records.specs.Writes.{writeOf, WritesBelow, words-back, applyWords, apply-plan, plan-below, plan-entries}
 use Rattle.records.specs.ClassWords.{InClassWords}
 use Rattle.records.specs.declared.Check.the-variants.{Pass}
 use Rattle.records.specs.declared.Rule.{Rule}

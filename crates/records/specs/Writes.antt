@@ -15,7 +15,7 @@ use lib.Seq.{take-suc, getD-take}
 use borrow.Author.Tests.{ne-eqb, ltb-true}
 use Rattle.search.specs.Search.{any}
 use Rattle.layout.specs.Held.{free}
-use Rattle.layout.specs.Write.{Write, copy, put, clear, applied, carried, Fits, fits, fits-law}
+use Rattle.layout.specs.Write.{Write, copy, put, clear, writeWord, applied, carried, Fits, fits, fits-law}
 use Rattle.layout.specs.InPlace.{free-by}
 use Rattle.records.specs.Record.{recordWords, slotWords, empty, occupied, recordOf, putSlot}
 use Rattle.records.specs.Order.{slots, sameId}
@@ -28,11 +28,6 @@ use Rattle.records.specs.declared.Rule.{Rule}
 -- any other copies slot from to slot to
 unfoldable pub writeOf : ℕ → Write
 writeOf n = cond (eqb (n / 65536) 65535) (put (n % 65536)) (cond (eqb (n / 65536) 65534) (clear (n % 65536)) (copy (n / 65536) (n % 65536)))
-
-abbrev pub writeWord : Write → ℕ
-writeWord (copy from to) = from * 65536 + to
-writeWord (put to) = 65535 * 65536 + to
-writeWord (clear to) = 65534 * 65536 + to
 
 -- the write's slots are below n: they exist, where n is the number of slots
 abbrev pub SlotsBelow : ℕ → Write → Type 0

@@ -13,8 +13,7 @@ use borrow.Author.Tests.{ltb-false}
 use Rattle.search.specs.Search.{any, any-yes, least, afterLast, decided}
 use Rattle.ternary.specs.Pattern.{Words}
 use Rattle.layout.specs.Plan.{Choice, Range as LayoutRange, afterPreceding, firstDependant, rangeDown, rangeUp, choose, insertChoice, writes}
-use Rattle.layout.specs.Write.{Write, copy, put, clear}
-use Rattle.planner.specs.Emit.{wordOf, Stays}
+use Rattle.planner.specs.Emit.{Stays}
 use Rattle.planner.specs.Costs.{costOf, SolvedFrom}
 use Rattle.planner.specs.Choice.{choiceOf, planWords as numberWords, plan-words-length}
 use Rattle.planner.specs.declared.Choice.{Choice as NumberChoice}
@@ -28,7 +27,6 @@ use Rattle.records.specs.Laws.{or-else-pass, lowest-pass, sound-law, pass-law, 
 use Rattle.records.specs.Entries.{vacant, entries, entryOccupied, entrySame, entryMisordered, entries-length}
 use Rattle.records.specs.Inserts.{insertChoiceOf, planWords, Untied, IdNew, newMisordered, misorderedNew, uncrossed-apart, insert-words}
 use Rattle.records.specs.Inserts.{after-preceding-precedes, first-dependant-precedes, after-preceding-slots, first-dependant-slots}
-use Rattle.records.specs.Writes.{writeWord}
 use Rattle.records.specs.declared.Rule.{Rule}
 use Rattle.records.specs.declared.Cause.the-variants.{Short}
 use Rattle.records.specs.declared.Check.{Check}
@@ -181,13 +179,8 @@ joined w t rule p small down up choice agrees =
     record {
       finite = omega (arith, agrees .cost);
       stays = emits .stays;
-      words = plan-law emits ∙ ap (λ (f : Write → ℕ). map f (writes (insertChoiceOf w t rule))) (fun-ext same-word);
+      words = plan-law emits;
     }
-  where
-    same-word : (x : Write) → wordOf x ≡ writeWord x
-    same-word (copy from to) = refl
-    same-word (put to) = refl
-    same-word (clear to) = refl
 
 -- costs of both directions and the neighbours of the rule are all that a choice needs
 pub choice-joined : (w : ℕ) (t : List ℕ) (rule : Rule) → insertChecks w t rule ≡ Pass → rule .action < 4294967296 → (down up : List ℕ)

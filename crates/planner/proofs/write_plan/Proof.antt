@@ -3,8 +3,8 @@
 use mathlib.Core.Path.{ap}
 use Prim.Native.Nat.{ℕ, _<_}
 use native.Mathlib.Omega.{arith}
-use Rattle.layout.specs.Write.{put}
-use Rattle.planner.specs.Emit.{wordOf, stays-here, slot-below}
+use Rattle.layout.specs.Write.{put, writeWord}
+use Rattle.planner.specs.Emit.{stays-here, slot-below}
 use Rattle.planner.specs.Choice.{plan-stored}
 use borrow.Author.Needs.{needs}
 use Rattle.planner.proofs.write_plan.Statement.{statement}
@@ -54,7 +54,7 @@ returns : tie.Need-returns
 returns c =
     let start = c .before .before .before .before .before .before .before in
     plan-stored _ (start .args .slots) (start .args .choice) (start .args .plan .now) _ _ (start .pre .1) (c .before .before .before .emit .ensures)
-    (ap (λ (slot : ℕ). wordOf (put slot)) (c .slot-at .ensures))
+    (ap (λ (slot : ℕ). writeWord (put slot)) (c .slot-at .ensures))
 
 pub write-plan-spec : {M : Type 1} → statement M
 write-plan-spec =
