@@ -7,3 +7,4 @@ pub mod Joined
 pub mod Plans
 pub mod Deletes
 pub mod Inserts
+pub mod Tables
