@@ -1,5 +1,5 @@
--- What the calls of the table library answer, as functions of the words handed in.
--- Lookup: a key's answer, and a slot's record as a part of the table.
+-- What the calls of the table library answer, as functions of the words handed in, and demand 3 about them.
+-- Lookup and a slot's record; checks, neighbours, windows and plans of inserts and deletes; document 01's marked tables.
 pub mod Lookup
 pub mod Neighbours
 pub mod Windows
@@ -8,3 +8,4 @@ pub mod Plans
 pub mod Deletes
 pub mod Inserts
 pub mod Demand3
+pub mod Tables
