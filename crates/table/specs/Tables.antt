@@ -18,12 +18,12 @@ use Rattle.layout.specs.Chain.{steps}
 use Rattle.layout.specs.Write.{moves}
 use Rattle.layout.specs.Plan.{Choice, downCost, upCost, downChain, upChain, bestDown, bestUp, slotDown, slotUp, choose, afterPreceding, firstDependant, insertChoice}
 use Rattle.records.specs.Record.{word, slotWords, value, mask, ident, rank, listed, empty, occupied, soundParts, soundRule, recordOf, putSlot}
-use Rattle.records.specs.Order.{slots, distinct, precedes, tied, sameId, misordered}
+use Rattle.records.specs.Order.{slots, overlapping, distinct, precedes, tied, sameId, misordered}
 use Rattle.records.specs.Checks.{Told, success, refusal, lowest, lowest-none, shaped, checkShape, unsoundAt, checkRecords, twiceAt, checkTwice, disorderAt, checkOrder, slotChecks, tableChecks}
 use Rattle.records.specs.Laws.{passed, failed, empty-law, sound-law, same-id-law, precedes-law, precedes-misordered, tied-law}
 use Rattle.records.specs.Rules.{listed-cong}
 use Rattle.records.specs.Entries.{vacant, entryAt, entries, entryOccupied, entryMisordered, entry-laws, refuted, occupied-cong, misordered-cong, listed-same}
-use Rattle.records.specs.Inserts.{planWords, rule-same, rule-tied}
+use Rattle.records.specs.Inserts.{planWords, overlapping-turned, rule-same, rule-tied}
 use Rattle.records.specs.Writes.{writeOf, applyWords}
 use Rattle.records.specs.declared.Rule.{Rule}
 use Rattle.records.specs.declared.Cause.the-variants.{Known, Tie, Full, Short, Unknown}
@@ -402,6 +402,124 @@ module _ (t : List ℕ) (rule : Rule) (checks : insertChecks 2 t rule ≡ Pass) 
       ap (λ (n : ℕ). map (entryAt 2 t) (listed n (λ i. i))) four
       ∙ ap₂ (λ (l m : List ℕ). l ∷ entryAt 2 t 1 ∷ entryAt 2 t 2 ∷ m ∷ []) (vacant-entry t 0 vacant-0) (vacant-entry t 3 vacant-3) in
       words-outcome t rule (sym checks) (chosen _ _ layout (down-choice (vacant 2) _ _ _ _ _ _ between)) plan room
+
+-- The five-slot table: what the tests of entries say of a, the other, c, d, the empty entry e and the new rule, ..
+record FiveSlots {S : Type 0} (full : S → Bool) (wrong : S → S → Bool) (a other c d e fresh : S) : Type 0 where
+  empty-e : full e ≡ false
+  full-a : full a ≡ true
+  full-other : full other ≡ true
+  full-c : full c ≡ true
+  full-d : full d ≡ true
+  before-e : (x : S) → wrong x e ≡ false
+  after-e : (x : S) → wrong e x ≡ false
+  c-a : wrong c a ≡ true
+  d-c : wrong d c ≡ true
+  a-fresh : wrong a fresh ≡ true
+  fresh-a : wrong fresh a ≡ false
+  other-a : wrong other a ≡ false
+  d-a : wrong d a ≡ false
+  c-other : wrong c other ≡ false
+  d-other : wrong d other ≡ false
+  other-fresh : (wrong other fresh ≡ false) × (wrong fresh other ≡ false)
+  c-fresh : (wrong c fresh ≡ false) × (wrong fresh c ≡ false)
+  d-fresh : (wrong d fresh ≡ false) × (wrong fresh d ≡ false)
+
+five-choice : {S : Type 0} (none : S) (full : S → Bool) (wrong : S → S → Bool) (a other c d e fresh : S) → FiveSlots full wrong a other c d e fresh
+    → insertChoice none full wrong (a ∷ other ∷ c ∷ d ∷ e ∷ []) fresh ≡ record { down = true; cost = 2; slot = 0; chain = 1 ∷ 4 ∷ [] }
+unfolding run
+five-choice none full wrong a other c d e fresh p =
+    simp (
+      p .empty-e,
+      p .full-a,
+      p .full-other,
+      p .full-c,
+      p .full-d,
+      p .before-e,
+      p .after-e,
+      p .c-a,
+      p .d-c,
+      p .a-fresh,
+      p .fresh-a,
+      p .other-a,
+      p .d-a,
+      p .c-other,
+      p .d-other,
+      p .other-fresh .0,
+      p .other-fresh .1,
+      p .c-fresh .0,
+      p .c-fresh .1,
+      p .d-fresh .0,
+      p .d-fresh .1,
+    )
+
+-- rules that do not overlap may stand in either order
+apart : (x y : Words) → overlapping 2 x y ≡ false → (misordered 2 x y ≡ false) × (misordered 2 y x ≡ false)
+unfolding misordered
+apart x y o = (rw o, rw (overlapping-turned 2 y x ∙ o))
+
+-- .. and any such table, any rule that passes the checks: 1→4, 0→1, new→0.
+pub five-slots : (t : List ℕ) (rule : Rule) → insertChecks 2 t rule ≡ Pass → slots 2 t ≡ 5
+    → occupied 2 (slotWords 2 t 1) ≡ true → empty 2 (slotWords 2 t 4) ≡ true
+    → precedes 2 (slotWords 2 t 0) (slotWords 2 t 2) ≡ true → precedes 2 (slotWords 2 t 2) (slotWords 2 t 3) ≡ true
+    → overlapping 2 (slotWords 2 t 0) (slotWords 2 t 1) ≡ false → overlapping 2 (slotWords 2 t 0) (slotWords 2 t 3) ≡ false
+    → overlapping 2 (slotWords 2 t 1) (slotWords 2 t 2) ≡ false → overlapping 2 (slotWords 2 t 1) (slotWords 2 t 3) ≡ false
+    → precedes 2 (word (recordOf 2 rule)) (slotWords 2 t 0) ≡ true
+    → ((i : ℕ) → 1 ≤ i → i < 4 → overlapping 2 (slotWords 2 t i) (word (recordOf 2 rule)) ≡ false)
+    → (plan : List ℕ) → 3 ≤ length plan → outcome t (insert rule) plan ≡ planned 3 (moved 1 4 ∷ moved 0 1 ∷ new 0 ∷ drop 3 plan)
+unfolding entries listed moves empty all
+five-slots t rule checks five filled vacant-4 a-c c-d a-other a-d other-c other-d rule-a clear plan room =
+    words-outcome t rule (sym checks)
+    (ap (λ (l : List (List ℕ)). planWords (insertChoice (vacant 2) (entryOccupied 2) (entryMisordered 2) l (recordOf 2 rule))) layout
+    ∙ ap planWords (five-choice (vacant 2) _ _ _ _ _ _ _ _ facts)) plan room
+  where
+    layout : entries 2 t ≡ entryAt 2 t 0 ∷ entryAt 2 t 1 ∷ entryAt 2 t 2 ∷ entryAt 2 t 3 ∷ vacancy ∷ []
+    layout =
+        ap (λ (n : ℕ). map (entryAt 2 t) (listed n (λ i. i))) five
+        ∙ ap (λ (l : List ℕ). entryAt 2 t 0 ∷ entryAt 2 t 1 ∷ entryAt 2 t 2 ∷ entryAt 2 t 3 ∷ l ∷ []) (vacant-entry t 4 vacant-4)
+
+    at : ℕ → Words
+    at i = slotWords 2 t i
+
+    fresh : Words
+    fresh = word (recordOf 2 rule)
+
+    full : (i : ℕ) → occupied 2 (at i) ≡ true → entryOccupied 2 (entryAt 2 t i) ≡ true
+    full i e = occupied-cong 2 (listed-same 2 (at i)) ∙ e
+
+    wrong : (i j : ℕ) {b : Bool} → misordered 2 (at i) (at j) ≡ b → entryMisordered 2 (entryAt 2 t i) (entryAt 2 t j) ≡ b
+    wrong i j e = misordered-cong 2 (listed-same 2 (at i)) (listed-same 2 (at j)) ∙ e
+
+    before : (i : ℕ) {b : Bool} → misordered 2 (at i) fresh ≡ b → entryMisordered 2 (entryAt 2 t i) (recordOf 2 rule) ≡ b
+    before i e = misordered-cong 2 (listed-same 2 (at i)) (λ j l. refl) ∙ e
+
+    after : (i : ℕ) {b : Bool} → misordered 2 fresh (at i) ≡ b → entryMisordered 2 (recordOf 2 rule) (entryAt 2 t i) ≡ b
+    after i e = misordered-cong 2 (λ j l. refl) (listed-same 2 (at i)) ∙ e
+
+    beside : (i : ℕ) → 1 ≤ i → i < 4
+        → (entryMisordered 2 (entryAt 2 t i) (recordOf 2 rule) ≡ false) × (entryMisordered 2 (recordOf 2 rule) (entryAt 2 t i) ≡ false)
+    beside i l h = let p = apart (at i) fresh (clear i l h) in (before i (p .0), after i (p .1))
+
+    facts : FiveSlots (entryOccupied 2) (entryMisordered 2) (entryAt 2 t 0) (entryAt 2 t 1) (entryAt 2 t 2) (entryAt 2 t 3) vacancy (recordOf 2 rule)
+    facts = record {
+      empty-e = refl;
+      full-a = full 0 (precedes-law 2 (at 0) (at 2) .0 a-c .0 .0);
+      full-other = full 1 filled;
+      full-c = full 2 (precedes-law 2 (at 0) (at 2) .0 a-c .0 .1);
+      full-d = full 3 (precedes-law 2 (at 2) (at 3) .0 c-d .0 .1);
+      before-e = λ x. entry-laws 2 .misordered-right x vacancy refl;
+      after-e = λ x. entry-laws 2 .misordered-left vacancy x refl;
+      c-a = wrong 2 0 (precedes-misordered 2 (at 0) (at 2) a-c .0);
+      d-c = wrong 3 2 (precedes-misordered 2 (at 2) (at 3) c-d .0);
+      a-fresh = before 0 (precedes-misordered 2 fresh (at 0) rule-a .0);
+      fresh-a = after 0 (precedes-misordered 2 fresh (at 0) rule-a .1);
+      other-a = wrong 1 0 (apart (at 0) (at 1) a-other .1);
+      d-a = wrong 3 0 (apart (at 0) (at 3) a-d .1);
+      c-other = wrong 2 1 (apart (at 1) (at 2) other-c .1);
+      d-other = wrong 3 1 (apart (at 1) (at 3) other-d .1);
+      other-fresh = beside 1 (omega arith) (omega arith);
+      c-fresh = beside 2 (omega arith) (omega arith);
+      d-fresh = beside 3 (omega arith) (omega arith);
+    }
 
 -- Any plan of two in a one-word buffer: 11, spot 2.
 pub one-word-short : (t : List ℕ) (rule : Rule) → insertChecks 2 t rule ≡ Pass → length (insertWords 2 t rule) ≡ 2
