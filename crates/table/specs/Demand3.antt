@@ -18,7 +18,7 @@ use Rattle.records.specs.Inserts.{insertChoiceOf, plan-words-count, plan-words-
 use Rattle.records.specs.declared.Rule.{Rule}
 use Rattle.records.specs.declared.Check.the-variants.{Pass}
 use Rattle.table.specs.Plans.{plan-written}
-use Rattle.table.specs.Neighbours.{checkRule, checkKnown, checkTie, checkFull, checkCrossed, newChecks, ruleWords, insertChecks}
+use Rattle.neighbours.specs.Neighbours.{checkRule, checkKnown, checkTie, checkFull, checkCrossed, newChecks, ruleWords, insertChecks}
 use Rattle.table.specs.Inserts.{insertWords, insertAnswer, insertPlan, plannable, insert-least}
 
 -- What demand 3 promises of an insert: told is the answer, plan the buffer before the call and after the buffer after it.

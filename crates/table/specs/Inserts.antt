@@ -32,9 +32,9 @@ use Rattle.records.specs.declared.Cause.the-variants.{Short}
 use Rattle.records.specs.declared.Check.{Check}
 use Rattle.records.specs.declared.Check.the-variants.{Pass, Fail}
 use Rattle.table.specs.Plans.{planAnswer, planBuffer, plan-short, plan-written}
-use Rattle.table.specs.Windows.{endAt}
+use Rattle.neighbours.specs.Windows.{endAt}
 use Rattle.table.specs.Joined.{Costed, ends-listed, ends-down as ends-down-law, ends-up as ends-up-law}
-use Rattle.table.specs.Neighbours.{checkRule, checkKnown, checkTie, checkFull, checkCrossed, afterA, slotB, newChecks, ruleWords, insertChecks}
+use Rattle.neighbours.specs.Neighbours.{checkRule, checkKnown, checkTie, checkFull, checkCrossed, afterA, slotB, newChecks, ruleWords, insertChecks}
 
 -- the plan's words: the far end of the chain first, the new rule last
 abbrev pub insertWords : ℕ → List ℕ → Rule → List ℕ

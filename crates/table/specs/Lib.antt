@@ -1,8 +1,6 @@
 -- What the calls of the table library answer, as functions of the words handed in, and demand 3 about them.
 -- Lookup and a slot's record; checks, neighbours, windows and plans of inserts and deletes; document 01's marked tables.
 pub mod Lookup
-pub mod Neighbours
-pub mod Windows
 pub mod Joined
 pub mod Plans
 pub mod Deletes

@@ -2,10 +2,10 @@
 // The table is never changed, and a call that declines leaves the plan buffer as it was.
 use crate::PlanAnswer;
 use crate::PlanInfo;
-use crate::neighbours::after_a;
-use crate::neighbours::check_insert;
-use crate::neighbours::slot_b;
-use crate::windows::fill_ends;
+use neighbours::checks::after_a;
+use neighbours::checks::check_insert;
+use neighbours::checks::slot_b;
+use neighbours::windows::fill_ends;
 use planner::Choice;
 use planner::Range;
 use planner::choose;
@@ -26,7 +26,7 @@ ghost use Rattle.records.specs.Record.{slotWords};
 ghost use Rattle.records.specs.declared.Check.the-variants.{Pass};
 ghost use Rattle.table.specs.Joined.{Costed};
 ghost use Rattle.table.specs.Plans.{planTold, planAnswer, planBuffer};
-ghost use Rattle.table.specs.Neighbours.{afterA, slotB, insertChecks};
+ghost use Rattle.neighbours.specs.Neighbours.{afterA, slotB, insertChecks};
 ghost use Rattle.table.specs.Demand3.{ShortestPlan};
 ghost use Rattle.table.specs.Inserts.{insertWords, insertAnswer, insertPlan};
 

@@ -3,8 +3,6 @@
 pub mod deletes;
 pub mod inserts;
 pub mod lookup;
-pub mod neighbours;
-pub mod windows;
 
 use records::Cause;
 

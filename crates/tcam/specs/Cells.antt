@@ -13,7 +13,7 @@ use Rattle.records.specs.declared.Cause.{Cause}
 use Rattle.records.specs.declared.Check.the-variants.{Pass}
 use Rattle.records.specs.declared.Rule.{Rule}
 use Rattle.table.specs.Lookup.{lookupAnswer}
-use Rattle.table.specs.Neighbours.{insertChecks}
+use Rattle.neighbours.specs.Neighbours.{insertChecks}
 use Rattle.table.specs.Inserts.{insertWords, insertAnswer, insertPlan}
 use Rattle.table.specs.Deletes.{deleteAnswer, deletePlan}
 use Rattle.table.specs.Demand3.{ShortestPlan}

@@ -5,7 +5,7 @@ use native.Mathlib.Omega.{arith}
 use denote.Ref.{now}
 use borrow.Author.Needs.{needs}
 use Rattle.records.specs.Record.{slotWords}
-use Rattle.table.specs.Neighbours.{slot-b-high}
+use Rattle.neighbours.specs.Neighbours.{slot-b-high}
 use Rattle.table.proofs.inserts.choose_insert.Statement.{statement}
 use Rattle.table.proofs.inserts.choose_insert.Tie as tie
 
