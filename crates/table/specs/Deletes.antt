@@ -7,13 +7,17 @@ use Prim.Native.Nat.{ℕ, _+_, _*_, _<_, _≤_}
 use native.Mathlib.Omega.{arith}
 use lib.Dec.{eqb, ltb}
 use lib.ListN.{length}
-use borrow.Author.Tests.{lt-ltb, le-ltb, eq-eqb, ne-eqb}
-use Rattle.search.specs.Search.{least, least-law}
-use Rattle.records.specs.Record.{slotWords, ident, occupied}
+use borrow.Author.Tests.{ltb-true, lt-ltb, le-ltb, eq-eqb, ne-eqb}
+use Rattle.search.specs.Search.{least, least-law, and-right}
+use Rattle.layout.specs.Write.{clear, writeWord}
+use Rattle.records.specs.Record.{slotWords, ident, occupied, putSlot}
 use Rattle.records.specs.Order.{slots}
-use Rattle.records.specs.Checks.{Told, orElse, tableChecks}
-use Rattle.records.specs.Laws.{or-else-pass, table-checks-length}
-use Rattle.records.specs.declared.Cause.the-variants.{Rule, Unknown}
+use Rattle.records.specs.Checks.{Told, orElse, checkShape, checkRecords, checkTwice, checkOrder, slotChecks, tableChecks}
+use Rattle.records.specs.Laws.{or-else-pass, pass-law, table-checks-length}
+use Rattle.records.specs.Entries.{vacant, shaped-slots}
+use Rattle.records.specs.Writes.{writeOf, write-of-word, applyWrite, applyWords, fitsWord}
+use Rattle.records.specs.declared.Rule.{Rule}
+use Rattle.records.specs.declared.Cause.the-variants.{Rule as RuleCause, Unknown}
 use Rattle.records.specs.declared.Check.{Check}
 use Rattle.records.specs.declared.Check.the-variants.{Pass, Fail}
 use Rattle.table.specs.Plans.{planAnswer, planBuffer}
@@ -28,7 +32,7 @@ slotOfId w t id = least (hasId w t id) (slots w t) 0
 
 -- 5 for id 0 to delete, 7 for an id that is absent
 unfoldable pub checkId : ℕ → Check
-checkId id = cond (eqb id 0) (Fail Rule 0) Pass
+checkId id = cond (eqb id 0) (Fail RuleCause 0) Pass
 
 unfoldable pub checkUnknown : ℕ → List ℕ → ℕ → Check
 checkUnknown w t id = cond (ltb (slotOfId w t id) (slots w t)) Pass (Fail Unknown 0)
@@ -38,7 +42,7 @@ deleteChecks w t id = orElse (tableChecks w t) (orElse (checkId id) (checkUnknow
 
 -- document 01: a delete is one emptying write
 abbrev pub deleteWords : ℕ → List ℕ → ℕ → List ℕ
-deleteWords w t id = (65534 * 65536 + slotOfId w t id) ∷ []
+deleteWords w t id = writeWord (clear (slotOfId w t id)) ∷ []
 
 -- the answer with a buffer of so many words, and the buffer afterwards
 abbrev pub deleteAnswer : ℕ → List ℕ → ℕ → ℕ → Told
@@ -48,7 +52,7 @@ abbrev pub deletePlan : ℕ → List ℕ → ℕ → List ℕ → List ℕ
 deletePlan w t id plan = planBuffer (deleteChecks w t id) (deleteWords w t id) plan
 
 -- the code's tests of the id
-pub id-refused : (id : ℕ) (next : Check) → id ≡ 0 → Fail Rule 0 ≡ orElse (checkId id) next
+pub id-refused : (id : ℕ) (next : Check) → id ≡ 0 → Fail RuleCause 0 ≡ orElse (checkId id) next
 unfolding checkId
 id-refused id next e = rw (eq-eqb id 0 e)
 
@@ -71,3 +75,33 @@ delete-small t id e =
     let l = least-law (hasId 2 t id) (slots 2 t) 0 in
     let h = table-checks-length 2 t (or-else-pass (tableChecks 2 t) (orElse (checkId id) (checkUnknown 2 t id)) .0 e .0) in
     omega (arith, l .high)
+
+-- What a delete that passes its checks plans: the slot holds the rule, its one word empties that slot, and the write fits.
+pub record DeletePlanned (w : ℕ) (t : List ℕ) (id : ℕ) : Type 0 where
+  pub exists : slotOfId w t id < slots w t
+  pub holds : hasId w t id (slotOfId w t id) ≡ true
+  pub fits : fitsWord w t (writeWord (clear (slotOfId w t id))) ≡ true
+  pub after : (rule : Rule) → applyWords w t rule (deleteWords w t id) ≡ putSlot w t (slotOfId w t id) (vacant w)
+
+pub delete-planned : (w : ℕ) (t : List ℕ) (id : ℕ) → deleteChecks w t id ≡ Pass → DeletePlanned w t id
+unfolding deleteChecks slotOfId checkUnknown hasId slotChecks tableChecks
+delete-planned w t id e = record { exists = exists; holds = holds; fits = fits; after = λ rule. ap (applyWrite w t rule) write }
+  where
+    checks : (tableChecks w t ≡ Pass) × (orElse (checkId id) (checkUnknown w t id) ≡ Pass)
+    checks = or-else-pass (tableChecks w t) (orElse (checkId id) (checkUnknown w t id)) .0 e
+
+    shape : checkShape w t ≡ Pass
+    shape =
+        or-else-pass (checkShape w t) (checkRecords w t) .0 (or-else-pass (slotChecks w t) (orElse (checkTwice w t) (checkOrder w t)) .0 (checks .0) .0) .0
+
+    exists : slotOfId w t id < slots w t
+    exists = ltb-true (slotOfId w t id) (slots w t) (pass-law Unknown 0 _ .0 (or-else-pass (checkId id) (checkUnknown w t id) .0 (checks .1) .1))
+
+    holds : hasId w t id (slotOfId w t id) ≡ true
+    holds = least-law (hasId w t id) (slots w t) 0 .hit (omega (arith, exists))
+
+    write : writeOf (writeWord (clear (slotOfId w t id))) ≡ clear (slotOfId w t id)
+    write = write-of-word (clear (slotOfId w t id)) (omega (arith, exists, shaped-slots w t shape .1))
+
+    fits : fitsWord w t (writeWord (clear (slotOfId w t id))) ≡ true
+    fits = rw (write, lt-ltb (slotOfId w t id) (slots w t) exists) (and-right (eqb (ident w (slotWords w t (slotOfId w t id))) id) _ holds)

@@ -6,19 +6,19 @@ use Prim.Native.Nat.{ℕ, suc, _≤_, _<_}
 use native.Mathlib.Omega.{arith}
 use lib.ListN.{length, take, drop}
 use Rattle.layout.specs.Valid.{Between, Placed}
+use Rattle.layout.specs.Insert.{LeastPlan}
 use Rattle.records.specs.Record.{recordOf}
 use Rattle.records.specs.Order.{slots}
-use mathlib.Core.Logic.{_↔_}
-use Rattle.records.specs.Checks.{Told, success, orElse, tableChecks}
-use Rattle.records.specs.Laws.{or-else-pass}
+use Rattle.records.specs.Checks.{Told, success}
 use Rattle.records.specs.Entries.{vacant, entries, entryOccupied, entrySame, entryMisordered, entries-length, shaped-slots}
 use Rattle.records.specs.Writes.{applyWords}
 use Rattle.records.specs.ClassWords.{InClassWords}
-use Rattle.records.specs.Inserts.{insertChoiceOf, plan-words-count, plan-words-class, plan-words-between, plan-words-placed, plan-words-least}
+use Rattle.records.specs.Inserts.{ValidPlan, insertChoiceOf, plan-words-count, plan-words-class, plan-words-between, plan-words-placed, plan-words-least}
 use Rattle.records.specs.declared.Rule.{Rule}
 use Rattle.records.specs.declared.Check.the-variants.{Pass}
 use Rattle.table.specs.Plans.{plan-written}
-use Rattle.neighbours.specs.Neighbours.{checkRule, checkKnown, checkTie, checkFull, checkCrossed, newChecks, ruleWords, insertChecks}
+use Rattle.neighbours.specs.Neighbours.{insertChecks}
+use Rattle.table.specs.Insertable.{Insertable, insertable-law}
 use Rattle.table.specs.Inserts.{insertWords, insertAnswer, insertPlan, plannable, insert-least}
 
 -- What demand 3 promises of an insert: told is the answer, plan the buffer before the call and after the buffer after it.
@@ -27,8 +27,6 @@ pub record ShortestPlan (w : ℕ) (t : List ℕ) (rule : Rule) (told : Told) (pl
   -- the call plans, and its count is the number of words that it wrote
   pub answer : told ≡ success (length (insertWords w t rule) ∷ [])
   pub buffer : after ≡ insertWords w t rule ++ drop (length (insertWords w t rule)) plan
-  -- never more writes than slots, so that a buffer of as many words always does
-  pub few : length (insertWords w t rule) ≤ slots w t
   pub class : InClassWords w t rule (insertWords w t rule)
   -- before the last write the table holds the old rules, in order, at most one of them twice
   pub between : (k : ℕ) → k < length (insertWords w t rule)
@@ -39,51 +37,48 @@ pub record ShortestPlan (w : ℕ) (t : List ℕ) (rule : Rule) (told : Told) (pl
   -- every sequence of plan words in the class, from the same table and with the same rule, is at least as long
   pub least : (words : List ℕ) → InClassWords w t rule words → length (insertWords w t rule) ≤ length words
 
--- checks 1 to 10 pass exactly when the table passes 1 to 4, the rule 5, 6 and 8, a slot is empty, and the rule is not crossed
-pub insert-checks-law : (w : ℕ) (t : List ℕ) (rule : Rule)
-    → (insertChecks w t rule ≡ Pass)
-    ↔ ((tableChecks w t ≡ Pass) × (checkRule w rule ≡ Pass) × (checkKnown w t (ruleWords w rule) ≡ Pass) × (checkTie w t (ruleWords w rule) ≡ Pass)
-    × (checkFull w t ≡ Pass) × (checkCrossed w t (ruleWords w rule) ≡ Pass))
-unfolding insertChecks newChecks
-insert-checks-law w t rule =
-    let new = ruleWords w rule in
-    let a = or-else-pass (tableChecks w t) (orElse (checkRule w rule) (newChecks w t new)) in
-    let b = or-else-pass (checkRule w rule) (newChecks w t new) in
-    let c = or-else-pass (checkKnown w t new) (orElse (checkTie w t new) (orElse (checkFull w t) (checkCrossed w t new))) in
-    let d = or-else-pass (checkTie w t new) (orElse (checkFull w t) (checkCrossed w t new)) in
-    let f = or-else-pass (checkFull w t) (checkCrossed w t new) in (
-      λ e. let p = a .0 e in
-          let q = b .0 (p .1) in
-          let r = c .0 (q .1) in
-          let s = d .0 (r .1) in
-          let u = f .0 (s .1) in
-          (p .0, q .0, r .0, s .0, u .0, u .1),
-      λ e. a .1 (e .0, b .1 (e .1, c .1 (e .2, d .1 (e .3, f .1 (e .4, e .5))))),
-    )
+-- What demand 3 promises of an insert that can be planned (Insertable), whatever the buffer.
+pub record Demand3 (w : ℕ) (t : List ℕ) (rule : Rule) (told : Told) (plan after : List ℕ) : Type 0 where
+  -- the words needed are the cost plus 1, never more than slots, so that a buffer of as many words always does
+  pub needed : length (insertWords w t rule) ≡ suc (insertChoiceOf w t rule .cost)
+  pub few : length (insertWords w t rule) ≤ slots w t
+  -- with buffer enough the call plans, and no sequence of the class is shorter
+  pub shortest : length (insertWords w t rule) ≤ length plan → ShortestPlan w t rule told plan after
 
--- the premises: the table passes 1 to 4, the rule 5 to 8, a slot is empty, the rule is not crossed, and the buffer is long enough
-pub demand-3 : (w : ℕ) (t : List ℕ) (rule : Rule) → rule .action < 4294967296 → insertChecks w t rule ≡ Pass → (plan : List ℕ)
-    → length (insertWords w t rule) ≤ length plan → ShortestPlan w t rule (insertAnswer w t rule (length plan)) plan (insertPlan w t rule plan)
-demand-3 w t rule small e plan h =
-    let p = plannable w t rule e in
-    let best = insert-least w t rule p small in
-    let n = shaped-slots w t (p .shape) in
-    let valid = best .valid in
-    let r = plan-written (insertWords w t rule) plan refl e h in
-    let few = n .1 in
-    record {
-      answer = sym (r .0);
-      buffer = sym (r .1);
-      few = omega (arith, plan-words-count w t rule (omega (arith, few)) (insertChoiceOf w t rule) valid, best .short, valid .count, entries-length w t);
-      class = plan-words-class w t rule (omega (arith, few)) (insertChoiceOf w t rule) valid;
-      between = plan-words-between w t rule (omega (arith, few)) (insertChoiceOf w t rule) valid;
-      placed = plan-words-placed w t rule (omega (arith, few)) (insertChoiceOf w t rule) valid;
-      least = plan-words-least w t rule (insertChoiceOf w t rule) best;
-    }
+-- for every sound table with an empty slot, and every sound rule of new id that ties with none and is not crossed
+pub demand-3 : (w : ℕ) (t : List ℕ) (rule : Rule) → rule .action < 4294967296 → Insertable w t rule → (plan : List ℕ)
+    → Demand3 w t rule (insertAnswer w t rule (length plan)) plan (insertPlan w t rule plan)
+demand-3 w t rule small insertable plan = record { needed = count; few = omega (arith, count, best .short, valid .count, entries-length w t); shortest = planned }
+  where
+    e : insertChecks w t rule ≡ Pass
+    e = insertable-law w t rule .1 insertable
+
+    best : LeastPlan (vacant w) (entryOccupied w) (entrySame w) (entryMisordered w) (entries w t) (recordOf w rule) (insertChoiceOf w t rule)
+    best = insert-least w t rule (plannable w t rule e) small
+
+    valid : ValidPlan w t rule (insertChoiceOf w t rule)
+    valid = best .valid
+
+    low : slots w t ≤ 65534
+    low = omega (arith, shaped-slots w t (plannable w t rule e .shape) .1)
+
+    count : length (insertWords w t rule) ≡ suc (insertChoiceOf w t rule .cost)
+    count = plan-words-count w t rule low (insertChoiceOf w t rule) valid
+
+    planned : length (insertWords w t rule) ≤ length plan → ShortestPlan w t rule (insertAnswer w t rule (length plan)) plan (insertPlan w t rule plan)
+    planned h =
+        let r = plan-written (insertWords w t rule) plan refl e h in
+        record {
+          answer = sym (r .0);
+          buffer = sym (r .1);
+          class = plan-words-class w t rule low (insertChoiceOf w t rule) valid;
+          between = plan-words-between w t rule low (insertChoiceOf w t rule) valid;
+          placed = plan-words-placed w t rule low (insertChoiceOf w t rule) valid;
+          least = plan-words-least w t rule (insertChoiceOf w t rule) best;
+        }
 
 -- the same of a call whose answer and buffer are those of the definitions
 pub demand-3-call : (w : ℕ) (t : List ℕ) (rule : Rule) (plan after : List ℕ) (told : Told) → rule .action < 4294967296
-    → told ≡ insertAnswer w t rule (length plan) → after ≡ insertPlan w t rule plan
-    → insertChecks w t rule ≡ Pass → length (insertWords w t rule) ≤ length plan → ShortestPlan w t rule told plan after
-demand-3-call w t rule plan after told small e f checks h =
-    subst₂ (λ (x : Told) (y : List ℕ). ShortestPlan w t rule x plan y) (sym e) (sym f) (demand-3 w t rule small checks plan h)
+    → told ≡ insertAnswer w t rule (length plan) → after ≡ insertPlan w t rule plan → Insertable w t rule → Demand3 w t rule told plan after
+demand-3-call w t rule plan after told small e f insertable =
+    subst₂ (λ (x : Told) (y : List ℕ). Demand3 w t rule x plan y) (sym e) (sym f) (demand-3 w t rule small insertable plan)

@@ -5,5 +5,6 @@ pub mod Joined
 pub mod Plans
 pub mod Deletes
 pub mod Inserts
+pub mod Insertable
 pub mod Demand3
 pub mod Tables

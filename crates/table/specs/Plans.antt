@@ -1,13 +1,14 @@
 -- What a planning call answers and leaves in the plan buffer, given its checks and the words of its plan.
 -- Inserts and deletes differ in these two alone.
 use mathlib.Core.Path.{_≡_, refl, sym, ap, ap₂, _∙_}
-use mathlib.Core.Bool.{Bool, true, false, cond}
+use mathlib.Core.Bool.{Bool, true, false, cond, true≢false}
 use mathlib.Core.List.{List, [], _∷_, _++_}
 use Prim.Native.Nat.{ℕ, _<_, _≤_}
-use lib.Dec.{ltb}
-use lib.ListN.{length, drop}
+use lib.Dec.{eqb, ltb}
+use lib.ListN.{length, getD, drop}
 use borrow.Author.Tests.{lt-ltb, le-ltb}
 use Rattle.records.specs.Checks.{Told, success, refusal, unless, passes, orElse}
+use Rattle.records.specs.Laws.{cause-number-once, cause-not-zero}
 use Rattle.records.specs.declared.Cause.{Cause}
 use Rattle.records.specs.declared.Cause.the-variants.{Short}
 use Rattle.records.specs.declared.Check.{Check}
@@ -19,6 +20,14 @@ use Rattle.table.specs.declared.PlanAnswer.the-variants.{Planned, Refuse
 abbrev pub planTold : PlanAnswer → Told
 planTold (Planned info) = success (info .count ∷ [])
 planTold (Refused cause spot) = refusal cause spot
+
+-- an answer's number and values lose nothing
+pub plan-told-once : (a b : PlanAnswer) → planTold a ≡ planTold b → a ≡ b
+plan-told-once (Planned x) (Planned y) e = λ i. Planned (record { count = ap (λ (t : Told). getD (t .values) 0 0) e i })
+plan-told-once (Planned x) (Refused c s) e = absurd (true≢false (ap (λ (t : Told). eqb (t .number) 0) e ∙ cause-not-zero c))
+plan-told-once (Refused c s) (Planned y) e = absurd (true≢false (ap (λ (t : Told). eqb (t .number) 0) (sym e) ∙ cause-not-zero c))
+plan-told-once (Refused c s) (Refused d u) e =
+    ap₂ Refused (cause-number-once c d (ap (λ (t : Told). t .number) e)) (ap (λ (t : Told). getD (t .values) 0 0) e)
 
 -- 11: the plan buffer is too short, spot the words needed
 unfoldable pub checkRoom : ℕ → ℕ → Check

@@ -27,7 +27,8 @@ ghost use Rattle.records.specs.declared.Check.the-variants.{Pass};
 ghost use Rattle.table.specs.Joined.{Costed};
 ghost use Rattle.table.specs.Plans.{planTold, planAnswer, planBuffer};
 ghost use Rattle.neighbours.specs.Neighbours.{afterA, slotB, insertChecks};
-ghost use Rattle.table.specs.Demand3.{ShortestPlan};
+ghost use Rattle.table.specs.Insertable.{Insertable};
+ghost use Rattle.table.specs.Demand3.{Demand3};
 ghost use Rattle.table.specs.Inserts.{insertWords, insertAnswer, insertPlan};
 
 // The costs of all positions along one direction, with the ends of their windows.
@@ -109,7 +110,7 @@ fn plan_priced(table: &[u64], rule: Rule, down: &[u16], up: &[u16], plan: &mut [
     write_choice(down, up, table.len() / 6, choice, plan)
 }
 
-// The same, with working arrays of at least a word for each slot.
+// The costs of both directions into lent working arrays, and the plan from them.
 fn plan_with(
     table: &[u64],
     rule: Rule,
@@ -128,7 +129,7 @@ fn plan_with(
     plan_priced(table, rule, down, up, plan)
 }
 
-// The same with arrays of its own.
+// The plan of an insert that passes checks 1 to 10, with working arrays of its own.
 fn plan_checked(table: &[u64], rule: Rule, plan: &mut [u32]) -> PlanAnswer
     requires { ⌜ insertChecks 2 (now table) rule ≡ Pass ⌝ }
     ensures { λ r. ⌜ planTold r ≡ planAnswer Pass (length (insertWords 2 (now (table .entry)) rule)) (length (now (plan .entry))) ⌝ }
@@ -144,8 +145,8 @@ fn plan_checked(table: &[u64], rule: Rule, plan: &mut [u32]) -> PlanAnswer
 pub fn plan_insert(table: &[u64], rule: Rule, plan: &mut [u32]) -> PlanAnswer
     ensures { λ r. ⌜ planTold r ≡ insertAnswer 2 (now (table .entry)) rule (length (now (plan .entry))) ⌝ }
     ensures { λ _. ⌜ now (plan .exit) ≡ insertPlan 2 (now (table .entry)) rule (now (plan .entry)) ⌝ }
-    ensures shortest { λ r. ⌜ (insertChecks 2 (now (table .entry)) rule ≡ Pass → length (insertWords 2 (now (table .entry)) rule) ≤ length (now (plan .entry))
-        → ShortestPlan 2 (now (table .entry)) rule (planTold r) (now (plan .entry)) (now (plan .exit))) ⌝ }
+    ensures shortest { λ r. ⌜ (Insertable 2 (now (table .entry)) rule
+        → Demand3 2 (now (table .entry)) rule (planTold r) (now (plan .entry)) (now (plan .exit))) ⌝ }
 {
     let check = check_insert(table, rule);
     if let Check::Fail(cause, spot) = check {

@@ -10,13 +10,12 @@ use Rattle.records.specs.Record.{word}
 use Rattle.records.specs.Checks.{Told, causeNumber, success, refusal}
 use Rattle.records.specs.Laws.{cause-not-zero}
 use Rattle.records.specs.declared.Cause.{Cause}
-use Rattle.records.specs.declared.Check.the-variants.{Pass}
 use Rattle.records.specs.declared.Rule.{Rule}
 use Rattle.table.specs.Lookup.{lookupAnswer}
-use Rattle.neighbours.specs.Neighbours.{insertChecks}
-use Rattle.table.specs.Inserts.{insertWords, insertAnswer, insertPlan}
+use Rattle.table.specs.Inserts.{insertAnswer, insertPlan}
 use Rattle.table.specs.Deletes.{deleteAnswer, deletePlan}
-use Rattle.table.specs.Demand3.{ShortestPlan}
+use Rattle.table.specs.Insertable.{Insertable}
+use Rattle.table.specs.Demand3.{Demand3}
 
 -- what a key of two words is answered
 abbrev pub keyAnswer : List ℕ → ℕ → ℕ → Told
@@ -78,8 +77,7 @@ pub record PlanLeft (told : Told) (planned : List ℕ) (result : ℕ) (after : L
 -- an insert; demand 3 of it too
 pub record InsertLeft (t : List ℕ) (rule : Rule) (result : ℕ) (plan after : List ℕ) (count count′ spot spot′ : ℕ) : Type 0 where
   pub left : PlanLeft (insertAnswer 2 t rule (length plan)) (insertPlan 2 t rule plan) result after count count′ spot spot′
-  pub shortest : insertChecks 2 t rule ≡ Pass → length (insertWords 2 t rule) ≤ length plan
-      → ShortestPlan 2 t rule (insertAnswer 2 t rule (length plan)) plan after
+  pub shortest : Insertable 2 t rule → Demand3 2 t rule (insertAnswer 2 t rule (length plan)) plan after
 
 -- a delete
 abbrev pub DeleteLeft : List ℕ → ℕ → ℕ → List ℕ → List ℕ → ℕ → ℕ → ℕ → ℕ → Type 0

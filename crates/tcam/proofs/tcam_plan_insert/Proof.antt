@@ -6,7 +6,7 @@ use borrow.Author.Needs.{needs}
 use Rattle.records.specs.Checks.{Told}
 use Rattle.tcam.specs.Cells.{dataCell, spotCell, InsertLeft}
 use Rattle.records.specs.declared.Rule.{Rule}
-use Rattle.table.specs.Demand3.{ShortestPlan}
+use Rattle.table.specs.Demand3.{Demand3}
 use Rattle.tcam.proofs.tcam_plan_insert.Statement.{statement}
 use Rattle.tcam.proofs.tcam_plan_insert.Tie as tie
 
@@ -37,9 +37,9 @@ returns c =
         counted = c .spread .ensures .1 .0 ∙ ap (λ (t : Told). dataCell t 0 (now (a .count))) e;
         spotted = c .spread .ensures .1 .1 ∙ ap (λ (t : Told). spotCell t (now (a .spot))) e;
       };
-      shortest = λ checks room.
-          subst (λ (told : Told). ShortestPlan 2 (now (a .table)) (c .before .before .before .before .before .before .before .rule-from .result) told (now (a .plan)) (c .before .before .before .before .before .plan-insert .last .1 .1 .0)) e
-          (c .before .before .before .before .before .plan-insert .ensures .1 .1 checks room);
+      shortest = λ insertable.
+          subst (λ (told : Told). Demand3 2 (now (a .table)) (c .before .before .before .before .before .before .before .rule-from .result) told (now (a .plan)) (c .before .before .before .before .before .plan-insert .last .1 .1 .0)) e
+          (c .before .before .before .before .before .plan-insert .ensures .1 .1 insertable);
     })
 
 pub tcam-plan-insert-spec : {M : Type 1} → statement M
