@@ -1,5 +1,5 @@
 /*
- * tcam.h: looking up keys in a table of ternary rules.
+ * tcam.h: looking up keys in a table of ternary rules, and planning how rules are put in and taken out.
  *
  * THE TABLE is an array of 64-bit words that the caller owns and lends to each call. It has 1 to
  * 1,024 slots, numbered from 0, of six words each. Slot i is the words 6 * i to 6 * i + 5, its record:
@@ -16,21 +16,50 @@
  * for": a key of 128 bits matches a rule when it equals the value at all bits cared for. An empty slot
  * matches no key. The lowest-numbered matching slot wins, whatever the priorities are.
  *
- * REPLIES. The result is 0 (TCAM_OK), or the number of the refusal. Data goes to the lent cells. On a
- * refusal only *spot is written and everything else is left as it was; on a success *spot is left as
- * it was. tcam_slot_record alone refuses nothing, and its result is a number of words.
+ * ORDER. Two rules overlap when no bit is cared for by both with different values. The one of higher
+ * priority then precedes the other, which depends on it. A table is in order when of any two overlapping
+ * rules the one in the lower-numbered slot has the strictly higher priority; copies of one id are not
+ * compared with each other. The planning calls ask for a table in order; tcam_lookup does not.
+ *
+ * A PLAN is a list of writes, one 32-bit word each, from * 65536 + to:
+ *
+ *     from 65535 (TCAM_PUT)     puts the new rule into slot `to`
+ *     from 65534 (TCAM_EMPTY)   empties slot `to`
+ *     any other from            copies slot `from` to slot `to`, and leaves slot `from` as it is
+ *
+ * The library plans, the caller writes. On the table that a plan was drawn for, with the rule it was drawn
+ * for, the writes are carried out one at a time, from the first word to the last. Then no write goes over a
+ * rule that has no other copy, and the table is in order after each write. After the last write each old
+ * rule stands in one slot and the new one too. In the middle of a plan a rule may stand twice: no planning
+ * call takes such a table.
+ *
+ * REPLIES. The result is 0 (TCAM_OK), or the number of the refusal. Data goes to the lent cells and the
+ * lent plan. On a refusal only *spot is written and everything else is left as it was; on a success *spot
+ * is left as it was. tcam_slot_record alone refuses nothing, and its result is a number of words.
  *
  * THE CALLER OWES, since no call can test it:
- *   - every pointer is valid for what it points to, aligned, and not null; the table's pointer may be
- *     null only where its length is 0;
- *   - the lent cells are apart from each other and from the table;
+ *   - every pointer is valid for what it points to, aligned, and not null; the pointers of the table and of
+ *     the plan may be null only where the length that goes with them is 0;
+ *   - the lent cells, the plan and the table are apart from each other;
  *   - nothing changes the table during a call;
  *   - the platform is x86-64 with the System V calling convention. SSE2 registers and the red zone are
  *     used: an interrupt handler saves those registers if it uses them, and steps over the 128 bytes
- *     below the stack pointer if it runs on the same stack.
+ *     below the stack pointer if it runs on the same stack;
+ *   - the program has a memset, as in C's string.h: tcam_plan_insert calls it;
+ *   - there is stack enough.
  *
  * No call changes the table or keeps anything for later. Each call checks the whole table first, so its
- * time grows with the number of slots.
+ * time grows with the number of slots; that of the planning calls with its square, since they compare
+ * rules in pairs.
+ *
+ * STACK, measured on this build at 1,024 slots, rounded up, with the arguments that the caller pushes:
+ *
+ *     tcam_lookup, tcam_slot_record   128 bytes
+ *     tcam_plan_delete                256 bytes
+ *     tcam_plan_insert                6,656 bytes, and 96 for each word of the plan
+ *
+ * The longest plan, of 1,024 words, takes 104,960 bytes, 102.5 KiB. A plan that does not fit its buffer is
+ * not written out, so that a buffer of n words bounds the stack at 6,656 + 96 * n bytes.
  */
 #ifndef TCAM_H
 #define TCAM_H
@@ -49,20 +78,27 @@ extern "C" {
 /* Word 4 of a record. Also for initializers of constant tables. */
 #define TCAM_ID_ACTION(id, action) ((uint64_t)(uint32_t)(id) << 32 | (uint64_t)(uint32_t)(action))
 
-/* Why a call declines. A number without a call's name is returned by no call declared here. */
+/* `from` of a plan word that puts the new rule in, and of one that empties a slot. */
+#define TCAM_PUT 65535
+#define TCAM_EMPTY 65534
+
+/*
+ * Why a call declines, and the calls that return it, without their tcam_. Where none is named, no call
+ * declared here returns it.
+ */
 enum tcam_cause {
     TCAM_OK = 0,       /* not a refusal */
-    TCAM_SHAPE = 1,    /* the words are not 6 * (1 to 1,024). Returned by tcam_lookup */
-    TCAM_RECORD = 2,   /* a slot is neither empty nor a sound rule. Returned by tcam_lookup */
-    TCAM_TWICE = 3,    /* an id stands in an earlier slot too */
-    TCAM_ORDER = 4,    /* an earlier overlapping rule has no higher priority */
-    TCAM_RULE = 5,     /* the rule given is unsound, or the id to delete is 0 */
-    TCAM_KNOWN = 6,    /* the id to insert is present */
-    TCAM_UNKNOWN = 7,  /* the id to delete is absent */
-    TCAM_TIE = 8,      /* the rule overlaps one of equal priority */
-    TCAM_FULL = 9,     /* no slot is empty */
-    TCAM_CROSSED = 10, /* a rule that depends on the new one stands before one that precedes it */
-    TCAM_SHORT = 11,   /* the plan or image buffer is too short */
+    TCAM_SHAPE = 1,    /* the words are not 6 * (1 to 1,024). lookup, plan_insert, plan_delete */
+    TCAM_RECORD = 2,   /* a slot is neither empty nor a sound rule. lookup, plan_insert, plan_delete */
+    TCAM_TWICE = 3,    /* an id stands in an earlier slot too. plan_insert, plan_delete */
+    TCAM_ORDER = 4,    /* an earlier overlapping rule has no higher priority. plan_insert, plan_delete */
+    TCAM_RULE = 5,     /* the rule given is unsound: plan_insert. The id to delete is 0: plan_delete */
+    TCAM_KNOWN = 6,    /* the id to insert is present. plan_insert */
+    TCAM_UNKNOWN = 7,  /* the id to delete is absent. plan_delete */
+    TCAM_TIE = 8,      /* the rule overlaps one of equal priority. plan_insert */
+    TCAM_FULL = 9,     /* no slot is empty. plan_insert */
+    TCAM_CROSSED = 10, /* a rule that depends on the new one stands before one that precedes it. plan_insert */
+    TCAM_SHORT = 11,   /* the plan or image buffer is too short. plan_insert, plan_delete */
     TCAM_WRITE = 12,   /* the write does not fit */
     TCAM_LINE = 13,    /* the script line is malformed */
     TCAM_IMAGE = 14    /* the image is wrong */
@@ -109,6 +145,87 @@ uint32_t tcam_lookup(const uint64_t *table, size_t words, uint64_t key_high, uin
  * Left as it was, always: the table.
  */
 uint32_t tcam_slot_record(const uint64_t *table, size_t words, uint32_t slot, uint32_t *first);
+
+/*
+ * Plans an insert: the writes that put a new rule into the table, as words of a plan.
+ *
+ *   table, words           the table and its length in words
+ *   id, priority           the new rule's id and priority
+ *   value_high, value_low  its value, high and low 64 bits
+ *   mask_high, mask_low    its mask, high and low 64 bits
+ *   action                 its action, any number
+ *   plan, plan_words       buffer for the plan and its length in words
+ *   count                  cell for the number of words that the call wrote
+ *   spot                   cell for a refusal's spot
+ *
+ * Result TCAM_OK: the plan is the words 0 to *count - 1 of the buffer. They are copies, all toward higher
+ * slots or all toward lower ones, the far end of the chain first, and last the word that puts the new rule
+ * in. Words of the buffer past the count are left as they were.
+ *
+ * *count is at least 1 and at most the number of slots, so that a buffer of as many words as the table has
+ * slots always does. It is the least number of writes in document 01's comparison class: the sequences that
+ * copy rules between slots, all copies toward higher slots or all toward lower ones, and put the new rule
+ * in last, where each write goes to an empty slot or to one whose id stands in another slot too, and the
+ * table is in order after each write. Of sequences outside this class, such as those that copy both ways,
+ * nothing is said. Which of several such plans is given is fixed: with copies toward higher slots if there
+ * is one; and where slots are equally good the lowest, or in a plan toward lower slots the highest.
+ *
+ * Refusals, in the order of checks:
+ *   TCAM_SHAPE    words is not 6 * (1 to 1,024). *spot is 0.
+ *   TCAM_RECORD   a slot is neither empty nor a sound rule. *spot is the lowest such slot.
+ *   TCAM_TWICE    an id stands in an earlier slot too. *spot is the lowest slot with such an id.
+ *   TCAM_ORDER    an earlier overlapping rule has no higher priority. *spot is the lowest slot with such
+ *                 an earlier rule.
+ *   TCAM_RULE     the new rule is unsound: its id is 0, its priority is above 65,535, or its value has a
+ *                 bit outside the mask. *spot is 0.
+ *   TCAM_KNOWN    the id is in the table. *spot is its slot.
+ *   TCAM_TIE      a rule of the table overlaps the new one at equal priority. *spot is the lowest such slot.
+ *   TCAM_FULL     no slot is empty. *spot is 0.
+ *   TCAM_CROSSED  a rule that depends on the new one stands before a rule that precedes it. *spot is the
+ *                 highest slot with a rule that precedes it.
+ *   TCAM_SHORT    plan_words is less than the count. *spot is the count: the words needed.
+ * On these the buffer and *count are left as they were.
+ *
+ * Left as it was, always: the table. On a success: *spot.
+ */
+uint32_t tcam_plan_insert(const uint64_t *table, size_t words, uint32_t id, uint32_t priority,
+                          uint64_t value_high, uint64_t value_low, uint64_t mask_high, uint64_t mask_low,
+                          uint32_t action, uint32_t *plan, size_t plan_words, uint32_t *count, uint32_t *spot);
+
+/*
+ * Plans a delete: the one write that empties a rule's slot.
+ *
+ *   table, words      the table and its length in words
+ *   id                the id of the rule to delete
+ *   plan, plan_words  buffer for the plan and its length in words
+ *   count             cell for the number of words that the call wrote, always 1
+ *   spot              cell for a refusal's spot
+ *
+ * Result TCAM_OK: word 0 of the buffer empties the slot that holds the id, and *count is 1. The other words
+ * of the buffer are left as they were.
+ *
+ * Refusals, in the order of checks:
+ *   TCAM_SHAPE, TCAM_RECORD, TCAM_TWICE, TCAM_ORDER  as for tcam_plan_insert.
+ *   TCAM_RULE     id is 0. *spot is 0.
+ *   TCAM_UNKNOWN  the id is not in the table. *spot is 0.
+ *   TCAM_SHORT    plan_words is 0. *spot is 1.
+ * On these the buffer and *count are left as they were.
+ *
+ * Left as it was, always: the table. On a success: *spot.
+ */
+uint32_t tcam_plan_delete(const uint64_t *table, size_t words, uint32_t id, uint32_t *plan, size_t plan_words,
+                          uint32_t *count, uint32_t *spot);
+
+/* The two halves of a plan word. */
+static inline uint32_t tcam_write_from(uint32_t word)
+{
+    return word >> 16;
+}
+
+static inline uint32_t tcam_write_to(uint32_t word)
+{
+    return word & 0xFFFF;
+}
 
 /* A slot's six words in the table itself, or NULL where tcam_slot_record answers 0. */
 static inline const uint64_t *tcam_slot_words(const uint64_t *table, size_t words, uint32_t slot)

@@ -1,0 +1,1768 @@
+/*
+ * Plans inserts and deletes as firmware would, carries the plans out, and checks every answer, every lent buffer and
+ * every table on the way: first cases whose plans are written here, then all tables of a few slots and random ones.
+ * Their plans come from a reference written from document 01, and their counts from a search of its comparison class.
+ *
+ *     plan_test [seed [tables]]
+ */
+#define _DEFAULT_SOURCE /* for mmap without a file */
+#include "tcam.h"
+
+#include <stdio.h>
+#include <stdlib.h>
+#include <string.h>
+#include <sys/mman.h>
+#include <unistd.h>
+
+#define ALL UINT64_MAX
+#define TOP 0x8000000000000000u
+#define SLOTS(n) ((size_t)(n) * TCAM_SLOT_WORDS)
+#define COUNT_OF(array) (sizeof(array) / sizeof *(array))
+
+/* ---- Checks ---- */
+
+static unsigned long checks, failures;
+static int case_line;                 /* the case under test: its line in this file, 0 for a made table */
+static const char *made_how = "";     /* how the table under test was made, and its number */
+static unsigned long turn;
+static unsigned long long seed = 2026;
+
+static void check(int holds, const char *expression, int line)
+{
+    checks++;
+    if (holds)
+        return;
+    failures++;
+    if (failures > 20)
+        return;
+    fprintf(stderr, "%s:%d: failed: %s", __FILE__, line, expression);
+    if (case_line != 0)
+        fprintf(stderr, " (case at line %d)\n", case_line);
+    else
+        fprintf(stderr, " (%s table %lu, seed %llu)\n", made_how, turn, seed);
+}
+
+#define CHECK(expression) check((expression) ? 1 : 0, #expression, __LINE__)
+#define HERE (case_line = __LINE__)
+
+/* ---- Random numbers ---- */
+
+static uint64_t random_state;
+
+static uint64_t random_word(void)
+{
+    uint64_t x = random_state += 0x9E3779B97F4A7C15u;
+    x = (x ^ x >> 30) * 0xBF58476D1CE4E5B9u;
+    x = (x ^ x >> 27) * 0x94D049BB133111EBu;
+    return x ^ x >> 31;
+}
+
+static uint32_t below(uint32_t limit)
+{
+    return (uint32_t)((random_word() >> 32) % limit);
+}
+
+/* ---- Rules and records ---- */
+
+struct rule {
+    uint32_t id, priority;
+    uint64_t value[2], mask[2];
+    uint32_t action;
+};
+
+static void set_record(uint64_t *record, const struct rule *rule)
+{
+    record[0] = rule->value[0];
+    record[1] = rule->value[1];
+    record[2] = rule->mask[0];
+    record[3] = rule->mask[1];
+    record[4] = TCAM_ID_ACTION(rule->id, rule->action);
+    record[5] = rule->priority;
+}
+
+/* A rule from a pattern of 0, 1 and *, highest bit first, the rest uncared for. */
+static struct rule rule_of(uint32_t id, uint32_t priority, const char *pattern, uint32_t action)
+{
+    struct rule rule = {id, priority, {0, 0}, {0, 0}, action};
+    for (size_t index = 0; pattern[index] != 0; index++) {
+        uint64_t one = TOP >> index % 64;
+        if (pattern[index] == '1')
+            rule.value[index / 64] |= one;
+        if (pattern[index] != '*')
+            rule.mask[index / 64] |= one;
+    }
+    return rule;
+}
+
+static uint32_t id_of(const uint64_t *record)
+{
+    return (uint32_t)(record[4] / 4294967296u);
+}
+
+static int is_empty(const uint64_t *record)
+{
+    for (int word = 5; word >= 0; word--)
+        if (record[word] != 0)
+            return 0;
+    return 1;
+}
+
+static int is_sound(const uint64_t *record)
+{
+    if (id_of(record) == 0 || record[5] > 65535)
+        return 0;
+    for (int word = 0; word < 2; word++) {
+        uint64_t value = record[word], mask = record[word + 2];
+        for (; value != 0; value /= 2, mask /= 2)
+            if (value % 2 == 1 && mask % 2 == 0)
+                return 0;
+    }
+    return 1;
+}
+
+/* Bit by bit, until one of the masks has no bits left: no position is cared for by both with different values. */
+static int overlap(const uint64_t *a, const uint64_t *b)
+{
+    for (int word = 0; word < 2; word++) {
+        uint64_t value_a = a[word], mask_a = a[word + 2], value_b = b[word], mask_b = b[word + 2];
+        while (mask_a != 0 && mask_b != 0) {
+            if ((mask_a & 1) == 1 && (mask_b & 1) == 1 && (value_a & 1) != (value_b & 1))
+                return 0;
+            mask_a >>= 1;
+            mask_b >>= 1;
+            value_a >>= 1;
+            value_b >>= 1;
+        }
+    }
+    return 1;
+}
+
+static int matches(const uint64_t *record, const uint64_t *key)
+{
+    return !is_empty(record) && (key[0] & record[2]) == record[0] && (key[1] & record[3]) == record[1];
+}
+
+/* ---- The reference: document 01, "Why a call declines" and "How a plan is found" ---- */
+
+/* A refusal's number and spot, or 0, the count and the plan. */
+struct told {
+    uint32_t number, spot, count;
+    uint32_t plan[TCAM_MAX_SLOTS];
+};
+
+#define COPY(from, to) ((uint32_t)(from) * 65536u + (uint32_t)(to))
+#define PUT(to) COPY(65535u, to)
+#define EMPTYING(to) COPY(65534u, to)
+
+/* What there was to choose in a plan, for the counts at the end. */
+static struct {
+    int up, equal, choice_tie, hop_tie, on_dependant, around_dependant;
+} way;
+
+static uint32_t slots_of(size_t words)
+{
+    for (uint32_t slots = 1; slots <= 1024; slots++)
+        if (words == (size_t)6 * slots)
+            return slots;
+    return 0;
+}
+
+/* Whether the first of two rules precedes the second: they overlap and it has the higher priority. */
+static int precedes(const uint64_t *a, const uint64_t *b)
+{
+    return a[5] > b[5] && !is_empty(a) && !is_empty(b) && overlap(a, b);
+}
+
+static uint32_t refuse(struct told *told, uint32_t number, uint32_t spot)
+{
+    told->number = number;
+    told->spot = spot;
+    told->count = 0;
+    return number;
+}
+
+/* Checks 1 to 4. */
+static uint32_t ref_table(const uint64_t *table, size_t words, struct told *told)
+{
+    uint32_t slots = slots_of(words);
+    if (slots == 0)
+        return refuse(told, 1, 0);
+    for (uint32_t slot = 0; slot < slots; slot++)
+        if (!is_empty(table + 6 * slot) && !is_sound(table + 6 * slot))
+            return refuse(told, 2, slot);
+    for (uint32_t slot = 0; slot < slots; slot++)
+        for (uint32_t earlier = 0; earlier < slot && !is_empty(table + 6 * slot); earlier++)
+            if (id_of(table + 6 * earlier) == id_of(table + 6 * slot))
+                return refuse(told, 3, slot);
+    for (uint32_t slot = 0; slot < slots; slot++) {
+        const uint64_t *rule = table + 6 * slot;
+        for (uint32_t earlier = 0; earlier < slot && !is_empty(rule); earlier++) {
+            const uint64_t *other = table + 6 * earlier;
+            if (other[5] <= rule[5] && !is_empty(other) && overlap(other, rule))
+                return refuse(told, 4, slot);
+        }
+    }
+    return refuse(told, 0, 0);
+}
+
+#define NEVER 1000000
+
+/* For each slot its cost in one direction, and where its rule would go. */
+static int down_cost[TCAM_MAX_SLOTS], down_next[TCAM_MAX_SLOTS], up_cost[TCAM_MAX_SLOTS], up_next[TCAM_MAX_SLOTS];
+
+static void find_down_costs(const uint64_t *table, int slots)
+{
+    for (int slot = slots - 1; slot >= 0; slot--) {
+        int least = NEVER, dependant = slots - 1;
+        down_next[slot] = -1;
+        if (is_empty(table + 6 * slot)) {
+            down_cost[slot] = 0;
+            continue;
+        }
+        for (int later = slot + 1; later < slots; later++)
+            if (precedes(table + 6 * slot, table + 6 * later)) {
+                dependant = later;
+                break;
+            }
+        for (int to = dependant; to > slot; to--)
+            if (down_cost[to] < NEVER && down_cost[to] <= least) {
+                least = down_cost[to];
+                down_next[slot] = to; /* in the end the lowest */
+            }
+        down_cost[slot] = least == NEVER ? NEVER : least + 1;
+    }
+}
+
+static void find_up_costs(const uint64_t *table, int slots)
+{
+    for (int slot = 0; slot < slots; slot++) {
+        int least = NEVER, preceding = 0;
+        up_next[slot] = -1;
+        if (is_empty(table + 6 * slot)) {
+            up_cost[slot] = 0;
+            continue;
+        }
+        for (int earlier = slot - 1; earlier >= 0; earlier--)
+            if (precedes(table + 6 * earlier, table + 6 * slot)) {
+                preceding = earlier;
+                break;
+            }
+        for (int to = preceding; to < slot; to++)
+            if (up_cost[to] < NEVER && up_cost[to] <= least) {
+                least = up_cost[to];
+                up_next[slot] = to; /* in the end the highest */
+            }
+        up_cost[slot] = least == NEVER ? NEVER : least + 1;
+    }
+}
+
+/* A's and B's slots: -1 and the number of slots where there are none. */
+static void find_neighbours(const uint64_t *table, int slots, const uint64_t *new_record, int *a, int *b)
+{
+    *a = -1;
+    *b = slots;
+    for (int slot = 0; slot < slots; slot++)
+        if (precedes(table + 6 * slot, new_record))
+            *a = slot;
+    for (int slot = slots - 1; slot >= 0; slot--)
+        if (precedes(new_record, table + 6 * slot))
+            *b = slot;
+}
+
+/* Fills in `way`: of the new rule's slot, then of each displaced rule's. */
+static void find_way(const uint64_t *table, int slots, int a, int b, int slot)
+{
+    const int *cost = way.up ? up_cost : down_cost, *next = way.up ? up_next : down_next;
+    way.choice_tie = way.hop_tie = way.on_dependant = way.around_dependant = 0;
+    for (int other = way.up ? a : a + 1; other < (way.up ? b : b + 1); other++)
+        if (other >= 0 && other < slots && other != slot && cost[other] == cost[slot])
+            way.choice_tie = 1;
+    for (; cost[slot] > 0; slot = next[slot]) {
+        const uint64_t *rule = table + 6 * slot;
+        for (int to = next[slot]; to >= 0 && to < slots; to += way.up ? -1 : 1) {
+            int last = way.up ? precedes(table + 6 * to, rule) : precedes(rule, table + 6 * to);
+            way.hop_tie |= to != next[slot] && cost[to] == cost[next[slot]];
+            way.on_dependant |= to == next[slot] && last;
+            way.around_dependant |= cost[to] > cost[next[slot]] && last;
+            if (last)
+                break;
+        }
+    }
+}
+
+static void find_plan(const uint64_t *table, int slots, int a, int b, struct told *told)
+{
+    int down = NEVER, down_slot = -1, up = NEVER, up_slot = -1;
+    find_down_costs(table, slots);
+    find_up_costs(table, slots);
+    for (int slot = 0; slot < slots; slot++)
+        if (a + 1 <= slot && slot <= b && down_cost[slot] < down) {
+            down = down_cost[slot];
+            down_slot = slot;
+        }
+    for (int slot = slots - 1; slot >= 0; slot--)
+        if (a <= slot && slot <= b - 1 && up_cost[slot] < up) {
+            up = up_cost[slot];
+            up_slot = slot;
+        }
+    way.up = up < down;
+    int slot = way.up ? up_slot : down_slot, cost = way.up ? up : down;
+    if (slot < 0) { /* document 01 excludes it */
+        refuse(told, 99, 0);
+        return;
+    }
+    way.equal = down == up && down > 0;
+    find_way(table, slots, a, b, slot);
+    told->count = (uint32_t)cost + 1;
+    told->plan[cost] = PUT(slot);
+    while (cost > 0) {
+        int next = way.up ? up_next[slot] : down_next[slot];
+        told->plan[--cost] = COPY(slot, next);
+        slot = next;
+    }
+}
+
+/* Checks 1 to 10 of an insert, and its plan. */
+static void ref_insert(const uint64_t *table, size_t words, const struct rule *rule, struct told *told)
+{
+    uint64_t record[6];
+    uint32_t slots = slots_of(words), empties = 0;
+    int a, b;
+    if (ref_table(table, words, told) != 0)
+        return;
+    set_record(record, rule);
+    if (!is_sound(record)) {
+        refuse(told, 5, 0);
+        return;
+    }
+    for (uint32_t slot = 0; slot < slots; slot++)
+        if (id_of(table + 6 * slot) == rule->id) {
+            refuse(told, 6, slot);
+            return;
+        }
+    for (uint32_t slot = 0; slot < slots; slot++)
+        if (!is_empty(table + 6 * slot) && table[6 * slot + 5] == rule->priority && overlap(table + 6 * slot, record)) {
+            refuse(told, 8, slot);
+            return;
+        }
+    for (uint32_t slot = 0; slot < slots; slot++)
+        empties += is_empty(table + 6 * slot) != 0;
+    if (empties == 0) {
+        refuse(told, 9, 0);
+        return;
+    }
+    find_neighbours(table, (int)slots, record, &a, &b);
+    if (a > b) {
+        refuse(told, 10, (uint32_t)a);
+        return;
+    }
+    find_plan(table, (int)slots, a, b, told);
+}
+
+/* Checks 1 to 4, 5 and 7 of a delete, and its plan. */
+static void ref_delete(const uint64_t *table, size_t words, uint32_t id, struct told *told)
+{
+    uint32_t slots = slots_of(words);
+    if (ref_table(table, words, told) != 0)
+        return;
+    if (id == 0) {
+        refuse(told, 5, 0);
+        return;
+    }
+    for (uint32_t slot = 0; slot < slots; slot++)
+        if (id_of(table + 6 * slot) == id) {
+            told->count = 1;
+            told->plan[0] = EMPTYING(slot);
+            return;
+        }
+    refuse(told, 7, 0);
+}
+
+/* ---- Lent buffers ---- */
+
+/*
+ * Lent tables and plans stand in pages of their own, at the first word or at the last. The pages before and behind
+ * cannot be read or written. At the other end a table has guard words, rules that match every key, and a plan has
+ * marks.
+ */
+#define MOST_SLOTS (TCAM_MAX_SLOTS + 2)
+#define GUARDS SLOTS(2)
+#define MOST_ROOM (TCAM_MAX_SLOTS + 16)
+#define PLAN_GUARDS 8
+
+static const uint64_t guard_rule[TCAM_SLOT_WORDS] = {0, 0, 0, 0, TCAM_ID_ACTION(0x600D600D, 0x0BAD0BAD), 9};
+
+struct pages {
+    char *start;
+    size_t bytes;
+};
+
+static struct pages table_pages, plan_pages;
+
+static void open_pages(struct pages *pages, size_t least_bytes)
+{
+    size_t page = (size_t)sysconf(_SC_PAGESIZE);
+    pages->bytes = (least_bytes + page - 1) / page * page;
+    char *mapped = mmap(NULL, pages->bytes + 2 * page, PROT_NONE, MAP_PRIVATE | MAP_ANONYMOUS, -1, 0);
+    if (mapped == MAP_FAILED || mprotect(mapped + page, pages->bytes, PROT_READ | PROT_WRITE) != 0) {
+        perror("plan_test: pages");
+        exit(1);
+    }
+    pages->start = mapped + page;
+}
+
+static void protect_table(int writable)
+{
+    if (mprotect(table_pages.start, table_pages.bytes, writable ? PROT_READ | PROT_WRITE : PROT_READ) != 0) {
+        perror("plan_test: pages");
+        exit(1);
+    }
+}
+
+struct lent {
+    const uint64_t *original; /* the table as it was */
+    uint64_t *table;          /* the copy that is lent */
+    uint64_t *guards;
+    size_t words;
+};
+
+static struct lent lend(const uint64_t *original, size_t words, int at_end)
+{
+    uint64_t *pages = (uint64_t *)(void *)table_pages.start;
+    struct lent lent = {original, pages, pages + words, words};
+    if (at_end) {
+        lent.table = pages + table_pages.bytes / sizeof *pages - words;
+        lent.guards = lent.table - GUARDS;
+    }
+    memcpy(lent.table, original, words * sizeof *original);
+    for (size_t index = 0; index < GUARDS; index++)
+        lent.guards[index] = guard_rule[index % TCAM_SLOT_WORDS];
+    return lent;
+}
+
+static void check_lent(const struct lent *lent)
+{
+    int guards_stay = 1;
+    CHECK(memcmp(lent->table, lent->original, lent->words * sizeof *lent->table) == 0);
+    for (size_t index = 0; index < GUARDS; index++)
+        guards_stay &= lent->guards[index] == guard_rule[index % TCAM_SLOT_WORDS];
+    CHECK(guards_stay);
+}
+
+/* Marks that change from word to word and from call to call. None is a word of a plan. */
+static uint32_t mark = 0xA5A5A5A5u;
+
+static uint32_t next_mark(void)
+{
+    mark = mark * 1664525u + 1013904223u;
+    return mark | 0x40000000u;
+}
+
+/* The lent plan: its room in words, the marks that stood in it, and the guards at its open end. */
+static struct {
+    uint32_t *words, *guards;
+    uint32_t room;
+    uint32_t before[MOST_ROOM], guards_before[PLAN_GUARDS];
+} plan;
+
+static void lend_plan(uint32_t room, int at_end)
+{
+    uint32_t *pages = (uint32_t *)(void *)plan_pages.start;
+    plan.room = room;
+    plan.words = at_end ? pages + plan_pages.bytes / sizeof *pages - room : pages;
+    plan.guards = at_end ? plan.words - PLAN_GUARDS : plan.words + room;
+    for (uint32_t index = 0; index < room; index++)
+        plan.words[index] = plan.before[index] = next_mark();
+    for (uint32_t index = 0; index < PLAN_GUARDS; index++)
+        plan.guards[index] = plan.guards_before[index] = next_mark();
+}
+
+/* The lent cells, each between guards. */
+enum { COUNT = 1, SPOT = 3, CELLS = 5 };
+
+static struct {
+    uint32_t now[CELLS], before[CELLS];
+} cells;
+
+static void mark_cells(void)
+{
+    for (int index = 0; index < CELLS; index++)
+        cells.now[index] = cells.before[index] = next_mark();
+}
+
+/* ---- One call, with all that it promises ---- */
+
+/* Everything after a call, against the answer wanted with a buffer of any length. */
+static void check_left(const struct lent *lent, uint32_t number, const struct told *want)
+{
+    uint32_t want_number = want->number, want_spot = want->spot, written = want->count;
+    if (want_number == TCAM_OK && plan.room < want->count) {
+        want_number = TCAM_SHORT;
+        want_spot = want->count;
+    }
+    if (want_number != TCAM_OK)
+        written = 0;
+    CHECK(number == want_number);
+    if (want_number == TCAM_OK) {
+        CHECK(cells.now[COUNT] == want->count);
+        CHECK(cells.now[SPOT] == cells.before[SPOT]);
+    } else {
+        CHECK(cells.now[COUNT] == cells.before[COUNT]);
+        CHECK(cells.now[SPOT] == want_spot);
+    }
+    CHECK(memcmp(plan.words, want->plan, written * sizeof *plan.words) == 0);
+    CHECK(memcmp(plan.words + written, plan.before + written, (plan.room - written) * sizeof *plan.words) == 0);
+    CHECK(memcmp(plan.guards, plan.guards_before, sizeof plan.guards_before) == 0);
+    int guards_stay = 1;
+    for (int index = 0; index < CELLS; index += 2)
+        guards_stay &= cells.now[index] == cells.before[index];
+    CHECK(guards_stay);
+    check_lent(lent);
+}
+
+static uint32_t call_insert(const struct lent *lent, const struct rule *rule, uint32_t room, int at_end, const struct told *want)
+{
+    lend_plan(room, at_end);
+    mark_cells();
+    uint32_t number = tcam_plan_insert(lent->table, lent->words, rule->id, rule->priority, rule->value[0], rule->value[1],
+                                       rule->mask[0], rule->mask[1], rule->action, plan.words, room, &cells.now[COUNT],
+                                       &cells.now[SPOT]);
+    check_left(lent, number, want);
+    return number;
+}
+
+static uint32_t call_delete(const struct lent *lent, uint32_t id, uint32_t room, int at_end, const struct told *want)
+{
+    lend_plan(room, at_end);
+    mark_cells();
+    uint32_t number = tcam_plan_delete(lent->table, lent->words, id, plan.words, room, &cells.now[COUNT], &cells.now[SPOT]);
+    check_left(lent, number, want);
+    return number;
+}
+
+/* ---- Carrying out ---- */
+
+#define MOST_KEYS 48
+
+struct keys {
+    uint32_t count;
+    uint64_t key[MOST_KEYS][2];
+};
+
+static void add_key(struct keys *keys, uint64_t high, uint64_t low)
+{
+    if (keys->count < MOST_KEYS) {
+        keys->key[keys->count][0] = high;
+        keys->key[keys->count][1] = low;
+        keys->count++;
+    }
+}
+
+/* Keys that the rules match, one each, and some that they may not. */
+static void sample_keys(struct keys *keys, const uint64_t *table, uint32_t slots, const struct rule *rule, uint32_t most)
+{
+    keys->count = 0;
+    for (uint32_t round = 0; round < most / 4; round++)
+        add_key(keys, rule->value[0] | (random_word() & ~rule->mask[0]), rule->value[1] | (random_word() & ~rule->mask[1]));
+    for (uint32_t round = 0; round < most / 2; round++) {
+        const uint64_t *record = table + SLOTS(slots <= most / 2 ? round % slots : below(slots));
+        add_key(keys, record[0] | (random_word() & ~record[2]), record[1] | (random_word() & ~record[3]));
+    }
+    while (keys->count < most)
+        add_key(keys, random_word(), random_word());
+}
+
+/* Word 4 of the first slot that matches, id and action; 0 for a miss. */
+static uint64_t first_reply(const uint64_t *table, uint32_t slots, const uint64_t *key)
+{
+    for (uint32_t slot = 0; slot < slots; slot++)
+        if (matches(table + SLOTS(slot), key))
+            return table[SLOTS(slot) + 4];
+    return 0;
+}
+
+/* The reply by highest priority, of the old rules and the new one. */
+static uint64_t best_reply(const uint64_t *table, uint32_t slots, const uint64_t *new_record, const uint64_t *key)
+{
+    const uint64_t *best = matches(new_record, key) ? new_record : NULL;
+    for (uint32_t slot = 0; slot < slots; slot++)
+        if (matches(table + SLOTS(slot), key) && (best == NULL || table[SLOTS(slot) + 5] > best[5]))
+            best = table + SLOTS(slot);
+    return best == NULL ? 0 : best[4];
+}
+
+/* The rule of a slot against all others: the overlapping ones before it have strictly higher priorities, those after lower. */
+static int in_order_at(const uint64_t *table, uint32_t slots, uint32_t slot)
+{
+    const uint64_t *rule = table + SLOTS(slot);
+    for (uint32_t other = 0; other < slots && !is_empty(rule); other++) {
+        const uint64_t *record = table + SLOTS(other);
+        if (other < slot ? record[5] > rule[5] : record[5] < rule[5])
+            continue;
+        if (id_of(record) != id_of(rule) && !is_empty(record) && overlap(record, rule))
+            return 0;
+    }
+    return 1;
+}
+
+static int in_order(const uint64_t *table, uint32_t slots)
+{
+    for (uint32_t slot = 0; slot < slots; slot++)
+        if (!in_order_at(table, slots, slot))
+            return 0;
+    return 1;
+}
+
+/* An empty slot, or one whose id stands in another slot too. */
+static int is_free(const uint64_t *table, uint32_t slots, uint32_t slot)
+{
+    for (uint32_t other = 0; other < slots; other++)
+        if (other != slot && id_of(table + SLOTS(other)) == id_of(table + SLOTS(slot)))
+            return 1;
+    return is_empty(table + SLOTS(slot));
+}
+
+static uint32_t times_held(const uint64_t *table, uint32_t slots, const uint64_t *record)
+{
+    uint32_t times = 0;
+    for (uint32_t slot = 0; slot < slots; slot++)
+        times += table[SLOTS(slot) + 4] == record[4] && memcmp(table + SLOTS(slot), record, SLOTS(1) * sizeof *record) == 0;
+    return times;
+}
+
+static uint64_t carried[SLOTS(TCAM_MAX_SLOTS)];
+
+/* Carries out the plan of an insert, on `carried`, and checks the table after every write. */
+static void carry_out_insert(const uint64_t *old, uint32_t slots, const struct rule *rule, const uint32_t *writes,
+                             uint32_t count, const struct keys *keys)
+{
+    int toward_higher = 0, toward_lower = 0;
+    uint64_t new_record[TCAM_SLOT_WORDS], old_reply[MOST_KEYS], new_reply[MOST_KEYS];
+    set_record(new_record, rule);
+    memcpy(carried, old, SLOTS(slots) * sizeof *old);
+    for (uint32_t key = 0; key < keys->count; key++) {
+        old_reply[key] = first_reply(old, slots, keys->key[key]);
+        new_reply[key] = best_reply(old, slots, new_record, keys->key[key]);
+    }
+    CHECK(1 <= count && count <= slots);
+    if (count > slots)
+        return;
+    for (uint32_t index = 0; index < count; index++) {
+        uint32_t from = tcam_write_from(writes[index]), to = tcam_write_to(writes[index]);
+        int last = index == count - 1, replies_right = 1;
+        int exists = to < slots && (last ? from == TCAM_PUT : from < slots && from != to && !is_empty(carried + SLOTS(from)));
+        CHECK(exists);
+        if (!exists)
+            return;
+        if (!last && from < to)
+            toward_higher = 1;
+        if (!last && from > to)
+            toward_lower = 1;
+        CHECK(!(toward_higher && toward_lower));
+        CHECK(is_free(carried, slots, to));
+        memcpy(carried + SLOTS(to), last ? new_record : carried + SLOTS(from), SLOTS(1) * sizeof *carried);
+        CHECK(slots > 16 ? in_order_at(carried, slots, to) : in_order(carried, slots));
+        for (uint32_t key = 0; key < keys->count; key++)
+            replies_right &= first_reply(carried, slots, keys->key[key]) == (last ? new_reply[key] : old_reply[key]);
+        CHECK(replies_right);
+        uint32_t key = below(keys->count), slot, id, action, spot;
+        CHECK(tcam_lookup(carried, SLOTS(slots), keys->key[key][0], keys->key[key][1], &slot, &id, &action, &spot) == TCAM_OK &&
+              TCAM_ID_ACTION(id, action) == (last ? new_reply[key] : old_reply[key]));
+    }
+    int held_once = times_held(carried, slots, new_record) == 1;
+    uint32_t old_empty = 0, empty = 0;
+    for (uint32_t slot = 0; slot < slots; slot++) {
+        old_empty += is_empty(old + SLOTS(slot)) != 0;
+        empty += is_empty(carried + SLOTS(slot)) != 0;
+        if (!is_empty(old + SLOTS(slot)))
+            held_once &= times_held(carried, slots, old + SLOTS(slot)) == 1;
+    }
+    CHECK(held_once);
+    CHECK(empty + 1 == old_empty);
+}
+
+/* Carries out the plan of a delete, on `carried`. */
+static void carry_out_delete(const uint64_t *old, uint32_t slots, uint32_t id, const uint32_t *writes, uint32_t count)
+{
+    int others_stay = 1;
+    uint32_t to = tcam_write_to(writes[0]);
+    memcpy(carried, old, SLOTS(slots) * sizeof *old);
+    CHECK(count == 1);
+    CHECK(tcam_write_from(writes[0]) == TCAM_EMPTY);
+    CHECK(to < slots);
+    if (to >= slots)
+        return;
+    CHECK(id_of(old + SLOTS(to)) == id);
+    memset(carried + SLOTS(to), 0, SLOTS(1) * sizeof *carried);
+    for (uint32_t slot = 0; slot < slots; slot++)
+        others_stay &= slot == to ? is_empty(carried + SLOTS(slot)) : id_of(carried + SLOTS(slot)) != id;
+    CHECK(others_stay);
+    CHECK(in_order(carried, slots));
+}
+
+/* ---- The comparison class, searched breadth first ---- */
+
+#define CLASS_SLOTS 5
+
+/* may[a][b]: the rule of slot a, in the table to begin with, may stand before that of slot b; the new rule is the last. */
+static int may[CLASS_SLOTS + 1][CLASS_SLOTS + 1];
+
+/* A table on the way: for each slot the slot that its rule came from, or NONE. Packed, three bits for each. */
+#define NONE 7
+
+static int stands_right(const int *held, int slots, int slot, int rule)
+{
+    for (int other = 0; other < slots; other++) {
+        if (other == slot || held[other] == NONE || held[other] == rule)
+            continue;
+        if (other < slot ? !may[held[other]][rule] : !may[rule][held[other]])
+            return 0;
+    }
+    return 1;
+}
+
+static int slot_free(const int *held, int slots, int slot)
+{
+    for (int other = 0; other < slots; other++)
+        if (other != slot && held[other] == held[slot])
+            return 1;
+    return held[slot] == NONE;
+}
+
+static uint32_t pack(const int *held, int slots)
+{
+    uint32_t state = 0;
+    for (int slot = 0; slot < slots; slot++)
+        state = state * 8 + (uint32_t)held[slot];
+    return state;
+}
+
+static void unpack(uint32_t state, int *held, int slots)
+{
+    for (int slot = slots - 1; slot >= 0; slot--) {
+        held[slot] = (int)(state % 8);
+        state /= 8;
+    }
+}
+
+/* The least number of writes with copies in one direction, the last writing the new rule; 0 where no sequence ends. */
+static uint32_t least_toward(const int *start, int slots, int higher)
+{
+    static uint32_t seen[8 * 8 * 8 * 8 * 8], round, queue[8 * 8 * 8 * 8 * 8], writes[8 * 8 * 8 * 8 * 8];
+    uint32_t first = 0, last = 0;
+    int held[CLASS_SLOTS];
+    round++;
+    queue[last++] = pack(start, slots);
+    seen[queue[0]] = round;
+    writes[queue[0]] = 0;
+    for (; first < last; first++) {
+        unpack(queue[first], held, slots);
+        for (int to = 0; to < slots; to++) {
+            if (!slot_free(held, slots, to))
+                continue;
+            if (stands_right(held, slots, to, slots))
+                return writes[queue[first]] + 1;
+            for (int from = higher ? 0 : to + 1; from < (higher ? to : slots); from++) {
+                int lost = held[to];
+                if (held[from] == NONE || !stands_right(held, slots, to, held[from]))
+                    continue;
+                held[to] = held[from];
+                uint32_t state = pack(held, slots);
+                held[to] = lost;
+                if (seen[state] == round)
+                    continue;
+                seen[state] = round;
+                writes[state] = writes[queue[first]] + 1;
+                queue[last++] = state;
+            }
+        }
+    }
+    return 0;
+}
+
+static uint32_t least_in_class(const uint64_t *table, uint32_t slots, const struct rule *rule)
+{
+    uint64_t records[SLOTS(CLASS_SLOTS + 1)];
+    int held[CLASS_SLOTS];
+    memcpy(records, table, SLOTS(slots) * sizeof *table);
+    set_record(records + SLOTS(slots), rule);
+    for (uint32_t a = 0; a <= slots; a++)
+        for (uint32_t b = 0; b <= slots; b++)
+            may[a][b] = records[SLOTS(a) + 5] > records[SLOTS(b) + 5] || !overlap(records + SLOTS(a), records + SLOTS(b));
+    for (uint32_t slot = 0; slot < slots; slot++)
+        held[slot] = is_empty(table + SLOTS(slot)) ? NONE : (int)slot;
+    uint32_t down = least_toward(held, (int)slots, 1), up = least_toward(held, (int)slots, 0);
+    return down == 0 || (up != 0 && up < down) ? up : down;
+}
+
+/* ---- Cases ---- */
+
+static uint64_t table[SLOTS(MOST_SLOTS)];
+static struct told want, ref;
+
+static void clear(void)
+{
+    memset(table, 0, sizeof table);
+}
+
+static void put(uint32_t slot, struct rule rule)
+{
+    set_record(table + SLOTS(slot), &rule);
+}
+
+static void check_ref(void)
+{
+    CHECK(ref.number == want.number);
+    CHECK(ref.spot == want.spot);
+    CHECK(ref.count == want.count);
+    CHECK(memcmp(ref.plan, want.plan, want.count * sizeof *want.plan) == 0);
+}
+
+/* An insert on the case's table, both ends of the pages, with a buffer of each length that matters. The reference must agree. */
+static void try_insert(size_t words, const struct rule *rule)
+{
+    uint32_t one_short = want.count - (want.count > 0);
+    uint32_t rooms[] = {want.count, one_short, want.count + 1, want.count + 7, 1, 0, want.count / 2, TCAM_MAX_SLOTS + 2};
+    ref_insert(table, words, rule, &ref);
+    check_ref();
+    for (int at_end = 0; at_end < 2; at_end++) {
+        struct lent lent = lend(table, words, at_end);
+        protect_table(0);
+        if (words > SLOTS(100))
+            call_insert(&lent, rule, rooms[at_end], 1, &want);
+        for (size_t index = 0; index < COUNT_OF(rooms) && words <= SLOTS(100); index++)
+            for (int plan_at_end = 0; plan_at_end < 2; plan_at_end++)
+                call_insert(&lent, rule, rooms[index], plan_at_end, &want);
+        protect_table(1);
+    }
+}
+
+static void wanted(uint32_t number, uint32_t spot, const uint32_t *writes, size_t count)
+{
+    want.number = number;
+    want.spot = spot;
+    want.count = (uint32_t)count;
+    for (size_t index = 0; index < count; index++)
+        want.plan[index] = writes[index];
+}
+
+/* An insert with this plan, carried out; if it is to stay, the case's table is the new one afterwards. */
+static void insert_case(int line, uint32_t slots, struct rule rule, int stay, const uint32_t *writes, size_t count)
+{
+    struct keys keys;
+    case_line = line;
+    wanted(TCAM_OK, 0, writes, count);
+    try_insert(SLOTS(slots), &rule);
+
+    /* the plan as the library gives it */
+    struct lent lent = lend(table, SLOTS(slots), 0);
+    if (call_insert(&lent, &rule, slots, 1, &want) != TCAM_OK || cells.now[COUNT] > slots)
+        return;
+    sample_keys(&keys, table, slots, &rule, slots > 100 ? 8 : MOST_KEYS);
+    carry_out_insert(table, slots, &rule, plan.words, cells.now[COUNT], &keys);
+    if (slots <= CLASS_SLOTS)
+        CHECK(least_in_class(table, slots, &rule) == count);
+    if (stay)
+        memcpy(table, carried, SLOTS(slots) * sizeof *table);
+}
+
+static void insert_refused(int line, size_t words, struct rule rule, uint32_t number, uint32_t spot)
+{
+    case_line = line;
+    wanted(number, spot, NULL, 0);
+    try_insert(words, &rule);
+}
+
+static void delete_case(int line, uint32_t slots, uint32_t id, uint32_t slot, int stay)
+{
+    uint32_t rooms[] = {1, 0, 2, 7, TCAM_MAX_SLOTS + 2}, write = EMPTYING(slot);
+    case_line = line;
+    wanted(TCAM_OK, 0, &write, 1);
+    ref_delete(table, SLOTS(slots), id, &ref);
+    check_ref();
+    for (int at_end = 0; at_end < 2; at_end++) {
+        struct lent lent = lend(table, SLOTS(slots), at_end);
+        protect_table(0);
+        for (size_t index = 0; index < COUNT_OF(rooms); index++)
+            for (int plan_at_end = 0; plan_at_end < 2; plan_at_end++)
+                call_delete(&lent, id, rooms[index], plan_at_end, &want);
+        protect_table(1);
+    }
+    struct lent lent = lend(table, SLOTS(slots), 0);
+    if (call_delete(&lent, id, 1, 1, &want) != TCAM_OK)
+        return;
+    carry_out_delete(table, slots, id, plan.words, cells.now[COUNT]);
+    if (stay)
+        memcpy(table, carried, SLOTS(slots) * sizeof *table);
+}
+
+static void delete_refused(int line, size_t words, uint32_t id, uint32_t number, uint32_t spot)
+{
+    case_line = line;
+    wanted(number, spot, NULL, 0);
+    ref_delete(table, words, id, &ref);
+    check_ref();
+    for (int at_end = 0; at_end < 2; at_end++) {
+        struct lent lent = lend(table, words, at_end);
+        protect_table(0);
+        for (uint32_t room = 0; room < 3; room++)
+            call_delete(&lent, id, room, at_end, &want);
+        protect_table(1);
+    }
+}
+
+#define WRITES(...) (uint32_t[]){__VA_ARGS__}, sizeof((uint32_t[]){__VA_ARGS__}) / sizeof(uint32_t)
+#define PLANNED(slots, rule, ...) insert_case(__LINE__, slots, rule, 0, WRITES(__VA_ARGS__))
+#define INSERTED(slots, rule, ...) insert_case(__LINE__, slots, rule, 1, WRITES(__VA_ARGS__))
+#define REFUSED(words, rule, number, spot) insert_refused(__LINE__, words, rule, number, spot)
+#define DELETED(slots, id, slot) delete_case(__LINE__, slots, id, slot, 1)
+#define KEPT(words, id, number, spot) delete_refused(__LINE__, words, id, number, spot)
+
+static void names(void)
+{
+    HERE;
+    CHECK(TCAM_PUT == 65535);
+    CHECK(TCAM_EMPTY == 65534);
+    CHECK(tcam_write_from(0) == 0 && tcam_write_to(0) == 0);
+    CHECK(tcam_write_from(0x00010004u) == 1 && tcam_write_to(0x00010004u) == 4);
+    CHECK(tcam_write_from(0x03FF0000u) == 1023 && tcam_write_to(0x000003FFu) == 1023);
+    CHECK(tcam_write_from(UINT32_MAX) == TCAM_PUT && tcam_write_to(UINT32_MAX) == 65535);
+    CHECK(tcam_write_from(0xFFFE0002u) == TCAM_EMPTY && tcam_write_to(0xFFFE0002u) == 2);
+}
+
+static void look_up(int line, uint32_t slots, uint64_t key_high, uint32_t want_slot, uint32_t want_id, uint32_t want_action)
+{
+    uint32_t slot = 77, id = 77, action = 77, spot = 77;
+    case_line = line;
+    CHECK(tcam_lookup(table, SLOTS(slots), key_high, 0, &slot, &id, &action, &spot) == TCAM_OK);
+    CHECK(slot == want_slot && id == want_id && action == want_action && spot == 77);
+}
+
+/* Document 01's script, carried out by the test. */
+static void script(void)
+{
+    clear();                                                          /* T 6 */
+    INSERTED(6, rule_of(1, 30, "11*", 7), PUT(0));                    /* I 1 30 11* 7 */
+    INSERTED(6, rule_of(2, 20, "1", 8), PUT(1));                      /* I 2 20 1 8 */
+    INSERTED(6, rule_of(3, 25, "1*1", 9), COPY(1, 2), PUT(1));        /* I 3 25 1*1 9 */
+    REFUSED(SLOTS(6), rule_of(4, 25, "111", 9), TCAM_TIE, 1);         /* I 4 25 111 9 */
+    INSERTED(6, rule_of(5, 10, "00", 1), PUT(3));                     /* I 5 10 00 1 */
+    INSERTED(6, rule_of(6, 40, "01", 2), PUT(4));                     /* I 6 40 01 2 */
+    REFUSED(SLOTS(6), rule_of(7, 20, "0", 3), TCAM_CROSSED, 4);       /* I 7 20 0 3 */
+    look_up(__LINE__, 6, 0x5000000000000000u, 4, 6, 2);               /* L 0101 */
+    DELETED(6, 2, 2);                                                 /* D 2 */
+    look_up(__LINE__, 6, 0x8000000000000000u, 0, 0, 0);               /* L 1000 */
+}
+
+/* The tables at the edge. */
+static void edge_tables(void)
+{
+    /* one slot: empty, then occupied */
+    clear();
+    PLANNED(1, rule_of(1, 1, "", 1), PUT(0));
+    put(0, rule_of(1, 1, "0", 1));
+    REFUSED(SLOTS(1), rule_of(2, 2, "", 2), TCAM_FULL, 0);
+    REFUSED(SLOTS(1), rule_of(2, 1, "1", 2), TCAM_FULL, 0);
+
+    /* 0 a, 1 other, 2 c, 3 d, 4 empty; c depends on a, d on c; the new rule before a: around the nearest dependants */
+    clear();
+    put(0, rule_of(10, 30, "00**", 1));
+    put(1, rule_of(11, 5, "1***", 2));
+    put(2, rule_of(12, 20, "0*1*", 3));
+    put(3, rule_of(13, 10, "01**", 4));
+    PLANNED(5, rule_of(14, 40, "000*", 5), COPY(1, 4), COPY(0, 1), PUT(0));
+
+    /* 0 empty, 1 a, 2 b, the new rule between: up, and down where slot 3 is empty too */
+    clear();
+    put(1, rule_of(20, 30, "111", 1));
+    put(2, rule_of(21, 10, "1", 2));
+    PLANNED(3, rule_of(22, 20, "11", 3), COPY(1, 0), PUT(1));
+    PLANNED(4, rule_of(22, 20, "11", 3), COPY(2, 3), PUT(2));
+
+    /* a plan of two in a buffer of one word */
+    HERE;
+    uint32_t two_words[2] = {77, 78}, count = 79, spot = 80;
+    CHECK(tcam_plan_insert(table, SLOTS(3), 22, 20, 0xC000000000000000u, 0, 0xC000000000000000u, 0, 3, two_words, 1, &count,
+                           &spot) == TCAM_SHORT);
+    CHECK(two_words[0] == 77 && two_words[1] == 78 && count == 79 && spot == 2);
+
+    /* no buffer at all, and no table */
+    CHECK(tcam_plan_insert(table, SLOTS(3), 22, 20, 0xC000000000000000u, 0, 0xC000000000000000u, 0, 3, NULL, 0, &count, &spot) ==
+          TCAM_SHORT);
+    CHECK(count == 79 && spot == 2);
+    CHECK(tcam_plan_delete(table, SLOTS(3), 21, NULL, 0, &count, &spot) == TCAM_SHORT);
+    CHECK(count == 79 && spot == 1);
+    CHECK(tcam_plan_insert(NULL, 0, 22, 20, 0, 0, 0, 0, 3, two_words, 2, &count, &spot) == TCAM_SHAPE);
+    CHECK(count == 79 && spot == 0);
+    spot = 80;
+    CHECK(tcam_plan_delete(NULL, 0, 21, two_words, 2, &count, &spot) == TCAM_SHAPE);
+    CHECK(two_words[0] == 77 && two_words[1] == 78 && count == 79 && spot == 0);
+    spot = 80;
+    CHECK(tcam_plan_delete(table, SLOTS(3), 21, two_words, 2, &count, &spot) == TCAM_OK);
+    CHECK(two_words[0] == 0xFFFE0002u && two_words[1] == 78 && count == 1 && spot == 80);
+
+    /* delete of an absent id, of id 0, of the last rule */
+    KEPT(SLOTS(4), 22, TCAM_UNKNOWN, 0);
+    KEPT(SLOTS(4), 0, TCAM_RULE, 0);
+    DELETED(4, 20, 1);
+    KEPT(SLOTS(4), 20, TCAM_UNKNOWN, 0);
+    DELETED(4, 21, 2);
+    KEPT(SLOTS(4), 21, TCAM_UNKNOWN, 0);
+    KEPT(SLOTS(1), UINT32_MAX, TCAM_UNKNOWN, 0);
+
+    /* priorities at their ends */
+    clear();
+    PLANNED(2, rule_of(1, 65535, "1", 1), PUT(0));
+    PLANNED(2, rule_of(UINT32_MAX, 0, "1", UINT32_MAX), PUT(0));
+    REFUSED(SLOTS(2), rule_of(1, 65536, "1", 1), TCAM_RULE, 0);
+    REFUSED(SLOTS(2), rule_of(1, 0x10000001u, "1", 1), TCAM_RULE, 0);
+    REFUSED(SLOTS(2), rule_of(1, UINT32_MAX, "1", 1), TCAM_RULE, 0);
+    put(1, rule_of(7, 65535, "1", 1));
+    PLANNED(3, rule_of(1, 65534, "", 1), PUT(2));
+    REFUSED(SLOTS(3), rule_of(1, 65535, "", 1), TCAM_TIE, 1);
+    put(1, rule_of(7, 0, "1", 1));
+    PLANNED(3, rule_of(1, 1, "", 1), PUT(0));
+    REFUSED(SLOTS(3), rule_of(1, 0, "", 1), TCAM_TIE, 1);
+    PLANNED(3, rule_of(1, 0, "0", 1), PUT(0));
+
+    /* mask 0 overlaps every rule */
+    clear();
+    put(0, rule_of(1, 30, "1", 1));
+    put(2, rule_of(2, 10, "0", 2));
+    PLANNED(3, rule_of(3, 20, "", 3), PUT(1));
+    PLANNED(3, rule_of(3, 40, "", 3), COPY(0, 1), PUT(0));
+    PLANNED(3, rule_of(3, 5, "", 3), COPY(2, 1), PUT(2));
+    REFUSED(SLOTS(3), rule_of(3, 30, "", 3), TCAM_TIE, 0);
+    REFUSED(SLOTS(3), rule_of(3, 10, "", 3), TCAM_TIE, 2);
+}
+
+/* Choices that document 01 settles, one by one. */
+static void choices(void)
+{
+    /* the lowest of the slots that do, down */
+    clear();
+    PLANNED(5, rule_of(1, 1, "1", 1), PUT(0));
+    put(1, rule_of(2, 9, "1", 1));
+    PLANNED(5, rule_of(1, 1, "1", 1), PUT(2));
+    put(4, rule_of(3, 0, "1", 1));
+    PLANNED(5, rule_of(1, 1, "1", 1), PUT(2));
+    PLANNED(5, rule_of(1, 1, "0", 1), PUT(0));
+
+    /* the highest, up: of the slots that a displaced rule can go to, and of those that the new one can */
+    clear();
+    put(2, rule_of(2, 9, "1", 1));
+    put(3, rule_of(3, 5, "", 1));
+    PLANNED(4, rule_of(1, 7, "1", 1), COPY(2, 1), PUT(2));
+    clear();
+    put(1, rule_of(2, 9, "1", 1));
+    put(2, rule_of(3, 3, "0", 1));
+    put(3, rule_of(4, 3, "1", 1));
+    PLANNED(4, rule_of(1, 6, "1", 1), COPY(2, 0), PUT(2));
+
+    /* up, where down costs more; down, where up costs more */
+    clear();
+    put(1, rule_of(2, 50, "1", 1));
+    put(2, rule_of(3, 40, "1", 1));
+    put(3, rule_of(4, 30, "1", 1));
+    PLANNED(5, rule_of(1, 45, "1", 1), COPY(1, 0), PUT(1));
+    PLANNED(5, rule_of(1, 35, "1", 1), COPY(3, 4), PUT(3));
+    PLANNED(6, rule_of(1, 45, "1", 1), COPY(1, 0), PUT(1));
+
+    /* a displaced rule goes to the lowest empty slot, down, and no further than its nearest dependant */
+    clear();
+    put(0, rule_of(2, 20, "1", 1));
+    put(1, rule_of(3, 15, "0", 1));
+    PLANNED(4, rule_of(1, 30, "1", 1), COPY(0, 2), PUT(0));
+    put(1, rule_of(3, 15, "11", 1));
+    PLANNED(4, rule_of(1, 30, "1", 1), COPY(1, 2), COPY(0, 1), PUT(0));
+    PLANNED(4, rule_of(1, 30, "10", 1), COPY(1, 2), COPY(0, 1), PUT(0));
+
+    /* the dependant's own slot is used, after its rule has a copy further on */
+    clear();
+    put(0, rule_of(2, 20, "1", 1));
+    put(1, rule_of(3, 15, "1", 1));
+    PLANNED(3, rule_of(1, 17, "1", 1), COPY(1, 2), PUT(1));
+    PLANNED(3, rule_of(1, 12, "1", 1), PUT(2));
+
+    /* priorities of rules that do not overlap count for nothing */
+    clear();
+    put(0, rule_of(2, 1, "00", 1));
+    put(1, rule_of(3, 60000, "01", 1));
+    put(2, rule_of(4, 5, "10", 1));
+    PLANNED(5, rule_of(1, 30000, "11", 1), PUT(3));
+    PLANNED(5, rule_of(1, 30000, "10", 1), COPY(0, 3), PUT(0));
+    PLANNED(5, rule_of(1, 3, "1", 1), PUT(3));
+    REFUSED(SLOTS(5), rule_of(1, 30000, "0", 1), TCAM_CROSSED, 1);
+    REFUSED(SLOTS(5), rule_of(1, 3, "*0", 1), TCAM_CROSSED, 2);
+
+    /* bits of the low words decide too, and only both masks together */
+    clear();
+    put(0, (struct rule){2, 20, {0, 1}, {0, 1}, 1});
+    put(1, (struct rule){3, 10, {0, 0}, {0, 2}, 1});
+    PLANNED(3, ((struct rule){1, 30, {0, 0}, {0, 1}, 1}), COPY(1, 2), PUT(1));
+    PLANNED(3, ((struct rule){1, 30, {0, 2}, {0, 3}, 1}), PUT(2));
+    PLANNED(3, ((struct rule){1, 15, {0, 1}, {0, 3}, 1}), COPY(1, 2), PUT(1));
+    PLANNED(3, ((struct rule){1, 30, {0, 3}, {0, 3}, 1}), COPY(1, 2), COPY(0, 1), PUT(0));
+}
+
+/* Spots of refusals. */
+static void spots(void)
+{
+    struct rule fine = rule_of(99, 7, "0000", 1);
+
+    /* 1: lengths */
+    clear();
+    for (size_t words = 0; words <= 40; words++) {
+        if (words % 6 == 0 && words != 0)
+            continue;
+        REFUSED(words, fine, TCAM_SHAPE, 0);
+        KEPT(words, 1, TCAM_SHAPE, 0);
+    }
+    REFUSED(SLOTS(1025), fine, TCAM_SHAPE, 0);
+    REFUSED(SLOTS(1026), fine, TCAM_SHAPE, 0);
+    REFUSED(SLOTS(1024) + 1, fine, TCAM_SHAPE, 0);
+    REFUSED(SLOTS(1024) - 1, fine, TCAM_SHAPE, 0);
+    KEPT(SLOTS(1025), 1, TCAM_SHAPE, 0);
+
+    /* lengths of more than 16 bits: the one ends in those of a six, the other in those of a zero */
+    static uint64_t long_table[3 * 65536 + 6];
+    static uint32_t long_plan[65536];
+    uint32_t count = 77, spot = 78;
+    HERE;
+    CHECK(tcam_plan_insert(long_table, COUNT_OF(long_table), 1, 1, 0, 0, 0, 0, 1, long_plan, 1, &count, &spot) == TCAM_SHAPE);
+    CHECK(long_plan[0] == 0 && count == 77 && spot == 0);
+    spot = 78;
+    CHECK(tcam_plan_delete(long_table, COUNT_OF(long_table), 1, long_plan, 1, &count, &spot) == TCAM_SHAPE);
+    CHECK(long_plan[0] == 0 && count == 77 && spot == 0);
+    spot = 78;
+    CHECK(tcam_plan_insert(long_table, SLOTS(1), 1, 1, 0, 0, 0, 0, 1, long_plan, COUNT_OF(long_plan), &count, &spot) == TCAM_OK);
+    CHECK(long_plan[0] == PUT(0) && long_plan[1] == 0 && count == 1 && spot == 78);
+    count = 77;
+    long_table[4] = TCAM_ID_ACTION(1, 1);
+    CHECK(tcam_plan_delete(long_table, SLOTS(1), 1, long_plan, COUNT_OF(long_plan), &count, &spot) == TCAM_OK);
+    CHECK(long_plan[0] == EMPTYING(0) && long_plan[1] == 0 && count == 1 && spot == 78);
+
+    /* 2: the lowest record that is neither empty nor sound */
+    clear();
+    put(2, rule_of(1, 65536, "1", 1));
+    put(4, rule_of(2, 5, "1", 1));
+    table[SLOTS(5)] = 1;
+    REFUSED(SLOTS(6), fine, TCAM_RECORD, 2);
+    KEPT(SLOTS(6), 2, TCAM_RECORD, 2);
+    put(2, rule_of(1, 65535, "1", 1));
+    REFUSED(SLOTS(6), fine, TCAM_RECORD, 5);
+    KEPT(SLOTS(6), 2, TCAM_RECORD, 5);
+    table[SLOTS(5)] = 0;
+    table[SLOTS(5) + 4] = 1;
+    REFUSED(SLOTS(6), fine, TCAM_RECORD, 5);
+    table[SLOTS(5) + 4] = TCAM_ID_ACTION(3, 0);
+    PLANNED(6, fine, PUT(0));
+    table[SLOTS(5) + 5] = 0x100000000u;
+    REFUSED(SLOTS(6), fine, TCAM_RECORD, 5);
+    KEPT(SLOTS(6), 2, TCAM_RECORD, 5);
+
+    /* 3: the lowest slot whose id stands earlier; records need not be equal */
+    clear();
+    put(0, rule_of(5, 50, "00", 1));
+    put(1, rule_of(6, 40, "01", 1));
+    put(3, rule_of(6, 30, "10", 1));
+    put(4, rule_of(5, 20, "11", 1));
+    REFUSED(SLOTS(6), rule_of(6, 7, "1111", 1), TCAM_TWICE, 3);
+    KEPT(SLOTS(6), 6, TCAM_TWICE, 3);
+    put(3, rule_of(7, 30, "10", 1));
+    REFUSED(SLOTS(6), fine, TCAM_TWICE, 4);
+    put(4, rule_of(5, 50, "00", 1));
+    REFUSED(SLOTS(6), fine, TCAM_TWICE, 4);
+    KEPT(SLOTS(6), 5, TCAM_TWICE, 4);
+
+    /* 4: the lowest slot with an earlier overlapping rule of no higher priority */
+    clear();
+    put(0, rule_of(5, 20, "0", 1));
+    put(2, rule_of(6, 20, "1", 1));
+    put(3, rule_of(7, 20, "00", 1));
+    put(5, rule_of(8, 21, "01", 1));
+    REFUSED(SLOTS(6), fine, TCAM_ORDER, 3);
+    KEPT(SLOTS(6), 5, TCAM_ORDER, 3);
+    put(3, rule_of(7, 19, "00", 1));
+    REFUSED(SLOTS(6), fine, TCAM_ORDER, 5);
+    KEPT(SLOTS(6), 5, TCAM_ORDER, 5);
+    put(5, rule_of(8, 20, "01", 1));
+    REFUSED(SLOTS(6), fine, TCAM_ORDER, 5);
+    put(5, rule_of(8, 19, "01", 1));
+    PLANNED(6, fine, PUT(4));
+
+    /* 5: each bit of value outside the mask, id 0 */
+    for (int bit = 0; bit < 64; bit++) {
+        uint64_t one = (uint64_t)1 << bit;
+        REFUSED(SLOTS(6), ((struct rule){99, 7, {one, 0}, {~one, ALL}, 1}), TCAM_RULE, 0);
+        REFUSED(SLOTS(6), ((struct rule){99, 7, {0, one}, {ALL, ~one}, 1}), TCAM_RULE, 0);
+        REFUSED(SLOTS(6), ((struct rule){99, 7, {one, 0}, {0, one}, 1}), TCAM_RULE, 0);
+    }
+    REFUSED(SLOTS(6), rule_of(0, 7, "1", 1), TCAM_RULE, 0);
+    REFUSED(SLOTS(6), rule_of(0, 0, "", 0), TCAM_RULE, 0);
+    REFUSED(SLOTS(1), rule_of(0, 0, "", 0), TCAM_RULE, 0);
+
+    /* 6: its slot; 8: the lowest; an id in the table comes before a tie in an earlier slot */
+    REFUSED(SLOTS(6), rule_of(5, 7, "0000", 1), TCAM_KNOWN, 0);
+    REFUSED(SLOTS(6), rule_of(6, 7, "0000", 1), TCAM_KNOWN, 2);
+    REFUSED(SLOTS(6), rule_of(8, 20, "0000", 1), TCAM_KNOWN, 5);
+    REFUSED(SLOTS(6), rule_of(99, 19, "0", 1), TCAM_TIE, 3);
+    REFUSED(SLOTS(6), rule_of(99, 19, "01", 1), TCAM_TIE, 5);
+    REFUSED(SLOTS(6), rule_of(99, 20, "", 1), TCAM_TIE, 0);
+
+    /* 10: the highest slot that precedes */
+    clear();
+    put(0, rule_of(1, 5, "000", 1));
+    put(1, rule_of(2, 90, "001", 1));
+    put(2, rule_of(3, 5, "010", 1));
+    put(3, rule_of(4, 90, "011", 1));
+    put(5, rule_of(5, 5, "100", 1));
+    REFUSED(SLOTS(7), rule_of(99, 50, "", 1), TCAM_CROSSED, 3);
+    REFUSED(SLOTS(7), rule_of(99, 50, "00", 1), TCAM_CROSSED, 1);
+    REFUSED(SLOTS(7), rule_of(99, 50, "01", 1), TCAM_CROSSED, 3);
+    PLANNED(7, rule_of(99, 50, "0*1", 1), PUT(4));
+    PLANNED(7, rule_of(99, 50, "*00", 1), COPY(0, 4), PUT(0));
+
+    /* crossed is refused also where the class has a sequence: 1 to 4, 0 to 1, the new rule to 3 */
+    clear();
+    put(0, rule_of(1, 5, "1", 1));
+    put(1, rule_of(2, 5, "00", 1));
+    put(2, rule_of(3, 90, "01", 1));
+    struct rule between = rule_of(99, 50, "0", 1);
+    REFUSED(SLOTS(5), between, TCAM_CROSSED, 2);
+    CHECK(least_in_class(table, 5, &between) == 3);
+}
+
+/* Every set of faults at once: the one of the lowest number is named. */
+static void fault_sets(void)
+{
+    enum { SHAPE = 1, RECORD = 2, TWICE = 4, ORDER = 8, RULE = 16, KNOWN = 32, TIE = 64, FULL = 128, CROSSED = 256, SHORT = 512 };
+    static const struct {
+        uint32_t fault, number, spot;
+    } faults[] = {{SHAPE, 1, 0}, {RECORD, 2, 7}, {TWICE, 3, 4}, {ORDER, 4, 6}, {RULE, 5, 0},
+                  {KNOWN, 6, 6}, {TIE, 8, 3},    {FULL, 9, 0},  {CROSSED, 10, 2}};
+    static const uint32_t writes[] = {COPY(2, 8), PUT(2)};
+    static const size_t wrong_words[] = {SLOTS(9) - 1, SLOTS(9) + 1, SLOTS(9) + 3};
+
+    for (uint32_t set = 0; set < 1024; set++) {
+        size_t lowest = 0;
+        clear();
+        put(0, rule_of(1, 100, "1000", 1));
+        put(1, rule_of(2, set & CROSSED ? 10 : 90, "000", 1));
+        put(2, rule_of(3, set & CROSSED ? 90 : 10, "001", 1));
+        put(3, rule_of(4, set & TIE ? 50 : 10, "010", 1));
+        put(4, rule_of(set & TWICE ? 1 : 5, 30, "1001", 1));
+        put(5, rule_of(6, 20, "1010", 1));
+        put(6, rule_of(7, set & ORDER ? 20 : 10, "101", 1));
+        put(7, rule_of(8, set & RECORD ? 65536 : 20, "1100", 1));
+        if (set & FULL)
+            put(8, rule_of(9, 20, "1101", 1));
+        while (lowest < COUNT_OF(faults) && (set & faults[lowest].fault) == 0)
+            lowest++;
+        for (uint32_t variant = 0; variant < 3; variant++) {
+            struct rule rule = rule_of(set & KNOWN ? 7 : 99, 50, "0", 1);
+            size_t words = set & SHAPE ? wrong_words[variant] : SLOTS(9);
+            if (set & RULE && variant == 0)
+                rule.id = 0;
+            if (set & RULE && variant == 1)
+                rule.priority += 65536;
+            if (set & RULE && variant == 2)
+                rule.value[1] = 1;
+            HERE;
+            if (lowest < COUNT_OF(faults))
+                wanted(faults[lowest].number, faults[lowest].spot, NULL, 0);
+            else
+                wanted(0, 0, writes, 2);
+            ref_insert(table, words, &rule, &ref);
+            check_ref();
+            struct lent lent = lend(table, words, variant % 2);
+            call_insert(&lent, &rule, set & SHORT ? variant % 2 : 2 + variant, 1, &want);
+        }
+
+        /* a delete: RULE is id 0, and KNOWN stands for an id that is absent */
+        uint32_t id = set & RULE ? 0 : set & KNOWN ? 98 : 6, write = EMPTYING(5);
+        size_t words = set & SHAPE ? wrong_words[set % 3] : SLOTS(9);
+        HERE;
+        if (lowest < 5)
+            wanted(faults[lowest].number, faults[lowest].spot, NULL, 0);
+        else if (set & KNOWN)
+            wanted(7, 0, NULL, 0);
+        else
+            wanted(0, 0, &write, 1);
+        ref_delete(table, words, id, &ref);
+        check_ref();
+        struct lent lent = lend(table, words, (int)set % 2);
+        call_delete(&lent, id, set & SHORT ? 0 : 1 + set % 3, 1, &want);
+    }
+}
+
+/* 1,024 slots: one of them empty. */
+static void long_tables(void)
+{
+    static const uint32_t empties[] = {0, 512, 1023}, places[] = {0, 1, 511, 512, 513, 1023, 1024};
+    static uint32_t writes[TCAM_MAX_SLOTS];
+
+    /* every rule depends on all before it, and the new one comes before the rule of a slot: the rules between move by one */
+    for (size_t index = 0; index < COUNT_OF(empties) * COUNT_OF(places); index++) {
+        uint32_t hole = empties[index / COUNT_OF(places)], place = places[index % COUNT_OF(places)], count = 0;
+        clear();
+        for (uint32_t slot = 0; slot < 1024; slot++)
+            if (slot != hole)
+                put(slot, (struct rule){slot + 1, 60000 - 40 * slot, {0, 0}, {0, 0}, slot});
+        if (place <= hole) {
+            for (uint32_t slot = hole; slot > place; slot--)
+                writes[count++] = COPY(slot - 1, slot);
+            writes[count++] = PUT(place);
+        } else {
+            for (uint32_t slot = hole; slot < place - 1; slot++)
+                writes[count++] = COPY(slot + 1, slot);
+            writes[count++] = PUT(place - 1);
+        }
+        insert_case(__LINE__, 1024, (struct rule){5000, 60020 - 40 * place, {0, 0}, {0, 0}, 9}, 0, writes, count);
+    }
+
+    /* no rule overlaps another: one move is enough, over the whole table */
+    for (size_t index = 0; index < COUNT_OF(empties); index++) {
+        uint32_t hole = empties[index];
+        clear();
+        for (uint32_t slot = 0; slot < 1024; slot++)
+            if (slot != hole)
+                put(slot, (struct rule){slot + 1, slot % 7, {slot, 0}, {ALL, 0}, slot});
+        PLANNED(1024, ((struct rule){5000, 3, {1024, 1}, {ALL, 1}, 9}), PUT(hole));
+        REFUSED(SLOTS(1024), ((struct rule){700, 3, {1024, 1}, {ALL, 1}, 9}), TCAM_KNOWN, 699);
+        REFUSED(SLOTS(1024), ((struct rule){5000, 700 % 7, {700, 1}, {ALL, 1}, 9}), TCAM_TIE, 700);
+        DELETED(1024, 701, 700);
+        KEPT(SLOTS(1024), 701, TCAM_UNKNOWN, 0);
+    }
+    put(700, (struct rule){701, 0, {700, 0}, {ALL, 0}, 700});
+    PLANNED(1024, ((struct rule){5000, 9, {0, 0}, {ALL, 0}, 9}), COPY(0, 1023), PUT(0));
+    REFUSED(SLOTS(1024), ((struct rule){5000, 3, {0, 0}, {0, 0}, 9}), TCAM_TIE, 3);
+    REFUSED(SLOTS(1024), ((struct rule){5000, 3, {1, 0}, {~(uint64_t)4, 0}, 9}), TCAM_CROSSED, 5);
+    put(1023, (struct rule){1024, 1, {1023, 0}, {ALL, 0}, 1});
+    REFUSED(SLOTS(1024), ((struct rule){5000, 9, {0, 0}, {ALL, 0}, 9}), TCAM_FULL, 0);
+    memset(table, 0, SLOTS(1) * sizeof *table);
+    PLANNED(1024, ((struct rule){5000, 0, {1023, 0}, {ALL, 0}, 9}), COPY(1023, 0), PUT(1023));
+    DELETED(1024, 1024, 1023);
+    PLANNED(1024, ((struct rule){5000, 0, {1023, 0}, {ALL, 0}, 9}), PUT(0));
+
+    /* faults in the last slots */
+    put(1023, (struct rule){700, 1, {1023, 0}, {ALL, 0}, 1});
+    REFUSED(SLOTS(1024), ((struct rule){5000, 9, {0, 0}, {ALL, 0}, 9}), TCAM_TWICE, 1023);
+    put(1023, (struct rule){5001, 6, {1020, 0}, {ALL, 0}, 1});
+    REFUSED(SLOTS(1024), ((struct rule){5000, 9, {0, 0}, {ALL, 0}, 9}), TCAM_ORDER, 1023);
+    KEPT(SLOTS(1024), 5001, TCAM_ORDER, 1023);
+    put(1023, (struct rule){5001, 4, {1020, 0}, {ALL, 0}, 1});
+    PLANNED(1024, ((struct rule){5000, 9, {1, 0}, {ALL, 0}, 9}), PUT(0));
+    put(1023, (struct rule){5001, 65536, {1020, 0}, {ALL, 0}, 1});
+    REFUSED(SLOTS(1024), ((struct rule){5000, 9, {1, 0}, {ALL, 0}, 9}), TCAM_RECORD, 1023);
+    PLANNED(1023, ((struct rule){5000, 9, {1, 0}, {ALL, 0}, 9}), PUT(0));
+
+    /* no rule at all */
+    clear();
+    PLANNED(1024, rule_of(1, 1, "", 1), PUT(0));
+    KEPT(SLOTS(1024), 1, TCAM_UNKNOWN, 0);
+    put(1023, rule_of(2, 2, "", 1));
+    PLANNED(1024, rule_of(1, 1, "", 1), COPY(1023, 1022), PUT(1023));
+    put(0, rule_of(3, 3, "", 1));
+    PLANNED(1024, rule_of(1, 4, "", 1), COPY(0, 1), PUT(0));
+}
+
+/* ---- Made tables ---- */
+
+/* How often each kind of answer came: the random tables must reach them all. */
+static struct {
+    unsigned long refused[15], planned, of_count[TCAM_MAX_SLOTS + 1], whole, up, equal, choice_tie, hop_tie, on_dependant,
+        around_dependant, searched, deleted, not_deleted[15];
+} seen;
+
+static void count_insert(uint32_t slots, const struct told *told)
+{
+    if (told->number != TCAM_OK) {
+        seen.refused[told->number < 15 ? told->number : 0]++;
+        return;
+    }
+    seen.planned++;
+    seen.of_count[told->count]++;
+    seen.whole += told->count == slots && slots > 2;
+    seen.up += way.up != 0;
+    seen.equal += way.equal != 0;
+    seen.choice_tie += way.choice_tie != 0;
+    seen.hop_tie += way.hop_tie != 0;
+    seen.on_dependant += way.on_dependant != 0;
+    seen.around_dependant += way.around_dependant != 0;
+}
+
+/* An insert on a made table: each length of buffer that matters, carried out, and searched where the table is small. */
+static void made_insert(const struct lent *lent, uint32_t slots, const struct rule *rule, const struct keys *keys)
+{
+    ref_insert(lent->original, lent->words, rule, &ref);
+    count_insert(slots, &ref);
+    CHECK(ref.number < 15);
+    if (ref.number != TCAM_OK) {
+        call_insert(lent, rule, below(slots + 2), (int)below(2), &ref);
+        if (ref.number == TCAM_FULL && slots <= CLASS_SLOTS)
+            CHECK(least_in_class(lent->original, slots, rule) == 0);
+        return;
+    }
+    call_insert(lent, rule, ref.count - 1, (int)below(2), &ref);
+    seen.refused[TCAM_SHORT] += ref.count > 1;
+    if (ref.count > 2)
+        call_insert(lent, rule, below(ref.count), (int)below(2), &ref);
+    call_insert(lent, rule, ref.count, (int)below(2), &ref);
+
+    /* the plan as the library gives it, in a buffer that always does */
+    if (call_insert(lent, rule, slots + below(8), (int)below(2), &ref) != TCAM_OK)
+        return;
+    CHECK(cells.now[COUNT] <= plan.room);
+    if (cells.now[COUNT] > plan.room)
+        return;
+    carry_out_insert(lent->original, slots, rule, plan.words, cells.now[COUNT], keys);
+    if (slots <= CLASS_SLOTS) {
+        CHECK(least_in_class(lent->original, slots, rule) == cells.now[COUNT]);
+        seen.searched++;
+    }
+}
+
+static void made_delete(const struct lent *lent, uint32_t slots, uint32_t id)
+{
+    ref_delete(lent->original, lent->words, id, &ref);
+    if (ref.number == TCAM_OK) {
+        seen.deleted++;
+        call_delete(lent, id, 0, (int)below(2), &ref);
+        if (call_delete(lent, id, 1 + below(3), (int)below(2), &ref) == TCAM_OK)
+            carry_out_delete(lent->original, slots, id, plan.words, cells.now[COUNT]);
+    } else {
+        seen.not_deleted[ref.number]++;
+        call_delete(lent, id, below(3), (int)below(2), &ref);
+    }
+}
+
+/* Patterns of a few bits, at places of their own among the 128, over bits that all rules of a table have in common. */
+struct space {
+    uint32_t bits, place[4];
+    uint64_t value[2], mask[2]; /* in common */
+};
+
+/* digits: one of 0, 1 and 2 (not cared for) for each bit */
+static void set_digits(struct rule *rule, const struct space *space, const uint8_t *digits)
+{
+    for (int word = 0; word < 2; word++) {
+        rule->value[word] = space->value[word];
+        rule->mask[word] = space->mask[word];
+    }
+    for (uint32_t bit = 0; bit < space->bits; bit++) {
+        uint64_t one = TOP >> space->place[bit] % 64;
+        if (digits[bit] == 1)
+            rule->value[space->place[bit] / 64] |= one;
+        if (digits[bit] != 2)
+            rule->mask[space->place[bit] / 64] |= one;
+    }
+}
+
+/* Every key of the space; what is not common to the rules is random. */
+static void space_keys(struct keys *keys, const struct space *space)
+{
+    keys->count = 0;
+    for (uint32_t number = 0; number < (uint32_t)1 << space->bits; number++) {
+        uint64_t key[2];
+        for (int word = 0; word < 2; word++)
+            key[word] = space->value[word] | (random_word() & ~space->mask[word]);
+        for (uint32_t bit = 0; bit < space->bits; bit++) {
+            uint64_t one = TOP >> space->place[bit] % 64;
+            key[space->place[bit] / 64] &= ~one;
+            if (number >> bit & 1)
+                key[space->place[bit] / 64] |= one;
+        }
+        add_key(keys, key[0], key[1]);
+    }
+}
+
+/*
+ * All tables of 1 to 4 slots whose rules are patterns of two bits, with priorities that fall from slot to slot, and all
+ * new rules of such patterns with a priority between two of them, below or above. An insert that is not crossed depends
+ * on the overlaps and on the place among the priorities alone. With 4 slots three patterns of the new rule do: the
+ * others come of them by exchanging the bits or 0 and 1, for all rules of the table too.
+ */
+static void all_tables(void)
+{
+    static const struct space space = {2, {63, 64, 0, 0}, {0, 0}, {0, 0}};
+    static const uint8_t patterns[9][2] = {{0, 0}, {0, 2}, {2, 2}, {0, 1}, {1, 0}, {1, 1}, {1, 2}, {2, 0}, {2, 1}};
+    struct keys keys;
+    uint32_t tables = 1;
+
+    case_line = 0;
+    made_how = "small";
+    turn = 0;
+    space_keys(&keys, &space);
+    for (uint32_t slots = 1; slots <= 4; slots++) {
+        tables *= 10;
+        for (uint32_t number = 0; number < tables; number++) {
+            uint32_t rest = number;
+            clear();
+            for (uint32_t slot = 0; slot < slots; slot++, rest /= 10) {
+                struct rule rule = {slot + 1, 2 * (slots - slot), {0, 0}, {0, 0}, 50 + slot};
+                if (rest % 10 == 9)
+                    continue;
+                set_digits(&rule, &space, patterns[rest % 10]);
+                put(slot, rule);
+            }
+            struct lent lent = lend(table, SLOTS(slots), (int)number % 2);
+            for (uint32_t pattern = 0; pattern < (slots == 4 ? 3 : 9); pattern++)
+                for (uint32_t place = 0; place <= slots; place++) {
+                    struct rule rule = {90, 2 * place + 1, {0, 0}, {0, 0}, 91};
+                    set_digits(&rule, &space, patterns[pattern]);
+                    made_insert(&lent, slots, &rule, &keys);
+                    turn++;
+                }
+        }
+    }
+    HERE;
+    CHECK(turn == 10 * 18 + 100 * 27 + 1000 * 36 + 10000 * 15);
+    CHECK(seen.searched > turn / 4);
+    CHECK(seen.refused[TCAM_FULL] > turn / 4);
+}
+
+static void random_space(struct space *space)
+{
+    static const uint32_t places[4][4] = {{0, 1, 2, 3}, {127, 126, 125, 124}, {62, 63, 64, 65}, {5, 70, 40, 101}};
+    uint32_t choice = below(5);
+    space->bits = 2 + below(3);
+    for (uint32_t bit = 0; bit < 4; bit++)
+        space->place[bit] = choice < 4 ? places[choice][bit] : bit * 32 + below(32);
+    space->mask[0] = below(2) == 0 ? 0 : below(2) == 0 ? ALL : random_word();
+    space->mask[1] = below(2) == 0 ? 0 : below(2) == 0 ? ALL : random_word();
+    for (uint32_t bit = 0; bit < 4; bit++)
+        space->mask[space->place[bit] / 64] &= ~(TOP >> space->place[bit] % 64);
+    space->value[0] = random_word() & space->mask[0];
+    space->value[1] = random_word() & space->mask[1];
+}
+
+/* The ids of a table, all different. */
+static uint32_t made_id(uint32_t kind, uint32_t index)
+{
+    switch (kind) {
+    case 0: return index + 1;
+    case 1: return UINT32_MAX - index;
+    case 2: return 65536 * (index + 1);
+    default: return 0x9E3779B1u * (index + 1);
+    }
+}
+
+#define MADE_RULES TCAM_MAX_SLOTS
+
+/* Rules of a made table: their digits, and where they overlap. */
+static struct {
+    struct rule rule;
+    uint8_t digits[4];
+    int placed;
+} made[MADE_RULES + 1];
+
+static int made_overlap(const struct space *space, uint32_t a, uint32_t b)
+{
+    for (uint32_t bit = 0; bit < space->bits; bit++)
+        if (made[a].digits[bit] + made[b].digits[bit] == 1)
+            return 0;
+    return 1;
+}
+
+static void make_rule(const struct space *space, uint32_t index, uint32_t stars, uint32_t priorities)
+{
+    for (uint32_t bit = 0; bit < 4; bit++)
+        made[index].digits[bit] = (uint8_t)(below(8) < stars ? 2 : below(2));
+    set_digits(&made[index].rule, space, made[index].digits);
+    made[index].rule.priority = priorities == 65535 ? 65535 * below(2) : 2 * below(priorities / 2);
+    made[index].rule.action = below(4) == 0 ? UINT32_MAX : below(100);
+    made[index].placed = 0;
+}
+
+/* Rules that do not tie with each other; returns how many were found. */
+static uint32_t make_rules(const struct space *space, uint32_t wanted_rules, uint32_t stars, uint32_t priorities)
+{
+    for (uint32_t index = 0; index < wanted_rules; index++) {
+        int ties = 1;
+        for (uint32_t attempt = 0; attempt < 8 && ties; attempt++) {
+            ties = 0;
+            make_rule(space, index, stars, priorities);
+            for (uint32_t other = 0; other < index; other++)
+                ties |= made[other].rule.priority == made[index].rule.priority && made_overlap(space, other, index);
+        }
+        if (ties)
+            return index;
+    }
+    return wanted_rules;
+}
+
+/* One of the rules not yet placed that no other of them precedes: any, or the one of highest priority. */
+static uint32_t next_rule(const struct space *space, uint32_t rules, int by_priority)
+{
+    uint32_t chosen = rules, candidates = 0;
+    for (uint32_t index = 0; index < rules; index++) {
+        int first = !made[index].placed;
+        for (uint32_t other = 0; other < rules && first; other++)
+            if (!made[other].placed && made[other].rule.priority > made[index].rule.priority)
+                first = !by_priority && !made_overlap(space, other, index);
+        if (first && below(++candidates) == 0)
+            chosen = index;
+    }
+    made[chosen].placed = 1;
+    return chosen;
+}
+
+/* A table in order, at random: how many rules, which slots, and any of the orders that do. */
+static uint32_t make_table(const struct space *space, uint32_t slots, uint32_t *id_kind)
+{
+    static const uint32_t priority_ranges[] = {12, 24, 1000, 65536, 65535};
+    uint32_t fill = below(4), stars = 1 + below(7), left = slots;
+    int by_priority = below(3) == 0;
+    uint32_t rules = fill == 0 ? slots - 1 : fill == 1 && slots > 1 ? slots - 2 : below(slots + 1);
+    rules = make_rules(space, rules, stars, priority_ranges[below(5)]);
+    *id_kind = below(4);
+    clear();
+    for (uint32_t slot = 0, placed = 0; slot < slots && placed < rules; slot++, left--) {
+        if (below(left) >= rules - placed)
+            continue;
+        uint32_t index = next_rule(space, rules, by_priority);
+        made[index].rule.id = made_id(*id_kind, placed++);
+        put(slot, made[index].rule);
+    }
+    make_rule(space, rules, below(2) == 0 ? stars : 3 + below(6), priority_ranges[below(4)]);
+    made[rules].rule.id = made_id(*id_kind, rules);
+    if (rules > 0 && below(2) == 0) { /* a priority next to that of some rule */
+        uint32_t near = made[below(rules)].rule.priority;
+        made[rules].rule.priority = near == 65535 || (near > 0 && below(2) == 0) ? near - 1 : near + 1;
+    }
+    return rules;
+}
+
+static void swap_slots(uint32_t a, uint32_t b)
+{
+    for (uint32_t word = 0; word < TCAM_SLOT_WORDS; word++) {
+        uint64_t kept = table[SLOTS(a) + word];
+        table[SLOTS(a) + word] = table[SLOTS(b) + word];
+        table[SLOTS(b) + word] = kept;
+    }
+}
+
+/* Damage to the table, the new rule or both; returns the length lent. */
+static size_t damage(uint32_t slots, struct rule *rule)
+{
+    size_t words = SLOTS(slots);
+    if (below(12) == 0) /* out of order */
+        swap_slots(below(slots), below(slots));
+    if (below(24) == 0) { /* an id twice */
+        uint32_t from = below(slots), to = below(slots);
+        table[SLOTS(to) + 4] = table[SLOTS(from) + 4];
+    }
+    if (below(24) == 0) { /* any bit */
+        uint32_t bit = below(64 * 6 * slots);
+        table[bit / 64] ^= (uint64_t)1 << bit % 64;
+    }
+    if (below(48) == 0)
+        words = words - 1 - below(5) + (below(2) == 0 ? 6 : 0);
+    if (below(16) == 0) /* an id of the table, or 0 */
+        rule->id = id_of(table + SLOTS(below(slots)));
+    if (below(32) == 0)
+        rule->priority += 65536 * (1 + below(65535));
+    if (below(32) == 0)
+        rule->value[below(2)] |= (uint64_t)1 << below(64);
+    return words;
+}
+
+static void random_table(uint32_t slots)
+{
+    struct space space;
+    struct keys keys;
+    uint32_t id_kind;
+    random_space(&space);
+    uint32_t rules = make_table(&space, slots, &id_kind);
+    struct rule rule = made[rules].rule;
+    space_keys(&keys, &space);
+    size_t words = below(2) == 0 ? SLOTS(slots) : damage(slots, &rule);
+    struct lent lent = lend(table, words, (int)below(2));
+    made_insert(&lent, slots, &rule, &keys);
+    uint32_t id = below(8) == 0 ? made_id(id_kind, rules) : id_of(table + SLOTS(below(slots)));
+    made_delete(&lent, slots, id == 0 && below(4) != 0 ? made_id(id_kind, 0) : id);
+}
+
+static void random_tables(unsigned long tables)
+{
+    case_line = 0;
+    made_how = "random";
+    memset(&seen, 0, sizeof seen);
+    for (turn = 0; turn < tables; turn++)
+        random_table(1 + below(12));
+    if (tables < 100000)
+        return;
+
+    HERE;
+    CHECK(seen.refused[TCAM_SHAPE] > tables / 200);
+    CHECK(seen.refused[TCAM_RECORD] > tables / 200);
+    CHECK(seen.refused[TCAM_TWICE] > tables / 200);
+    CHECK(seen.refused[TCAM_ORDER] > tables / 200);
+    CHECK(seen.refused[TCAM_RULE] > tables / 100);
+    CHECK(seen.refused[TCAM_KNOWN] > tables / 200);
+    CHECK(seen.refused[TCAM_TIE] > tables / 100);
+    CHECK(seen.refused[TCAM_FULL] > tables / 50);
+    CHECK(seen.refused[TCAM_CROSSED] > tables / 100);
+    CHECK(seen.refused[TCAM_SHORT] > tables / 10);
+    CHECK(seen.planned > tables / 2);
+    CHECK(seen.of_count[1] > tables / 10);
+    for (uint32_t writes = 2; writes <= 6; writes++)
+        CHECK(seen.of_count[writes] > tables / 500);
+    for (uint32_t writes = 7; writes <= 10; writes++)
+        CHECK(seen.of_count[writes] > 0);
+    CHECK(seen.whole > tables / 1000);
+    CHECK(seen.up > tables / 20);
+    CHECK(seen.equal > tables / 100);
+    CHECK(seen.choice_tie > tables / 10);
+    CHECK(seen.hop_tie > tables / 20);
+    CHECK(seen.on_dependant > tables / 20);
+    CHECK(seen.around_dependant > tables / 100);
+    CHECK(seen.searched > tables / 5);
+    CHECK(seen.deleted > tables / 4);
+    CHECK(seen.not_deleted[TCAM_SHAPE] > tables / 200);
+    CHECK(seen.not_deleted[TCAM_RECORD] > tables / 200);
+    CHECK(seen.not_deleted[TCAM_TWICE] > tables / 200);
+    CHECK(seen.not_deleted[TCAM_ORDER] > tables / 200);
+    CHECK(seen.not_deleted[TCAM_RULE] > tables / 20);
+    CHECK(seen.not_deleted[TCAM_UNKNOWN] > tables / 20);
+}
+
+/* A few of more slots. */
+static void longer_tables(void)
+{
+    case_line = 0;
+    made_how = "longer";
+    for (turn = 0; turn < 200; turn++)
+        random_table(13 + below(turn % 50 == 49 ? 1012 : 60));
+}
+
+int main(int count, char **words)
+{
+    unsigned long tables = 102000;
+    if (count > 1)
+        seed = strtoull(words[1], NULL, 0);
+    if (count > 2)
+        tables = strtoul(words[2], NULL, 0);
+
+    open_pages(&table_pages, (SLOTS(MOST_SLOTS) + GUARDS) * sizeof(uint64_t));
+    open_pages(&plan_pages, (MOST_ROOM + PLAN_GUARDS) * sizeof(uint32_t));
+    random_state = seed;
+    names();
+    script();
+    edge_tables();
+    choices();
+    spots();
+    fault_sets();
+    long_tables();
+    all_tables();
+    random_tables(tables);
+    longer_tables();
+
+    if (failures != 0) {
+        fprintf(stderr, "plan_test: %lu of %lu checks failed\n", failures, checks);
+        return 1;
+    }
+    printf("plan_test: %lu checks passed\n", checks);
+    return 0;
+}
