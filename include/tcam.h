@@ -181,8 +181,8 @@ uint32_t tcam_slot_record(const uint64_t *table, size_t words, uint32_t slot, ui
  *   TCAM_KNOWN    the id is in the table. *spot is its slot.
  *   TCAM_TIE      a rule of the table overlaps the new one at equal priority. *spot is the lowest such slot.
  *   TCAM_FULL     no slot is empty. *spot is 0.
- *   TCAM_CROSSED  a rule that depends on the new one stands before a rule that precedes it. *spot is the
- *                 highest slot with a rule that precedes it.
+ *   TCAM_CROSSED  a rule that depends on the new one stands before a rule that precedes it, even where some
+ *                 sequence of writes would do. *spot is the highest slot with a rule that precedes it.
  *   TCAM_SHORT    plan_words is less than the count. *spot is the count: the words needed.
  * On these the buffer and *count are left as they were.
  *
