@@ -5,41 +5,7 @@
  *     lookup_test [seed [tables]]
  */
 #define _DEFAULT_SOURCE /* for mmap without a file */
-#include "tcam.h"
-
-#include <stdio.h>
-#include <stdlib.h>
-#include <string.h>
-#include <sys/mman.h>
-#include <unistd.h>
-
-#define ALL UINT64_MAX
-#define TOP 0x8000000000000000u
-#define SLOTS(n) ((size_t)(n) * TCAM_SLOT_WORDS)
-
-/* ---- Checks ---- */
-
-static unsigned long checks, failures;
-static int case_line;                 /* the case under test: its line in this file, 0 for a random one */
-static unsigned long long seed = 2026;
-static unsigned long turn;            /* the random table under test */
-
-static void check(int holds, const char *expression, int line)
-{
-    checks++;
-    if (holds)
-        return;
-    failures++;
-    if (failures > 20)
-        return;
-    fprintf(stderr, "%s:%d: failed: %s", __FILE__, line, expression);
-    if (case_line != 0)
-        fprintf(stderr, " (case at line %d)\n", case_line);
-    else
-        fprintf(stderr, " (random table %lu, seed %llu)\n", turn, seed);
-}
-
-#define CHECK(expression) check((expression) ? 1 : 0, #expression, __LINE__)
+#include "testing.h"
 
 /* ---- The reference: bit by bit, in the words of the rules for tables ---- */
 
@@ -134,70 +100,7 @@ static int ref_shown(const uint64_t *table, size_t words, uint32_t slot)
     return slot < ref_slots(words) && !ref_empty(table + 6 * slot);
 }
 
-/* ---- Lent buffers ---- */
-
-/*
- * Lent tables stand in pages of their own, at the first word or at the last. The pages before and behind cannot
- * be read or written. At its other end a table has guard words: rules that match every key, so that a slot read
- * too many shows in an answer.
- */
-#define MOST_WORDS SLOTS(TCAM_MAX_SLOTS + 2)
-#define GUARDS SLOTS(2)
-
-static const uint64_t guard_rule[TCAM_SLOT_WORDS] = {0, 0, 0, 0, TCAM_ID_ACTION(0x600D600D, 0x0BAD0BAD), 9};
-
-static uint64_t *pages;
-static size_t page_words;
-
-static void open_pages(void)
-{
-    size_t page = (size_t)sysconf(_SC_PAGESIZE);
-    size_t bytes = ((MOST_WORDS + GUARDS) * sizeof *pages + page - 1) / page * page;
-    char *mapped = mmap(NULL, bytes + 2 * page, PROT_NONE, MAP_PRIVATE | MAP_ANONYMOUS, -1, 0);
-    if (mapped == MAP_FAILED || mprotect(mapped + page, bytes, PROT_READ | PROT_WRITE) != 0) {
-        perror("lookup_test: pages");
-        exit(1);
-    }
-    pages = (uint64_t *)(void *)(mapped + page);
-    page_words = bytes / sizeof *pages;
-}
-
-static void protect_pages(int writable)
-{
-    if (mprotect(pages, page_words * sizeof *pages, writable ? PROT_READ | PROT_WRITE : PROT_READ) != 0) {
-        perror("lookup_test: pages");
-        exit(1);
-    }
-}
-
-struct lent {
-    const uint64_t *original; /* the table as it was */
-    uint64_t *table;          /* the copy that is lent */
-    uint64_t *guards;
-    size_t words;
-};
-
-static struct lent lend(const uint64_t *original, size_t words, int at_end)
-{
-    struct lent lent = {original, pages, pages + words, words};
-    if (at_end) {
-        lent.table = pages + page_words - words;
-        lent.guards = lent.table - GUARDS;
-    }
-    memcpy(lent.table, original, words * sizeof *original);
-    for (size_t index = 0; index < GUARDS; index++)
-        lent.guards[index] = guard_rule[index % TCAM_SLOT_WORDS];
-    return lent;
-}
-
-static void check_lent(const struct lent *lent)
-{
-    int guards_stay = 1;
-    CHECK(memcmp(lent->table, lent->original, lent->words * sizeof *lent->table) == 0);
-    for (size_t index = 0; index < GUARDS; index++)
-        guards_stay &= lent->guards[index] == guard_rule[index % TCAM_SLOT_WORDS];
-    CHECK(guards_stay);
-}
+/* ---- Lent cells ---- */
 
 /* Lent cells, each between guard words, all filled beforehand with marks that change from call to call. */
 enum { SLOT = 1, ID = 3, ACTION = 5, SPOT = 7, FIRST = 9, CELLS = 11 };
@@ -270,10 +173,10 @@ static void lookup_case(int line, const uint64_t *table, size_t words, uint64_t 
     CHECK(ref.slot == want.slot && ref.id == want.id && ref.action == want.action);
     for (int at_end = 0; at_end < 2; at_end++) {
         struct lent lent = lend(table, words, at_end);
-        protect_pages(0);
+        protect_table(0);
         call_lookup(lent.table, words, key_high, key_low, want);
         check_lent(&lent);
-        protect_pages(1);
+        protect_table(1);
     }
 }
 
@@ -283,21 +186,20 @@ static void record_case(int line, const uint64_t *table, size_t words, uint32_t 
     CHECK(ref_shown(table, words, slot) == shown);
     for (int at_end = 0; at_end < 2; at_end++) {
         struct lent lent = lend(table, words, at_end);
-        protect_pages(0);
+        protect_table(0);
         call_slot_record(lent.table, words, slot, shown);
         check_lent(&lent);
-        protect_pages(1);
+        protect_table(1);
     }
 }
 
 #define LOOKUP(table, words, key_high, key_low, want) lookup_case(__LINE__, table, words, key_high, key_low, want)
 #define SHOWN(table, words, slot) record_case(__LINE__, table, words, slot, 1)
 #define HIDDEN(table, words, slot) record_case(__LINE__, table, words, slot, 0)
-#define HERE (case_line = __LINE__)
 
 /* ---- Cases ---- */
 
-static uint64_t table[MOST_WORDS];
+static uint64_t table[SLOTS(MOST_SLOTS)];
 
 static void clear(void)
 {
@@ -667,21 +569,6 @@ static void slot_records(void)
 
 /* ---- Random tables ---- */
 
-static uint64_t random_state;
-
-static uint64_t random_word(void)
-{
-    uint64_t x = random_state += 0x9E3779B97F4A7C15u;
-    x = (x ^ x >> 30) * 0xBF58476D1CE4E5B9u;
-    x = (x ^ x >> 27) * 0x94D049BB133111EBu;
-    return x ^ x >> 31;
-}
-
-static uint32_t below(uint32_t limit)
-{
-    return (uint32_t)((random_word() >> 32) % limit);
-}
-
 static void flip(uint64_t *words, uint32_t count)
 {
     uint32_t bit = below(64 * count);
@@ -768,7 +655,7 @@ static void count_lookup(const uint64_t *made, size_t words, const uint64_t *key
 
 static void random_table(void)
 {
-    static uint64_t made[MOST_WORDS];
+    static uint64_t made[SLOTS(MOST_SLOTS)];
     uint32_t slots = turn % 1000 == 999 ? 13 + below(1012) : 1 + below(12);
     uint32_t empty_of_8 = below(2) == 0 ? 0 : below(8);
     size_t words = SLOTS(slots);
@@ -831,7 +718,7 @@ int main(int count, char **words)
     if (count > 2)
         tables = strtoul(words[2], NULL, 0);
 
-    open_pages();
+    open_pages(&table_pages, (SLOTS(MOST_SLOTS) + GUARDS) * sizeof(uint64_t));
     names();
     constant_table();
     shapes();
@@ -842,10 +729,5 @@ int main(int count, char **words)
     slot_records();
     random_tables(tables);
 
-    if (failures != 0) {
-        fprintf(stderr, "lookup_test: %lu of %lu checks failed\n", failures, checks);
-        return 1;
-    }
-    printf("lookup_test: %lu checks passed\n", checks);
-    return 0;
+    return verdict("lookup_test");
 }

@@ -6,61 +6,9 @@
  *     plan_test [seed [tables]]
  */
 #define _DEFAULT_SOURCE /* for mmap without a file */
-#include "tcam.h"
+#include "testing.h"
 
-#include <stdio.h>
-#include <stdlib.h>
-#include <string.h>
-#include <sys/mman.h>
-#include <unistd.h>
-
-#define ALL UINT64_MAX
-#define TOP 0x8000000000000000u
-#define SLOTS(n) ((size_t)(n) * TCAM_SLOT_WORDS)
 #define COUNT_OF(array) (sizeof(array) / sizeof *(array))
-
-/* ---- Checks ---- */
-
-static unsigned long checks, failures;
-static int case_line;                 /* the case under test: its line in this file, 0 for a made table */
-static const char *made_how = "";     /* how the table under test was made, and its number */
-static unsigned long turn;
-static unsigned long long seed = 2026;
-
-static void check(int holds, const char *expression, int line)
-{
-    checks++;
-    if (holds)
-        return;
-    failures++;
-    if (failures > 20)
-        return;
-    fprintf(stderr, "%s:%d: failed: %s", __FILE__, line, expression);
-    if (case_line != 0)
-        fprintf(stderr, " (case at line %d)\n", case_line);
-    else
-        fprintf(stderr, " (%s table %lu, seed %llu)\n", made_how, turn, seed);
-}
-
-#define CHECK(expression) check((expression) ? 1 : 0, #expression, __LINE__)
-#define HERE (case_line = __LINE__)
-
-/* ---- Random numbers ---- */
-
-static uint64_t random_state;
-
-static uint64_t random_word(void)
-{
-    uint64_t x = random_state += 0x9E3779B97F4A7C15u;
-    x = (x ^ x >> 30) * 0xBF58476D1CE4E5B9u;
-    x = (x ^ x >> 27) * 0x94D049BB133111EBu;
-    return x ^ x >> 31;
-}
-
-static uint32_t below(uint32_t limit)
-{
-    return (uint32_t)((random_word() >> 32) % limit);
-}
 
 /* ---- Rules and records ---- */
 
@@ -380,74 +328,11 @@ static void ref_delete(const uint64_t *table, size_t words, uint32_t id, struct 
 
 /* ---- Lent buffers ---- */
 
-/*
- * Lent tables and plans stand in pages of their own, at the first word or at the last. The pages before and behind
- * cannot be read or written. At the other end a table has guard words, rules that match every key, and a plan has
- * marks.
- */
-#define MOST_SLOTS (TCAM_MAX_SLOTS + 2)
-#define GUARDS SLOTS(2)
+/* Lent plans stand in pages too, as lent tables do, with marks at the other end. */
 #define MOST_ROOM (TCAM_MAX_SLOTS + 16)
 #define PLAN_GUARDS 8
 
-static const uint64_t guard_rule[TCAM_SLOT_WORDS] = {0, 0, 0, 0, TCAM_ID_ACTION(0x600D600D, 0x0BAD0BAD), 9};
-
-struct pages {
-    char *start;
-    size_t bytes;
-};
-
-static struct pages table_pages, plan_pages;
-
-static void open_pages(struct pages *pages, size_t least_bytes)
-{
-    size_t page = (size_t)sysconf(_SC_PAGESIZE);
-    pages->bytes = (least_bytes + page - 1) / page * page;
-    char *mapped = mmap(NULL, pages->bytes + 2 * page, PROT_NONE, MAP_PRIVATE | MAP_ANONYMOUS, -1, 0);
-    if (mapped == MAP_FAILED || mprotect(mapped + page, pages->bytes, PROT_READ | PROT_WRITE) != 0) {
-        perror("plan_test: pages");
-        exit(1);
-    }
-    pages->start = mapped + page;
-}
-
-static void protect_table(int writable)
-{
-    if (mprotect(table_pages.start, table_pages.bytes, writable ? PROT_READ | PROT_WRITE : PROT_READ) != 0) {
-        perror("plan_test: pages");
-        exit(1);
-    }
-}
-
-struct lent {
-    const uint64_t *original; /* the table as it was */
-    uint64_t *table;          /* the copy that is lent */
-    uint64_t *guards;
-    size_t words;
-};
-
-static struct lent lend(const uint64_t *original, size_t words, int at_end)
-{
-    uint64_t *pages = (uint64_t *)(void *)table_pages.start;
-    struct lent lent = {original, pages, pages + words, words};
-    if (at_end) {
-        lent.table = pages + table_pages.bytes / sizeof *pages - words;
-        lent.guards = lent.table - GUARDS;
-    }
-    memcpy(lent.table, original, words * sizeof *original);
-    for (size_t index = 0; index < GUARDS; index++)
-        lent.guards[index] = guard_rule[index % TCAM_SLOT_WORDS];
-    return lent;
-}
-
-static void check_lent(const struct lent *lent)
-{
-    int guards_stay = 1;
-    CHECK(memcmp(lent->table, lent->original, lent->words * sizeof *lent->table) == 0);
-    for (size_t index = 0; index < GUARDS; index++)
-        guards_stay &= lent->guards[index] == guard_rule[index % TCAM_SLOT_WORDS];
-    CHECK(guards_stay);
-}
+static struct pages plan_pages;
 
 /* Marks that change from word to word and from call to call. None is a word of a plan. */
 static uint32_t mark = 0xA5A5A5A5u;
@@ -1759,10 +1644,5 @@ int main(int count, char **words)
     random_tables(tables);
     longer_tables();
 
-    if (failures != 0) {
-        fprintf(stderr, "plan_test: %lu of %lu checks failed\n", failures, checks);
-        return 1;
-    }
-    printf("plan_test: %lu checks passed\n", checks);
-    return 0;
+    return verdict("plan_test");
 }

@@ -1,0 +1,143 @@
+/*
+ * What the test programs over the library share: counted checks, random numbers, and lent tables between pages that
+ * cannot be touched. A program defines _DEFAULT_SOURCE before it includes this, for mmap without a file.
+ */
+#ifndef TESTING_H
+#define TESTING_H
+
+#include "tcam.h"
+
+#include <stdio.h>
+#include <stdlib.h>
+#include <string.h>
+#include <sys/mman.h>
+#include <unistd.h>
+
+#define ALL UINT64_MAX
+#define TOP 0x8000000000000000u
+#define SLOTS(n) ((size_t)(n) * TCAM_SLOT_WORDS)
+
+/* ---- Checks ---- */
+
+static unsigned long checks, failures;
+static int case_line;                   /* the case under test: its line in the program, 0 for a made table */
+static const char *made_how = "random"; /* how the table under test was made, and its number */
+static unsigned long turn;
+static unsigned long long seed = 2026;
+
+static inline void check(int holds, const char *expression, const char *file, int line)
+{
+    checks++;
+    if (holds)
+        return;
+    failures++;
+    if (failures > 20)
+        return;
+    fprintf(stderr, "%s:%d: failed: %s", file, line, expression);
+    if (case_line != 0)
+        fprintf(stderr, " (case at line %d)\n", case_line);
+    else
+        fprintf(stderr, " (%s table %lu, seed %llu)\n", made_how, turn, seed);
+}
+
+#define CHECK(expression) check((expression) ? 1 : 0, #expression, __FILE__, __LINE__)
+#define HERE (case_line = __LINE__)
+
+/* The program's last line, and what it returns. */
+static inline int verdict(const char *program)
+{
+    if (failures != 0) {
+        fprintf(stderr, "%s: %lu of %lu checks failed\n", program, failures, checks);
+        return 1;
+    }
+    printf("%s: %lu checks passed\n", program, checks);
+    return 0;
+}
+
+/* ---- Random numbers ---- */
+
+static uint64_t random_state;
+
+static inline uint64_t random_word(void)
+{
+    uint64_t x = random_state += 0x9E3779B97F4A7C15u;
+    x = (x ^ x >> 30) * 0xBF58476D1CE4E5B9u;
+    x = (x ^ x >> 27) * 0x94D049BB133111EBu;
+    return x ^ x >> 31;
+}
+
+static inline uint32_t below(uint32_t limit)
+{
+    return (uint32_t)((random_word() >> 32) % limit);
+}
+
+/* ---- Lent tables ---- */
+
+/*
+ * Lent tables stand in pages of their own, at the first word or at the last. The pages before and behind cannot be
+ * read or written. At its other end a table has guard words: rules that match every key, so that a slot read too many
+ * shows in an answer.
+ */
+#define MOST_SLOTS (TCAM_MAX_SLOTS + 2)
+#define GUARDS SLOTS(2)
+
+static const uint64_t guard_rule[TCAM_SLOT_WORDS] = {0, 0, 0, 0, TCAM_ID_ACTION(0x600D600D, 0x0BAD0BAD), 9};
+
+struct pages {
+    char *start;
+    size_t bytes;
+};
+
+static struct pages table_pages;
+
+static inline void open_pages(struct pages *pages, size_t least_bytes)
+{
+    size_t page = (size_t)sysconf(_SC_PAGESIZE);
+    pages->bytes = (least_bytes + page - 1) / page * page;
+    char *mapped = mmap(NULL, pages->bytes + 2 * page, PROT_NONE, MAP_PRIVATE | MAP_ANONYMOUS, -1, 0);
+    if (mapped == MAP_FAILED || mprotect(mapped + page, pages->bytes, PROT_READ | PROT_WRITE) != 0) {
+        perror("pages");
+        exit(1);
+    }
+    pages->start = mapped + page;
+}
+
+static inline void protect_table(int writable)
+{
+    if (mprotect(table_pages.start, table_pages.bytes, writable ? PROT_READ | PROT_WRITE : PROT_READ) != 0) {
+        perror("pages");
+        exit(1);
+    }
+}
+
+struct lent {
+    const uint64_t *original; /* the table as it was */
+    uint64_t *table;          /* the copy that is lent */
+    uint64_t *guards;
+    size_t words;
+};
+
+static inline struct lent lend(const uint64_t *original, size_t words, int at_end)
+{
+    uint64_t *pages = (uint64_t *)(void *)table_pages.start;
+    struct lent lent = {original, pages, pages + words, words};
+    if (at_end) {
+        lent.table = pages + table_pages.bytes / sizeof *pages - words;
+        lent.guards = lent.table - GUARDS;
+    }
+    memcpy(lent.table, original, words * sizeof *original);
+    for (size_t index = 0; index < GUARDS; index++)
+        lent.guards[index] = guard_rule[index % TCAM_SLOT_WORDS];
+    return lent;
+}
+
+static inline void check_lent(const struct lent *lent)
+{
+    int guards_stay = 1;
+    CHECK(memcmp(lent->table, lent->original, lent->words * sizeof *lent->table) == 0);
+    for (size_t index = 0; index < GUARDS; index++)
+        guards_stay &= lent->guards[index] == guard_rule[index % TCAM_SLOT_WORDS];
+    CHECK(guards_stay);
+}
+
+#endif
