@@ -81,14 +81,20 @@ pub record DeletePlanned (w : ℕ) (t : List ℕ) (id : ℕ) : Type 0 where
   pub exists : slotOfId w t id < slots w t
   pub holds : hasId w t id (slotOfId w t id) ≡ true
   pub fits : fitsWord w t (writeWord (clear (slotOfId w t id))) ≡ true
+  pub once : checkTwice w t ≡ Pass
+  pub order : checkOrder w t ≡ Pass
   pub after : (rule : Rule) → applyWords w t rule (deleteWords w t id) ≡ putSlot w t (slotOfId w t id) (vacant w)
 
 pub delete-planned : (w : ℕ) (t : List ℕ) (id : ℕ) → deleteChecks w t id ≡ Pass → DeletePlanned w t id
 unfolding deleteChecks slotOfId checkUnknown hasId slotChecks tableChecks
-delete-planned w t id e = record { exists = exists; holds = holds; fits = fits; after = λ rule. ap (applyWrite w t rule) write }
+delete-planned w t id e = record { exists = exists; holds = holds; fits = fits; once = others .0; order = others .1; after = λ rule. ap (applyWrite w t rule) write }
   where
     checks : (tableChecks w t ≡ Pass) × (orElse (checkId id) (checkUnknown w t id) ≡ Pass)
     checks = or-else-pass (tableChecks w t) (orElse (checkId id) (checkUnknown w t id)) .0 e
+
+    others : (checkTwice w t ≡ Pass) × (checkOrder w t ≡ Pass)
+    others =
+        or-else-pass (checkTwice w t) (checkOrder w t) .0 (or-else-pass (slotChecks w t) (orElse (checkTwice w t) (checkOrder w t)) .0 (checks .0) .1)
 
     shape : checkShape w t ≡ Pass
     shape =

@@ -82,3 +82,8 @@ pub demand-3-call : (w : ℕ) (t : List ℕ) (rule : Rule) (plan after : List �
     → told ≡ insertAnswer w t rule (length plan) → after ≡ insertPlan w t rule plan → Insertable w t rule → Demand3 w t rule told plan after
 demand-3-call w t rule plan after told small e f insertable =
     subst₂ (λ (x : Told) (y : List ℕ). Demand3 w t rule x plan y) (sym e) (sym f) (demand-3 w t rule small insertable plan)
+
+-- with a buffer of just the words needed
+pub shortest-words : (w : ℕ) (t : List ℕ) (rule : Rule) → rule .action < 4294967296 → Insertable w t rule
+    → ShortestPlan w t rule (insertAnswer w t rule (length (insertWords w t rule))) (insertWords w t rule) (insertPlan w t rule (insertWords w t rule))
+shortest-words w t rule small insertable = demand-3 w t rule small insertable (insertWords w t rule) .shortest (omega arith)

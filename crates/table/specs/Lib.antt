@@ -7,4 +7,6 @@ pub mod Deletes
 pub mod Inserts
 pub mod Insertable
 pub mod Demand3
+pub mod Replies
+pub mod Soundness
 pub mod Tables

@@ -1,0 +1,164 @@
+-- Tables in the middle of an insert's plan pass checks 1 and 2, so that lookup answers on each of them, and the last one passes 1 to 4.
+-- A delete leaves a table that passes 1 to 4 too.
+use mathlib.Core.Path.{_≡_, refl, sym, ap, ap₂, subst, _∙_}
+use mathlib.Core.Bool.{Bool, true, false, not, cond, _&&_, true≢false}
+use mathlib.Core.Logic.{_↔_, _⊎_, ⊎-elim}
+use mathlib.Core.Logic._⊎_.{inl, inr}
+use mathlib.Core.List.{List, [], _∷_}
+use Prim.Native.Nat.{ℕ, _/_, _%_, _<_, _≤_}
+use native.Mathlib.Decide.{decLt}
+use native.Mathlib.Omega.{arith}
+use lib.Dec.{eqb, leb}
+use lib.ListN.{length, getD, take}
+use lib.Seq.{getD-take, take-all}
+use borrow.Table.Elements.{length-take-le}
+use borrow.Author.Tests.{not-true}
+use Rattle.search.specs.Search.{decided}
+use Rattle.ternary.specs.Pattern.{Words, within-cong}
+use Rattle.layout.specs.Order.{in-order-emptied}
+use Rattle.layout.specs.Held.{Held, emptied, unique-emptied, held-removed}
+use Rattle.layout.specs.Write.{clear}
+use Rattle.records.specs.Record.{word, recordWords, slotWords, value, mask, ident, rank, empty, sound, soundParts, soundRule, recordOf}
+use Rattle.records.specs.Order.{slots}
+use Rattle.records.specs.Checks.{orElse, shaped, checkShape, checkRecords, checkTwice, checkOrder, slotChecks, tableChecks}
+use Rattle.records.specs.Rules.{record-sound}
+use Rattle.records.specs.Laws.{or-else-pass, records-law}
+use Rattle.records.specs.Entries.{vacant, entries, entryOccupied, SameRecord, value-cong, mask-cong, ident-cong, rank-cong, entries-length, entry-same, entry-laws, occupied-at, order-entries, unique-entries}
+use Rattle.records.specs.Writes.{WordsBelow, applyWords, apply-length, apply-entries, apply-words-length, turn-below}
+use Rattle.records.specs.ClassWords.{InClassWords, class-words-law}
+use Rattle.records.specs.declared.Rule.{Rule}
+use Rattle.records.specs.declared.Check.the-variants.{Pass}
+use Rattle.table.specs.Deletes.{slotOfId, checkId, checkUnknown, deleteChecks, deleteWords, DeletePlanned, delete-planned}
+use Rattle.table.specs.Insertable.{Insertable, insertable-law}
+use Rattle.table.specs.Inserts.{insertWords, insertAnswer, insertPlan, plannable}
+use Rattle.table.specs.Demand3.{ShortestPlan, shortest-words}
+
+-- records of the same words are sound alike
+sound-same : (w : ℕ) (x y : Words) → SameRecord w x y → sound w x ≡ sound w y
+unfolding soundParts
+sound-same w x y s =
+    ap₂ (λ (i p : ℕ). soundParts w i p (value x) (mask w x)) (ident-cong w s) (rank-cong w s)
+    ∙ ap (λ (b : Bool). not (eqb (ident w y) 0) && leb (rank w y) 65535 && b) (within-cong w (value-cong w s) (mask-cong w s))
+
+-- check 2 passes exactly when every rule held is sound
+pub records-entries : (w : ℕ) (t : List ℕ)
+    → (checkRecords w t ≡ Pass) ↔ ((x : List ℕ) → Held (vacant w) (entryOccupied w) (entries w t) x → sound w (word x) ≡ true)
+records-entries w t = (forth, λ f. records-law w t .1 (back f))
+  where
+    forth : checkRecords w t ≡ Pass → (x : List ℕ) → Held (vacant w) (entryOccupied w) (entries w t) x → sound w (word x) ≡ true
+    forth e x (o, (i, b, same)) = ⊎-elim (λ v. absurd (vacated v)) (λ s. there ∙ s) (records-law w t .0 e i h)
+      where
+        h : i < slots w t
+        h = let n = entries-length w t in omega arith
+
+        there : sound w (word x) ≡ sound w (slotWords w t i)
+        there = ap (λ (y : List ℕ). sound w (word y)) (sym same) ∙ sound-same w _ _ (entry-same w t i h)
+
+        vacated : empty w (slotWords w t i) ≡ true → ⊥
+        vacated v = true≢false (sym o ∙ (ap (entryOccupied w) (sym same) ∙ (occupied-at w t i h ∙ ap not v)))
+
+    back : ((x : List ℕ) → Held (vacant w) (entryOccupied w) (entries w t) x → sound w (word x) ≡ true) → (i : ℕ) → i < slots w t
+        → (empty w (slotWords w t i) ≡ true) ⊎ (sound w (slotWords w t i) ≡ true)
+    back f i h = pick (decided (empty w (slotWords w t i)))
+      where
+        pick : (empty w (slotWords w t i) ≡ true) ⊎ (empty w (slotWords w t i) ≡ false) → (empty w (slotWords w t i) ≡ true) ⊎ (sound w (slotWords w t i) ≡ true)
+        pick (inl e) = inl e
+        pick (inr e) =
+            inr
+            (sym (sound-same w _ _ (entry-same w t i h))
+            ∙ f (getD (entries w t) i (vacant w)) (occupied-at w t i h ∙ ap not e, (i, (let n = entries-length w t in omega arith), refl)))
+
+-- check 1 reads the number of words alone
+shape-same : (w : ℕ) (t u : List ℕ) → length u ≡ length t → checkShape w u ≡ checkShape w t
+unfolding checkShape shaped
+shape-same w t u e = rw e
+
+-- the plan of an insert
+module _ (w : ℕ) (t : List ℕ) (rule : Rule) (small : rule .action < 4294967296) (insertable : Insertable w t rule) where
+  words : List ℕ
+  words = insertWords w t rule
+
+  planned : ShortestPlan w t rule (insertAnswer w t rule (length words)) words (insertPlan w t rule words)
+  unfolding words
+  planned = shortest-words w t rule small insertable
+
+  before : (checkShape w t ≡ Pass) × (checkRecords w t ≡ Pass)
+  unfolding tableChecks slotChecks
+  before = or-else-pass (checkShape w t) (checkRecords w t) .0 (or-else-pass (slotChecks w t) (orElse (checkTwice w t) (checkOrder w t)) .0 (insertable .table) .0)
+
+  below : WordsBelow (slots w t) words
+  unfolding words
+  below = turn-below w t rule words (⊎-elim (λ c. c .fits) (λ c. c .fits) (class-words-law w t rule words .0 (planned .class)))
+
+  kept : (k : ℕ) → k ≤ length words → checkShape w (applyWords w t rule (take k words)) ≡ Pass
+  kept k l =
+      let n = length-take-le k words l in
+      shape-same w t _ (apply-words-length w t rule (take k words) (λ j h. rw (getD-take k words j 0 (omega arith)) (below j (omega arith)))) ∙ before .0
+
+  -- before the last write the table passes checks 1 and 2
+  pub insert-between-checks : (k : ℕ) → k < length (insertWords w t rule) → slotChecks w (applyWords w t rule (take k (insertWords w t rule))) ≡ Pass
+  unfolding slotChecks words
+  insert-between-checks k h =
+      let after = applyWords w t rule (take k words) in
+      or-else-pass (checkShape w after) (checkRecords w after) .1
+      (kept k (omega arith), records-entries w after .1 (λ x m. records-entries w t .0 (before .1) x (planned .between k h .held x .0 m)))
+
+  -- after it the table passes checks 1 to 4
+  pub insert-after-checks : tableChecks w (applyWords w t rule (insertWords w t rule)) ≡ Pass
+  unfolding slotChecks tableChecks words
+  insert-after-checks =
+      or-else-pass (slotChecks w after) (orElse (checkTwice w after) (checkOrder w after)) .1 (
+        or-else-pass (checkShape w after) (checkRecords w after) .1 (shape, records-entries w after .1 held-sound),
+        or-else-pass (checkTwice w after) (checkOrder w after) .1 (unique-entries w after .0 (planned .placed .unique), order-entries w after .0 (planned .placed .order)),
+      )
+    where
+      after : List ℕ
+      after = applyWords w t rule words
+
+      shape : checkShape w after ≡ Pass
+      shape = ap (λ (l : List ℕ). checkShape w (applyWords w t rule l)) (sym (take-all (length words) words (omega arith))) ∙ kept (length words) (omega arith)
+
+      held-sound : (x : List ℕ) → Held (vacant w) (entryOccupied w) (entries w after) x → sound w (word x) ≡ true
+      held-sound x m =
+          ⊎-elim (λ old. records-entries w t .0 (before .1) x old)
+          (λ e. ap (λ (y : List ℕ). sound w (word y)) (sym e) ∙ (record-sound w rule small ∙ insertable .sound)) (planned .placed .held x .0 m)
+
+-- the one write of a delete
+pub delete-after-checks : (w : ℕ) (t : List ℕ) (id : ℕ) → deleteChecks w t id ≡ Pass → (rule : Rule) → tableChecks w (applyWords w t rule (deleteWords w t id)) ≡ Pass
+unfolding deleteChecks slotChecks tableChecks
+delete-after-checks w t id checks rule =
+    or-else-pass (slotChecks w after) (orElse (checkTwice w after) (checkOrder w after)) .1 (
+      or-else-pass (checkShape w after) (checkRecords w after) .1 (shape, records-entries w after .1 held-sound),
+      or-else-pass (checkTwice w after) (checkOrder w after) .1 (
+        unique-entries w after .0 (rw emptied-entries (unique-emptied (entry-laws w) (entries w t) s low (unique-entries w t .1 (p .once)))),
+        order-entries w after .0 (rw emptied-entries (in-order-emptied (entry-laws w) (entries w t) s (order-entries w t .1 (p .order)))),
+      ),
+    )
+  where
+    s : ℕ
+    s = slotOfId w t id
+
+    p : DeletePlanned w t id
+    p = delete-planned w t id checks
+
+    low : s < length (entries w t)
+    low = omega (arith, p .exists, entries-length w t)
+
+    after : List ℕ
+    after = applyWords w t rule (deleteWords w t id)
+
+    emptied-entries : entries w after ≡ emptied (vacant w) (entries w t) s
+    emptied-entries = ap (entries w) (p .after rule) ∙ apply-entries w t rule (clear s) (p .exists)
+
+    first : (checkShape w t ≡ Pass) × (checkRecords w t ≡ Pass)
+    first =
+        or-else-pass (checkShape w t) (checkRecords w t) .0
+        (or-else-pass (slotChecks w t) (orElse (checkTwice w t) (checkOrder w t)) .0 (or-else-pass (tableChecks w t) (orElse (checkId id) (checkUnknown w t id)) .0 checks .0) .0)
+
+    shape : checkShape w after ≡ Pass
+    shape = shape-same w t after (ap length (p .after rule) ∙ apply-length w t rule (clear s) (p .exists)) ∙ first .0
+
+    held-sound : (x : List ℕ) → Held (vacant w) (entryOccupied w) (entries w after) x → sound w (word x) ≡ true
+    held-sound x m =
+        records-entries w t .0 (first .1) x
+        (held-removed (entry-laws w) (entries w t) s low (λ k l d. unique-entries w t .1 (p .once) k s l low d) x .0 (rw emptied-entries at m) .0)
