@@ -29,9 +29,9 @@
  *
  * The library plans, the caller writes. On the table that a plan was drawn for, with the rule it was drawn
  * for, the writes are carried out one at a time, from the first word to the last. Then no write goes over a
- * rule that has no other copy, and the table is in order after each write. After the last write each old
- * rule stands in one slot and the new one too. In the middle of a plan a rule may stand twice: no planning
- * call takes such a table.
+ * rule that has no other copy, the table is in order after each write, and every key keeps its reply (id
+ * and action, or a miss) until the last write. After the last write each old rule stands in one slot and
+ * the new one too. In the middle of a plan a rule may stand twice: no planning call takes such a table.
  *
  * REPLIES. The result is 0 (TCAM_OK), or the number of the refusal. Data goes to the lent cells and the
  * lent plan. On a refusal only *spot is written and everything else is left as it was; on a success *spot
