@@ -1,0 +1,4 @@
+-- What a step answers, and the table and the writes done after it.
+-- Carrying: the definitions. Steps: what they say, and the ways in which a step ends.
+pub mod Carrying
+pub mod Steps

@@ -1,0 +1,162 @@
+-- What the definitions of a step say: the tests of one write as the code makes them, and the ways in which a step ends.
+-- A step that is refused or finished leaves the table and the writes done as they were.
+use mathlib.Core.Path.{_≡_, refl, sym, ap, subst, _∙_}
+use mathlib.Core.Bool.{Bool, true, false, not, cond, _&&_, _||_, Bool·not-not}
+use mathlib.Core.Logic.{_≢_}
+use mathlib.Core.List.{List, [], _∷_}
+use Prim.Native.Nat.{ℕ, _+_, _/_, _%_, _≤_, _<_}
+use lib.Dec.{eqb, ltb, leb}
+use lib.ListN.{length, getD}
+use native.Mathlib.Decide.{ℕ-discrete}
+use borrow.Author.Tests.{eq-eqb, ne-eqb, leb-true}
+use Rattle.search.specs.Search.{any, and-left, and-right}
+use Rattle.layout.specs.Write.{copy, put, clear}
+use Rattle.records.specs.Record.{slotWords, empty, occupied, soundRule, recordOf, putSlot, listed, recordWords, word}
+use Rattle.records.specs.Order.{slots}
+use Rattle.records.specs.Rules.{listed-words, record-length}
+use Rattle.records.specs.Checks.{Told, success, refusal, unless, passes, orElse, slotChecks}
+use Rattle.records.specs.Entries.{vacant, entryAt}
+use Rattle.records.specs.Laws.{or-else-pass, pass-law}
+use Rattle.records.specs.Writes.{writeOf, word-puts, word-clears, word-copies, freeAt, fitsWrite, fitsWord, applyWrite, applyWord, SlotsBelow, fits-below}
+use Rattle.records.specs.declared.Rule.{Rule}
+use Rattle.records.specs.declared.Cause.{Cause}
+use Rattle.records.specs.declared.Cause.the-variants.{Rule as RuleCause, Write as WriteCause}
+use Rattle.records.specs.declared.Check.{Check}
+use Rattle.records.specs.declared.Check.the-variants.{Pass, Fail}
+use Rattle.carrying.specs.Carrying.{heldAt, standsElsewhere, progressChecks, putSound, writeChecks, stepAnswer, stepWrites, stepTable, stepDone}
+
+-- a slot is free where it is empty, or where its id stands elsewhere
+pub free-empty : (w : ℕ) (t : List ℕ) (j : ℕ) → empty w (slotWords w t j) ≡ true → true ≡ freeAt w t j
+unfolding freeAt
+free-empty w t j e = rw e
+
+pub free-occupied : (w : ℕ) (t : List ℕ) (j : ℕ) → empty w (slotWords w t j) ≡ false → standsElsewhere w t j ≡ freeAt w t j
+unfolding freeAt standsElsewhere heldAt
+free-occupied w t j e = rw e
+
+-- a copy's tests, in the code's order
+pub copy-tests : (w : ℕ) (t : List ℕ) (from to : ℕ)
+    → fitsWrite w t (copy from to) ≡ (not (eqb from to) && fitsWrite w t (clear from)) && fitsWrite w t (put to)
+copy-tests w t from to =
+    turn (ltb from (slots w t)) (ltb to (slots w t)) (not (eqb from to)) (occupied w (slotWords w t from)) (freeAt w t to)
+  where
+    turn : (a b c d e : Bool) → a && (b && (c && (d && e))) ≡ (c && (a && d)) && (b && e)
+    turn true b true true e = refl
+    turn true true true false e = refl
+    turn true false true false e = refl
+    turn true true false d e = refl
+    turn true false false d e = refl
+    turn false b true d e = refl
+    turn false b false d e = refl
+
+pub copy-passed : (w : ℕ) (t : List ℕ) (from to : ℕ) {x y : Bool} → x ≡ fitsWrite w t (clear from) → y ≡ fitsWrite w t (put to)
+    → not (eqb from to) && x ≡ true → y ≡ fitsWrite w t (copy from to)
+copy-passed w t from to e f h =
+    f ∙ (ap (λ (b : Bool). b && fitsWrite w t (put to)) (sym (ap (λ (b : Bool). not (eqb from to) && b) (sym e) ∙ h)) ∙ sym (copy-tests w t from to))
+
+pub copy-stopped : (w : ℕ) (t : List ℕ) (from to : ℕ) {x : Bool} → x ≡ fitsWrite w t (clear from)
+    → not (eqb from to) && x ≡ false → false ≡ fitsWrite w t (copy from to)
+copy-stopped w t from to e h =
+    ap (λ (b : Bool). b && fitsWrite w t (put to)) (sym (ap (λ (b : Bool). not (eqb from to) && b) (sym e) ∙ h)) ∙ sym (copy-tests w t from to)
+
+-- a record of as many words as a slot has is stored whole
+pub stored : (w : ℕ) (t : List ℕ) (i : ℕ) {words x after : List ℕ} → after ≡ putSlot w t i (listed (recordWords w) (word words)) → words ≡ x
+    → length x ≡ recordWords w → after ≡ putSlot w t i x
+stored w t i {words} {x} e f n =
+    e ∙ ap (putSlot w t i) (ap (λ (l : List ℕ). listed (recordWords w) (word l)) f ∙ listed-words (recordWords w) x n)
+
+-- the three kinds of word
+module _ (w : ℕ) (t : List ℕ) (n : ℕ) where
+  pub put-fits : n / 65536 ≡ 65535 → fitsWrite w t (put (n % 65536)) ≡ fitsWord w t n
+  put-fits e = sym (ap (fitsWrite w t) (word-puts n e))
+
+  pub clear-fits : n / 65536 ≡ 65534 → fitsWrite w t (clear (n % 65536)) ≡ fitsWord w t n
+  clear-fits e = sym (ap (fitsWrite w t) (word-clears n e))
+
+  pub copy-fits : n / 65536 ≢ 65535 → n / 65536 ≢ 65534 → fitsWrite w t (copy (n / 65536) (n % 65536)) ≡ fitsWord w t n
+  copy-fits p c = sym (ap (fitsWrite w t) (word-copies n p c))
+
+  -- the table with the word's write made, by its slots
+  pub put-made : (rule : Rule) → n / 65536 ≡ 65535 → putSlot w t (n % 65536) (recordOf w rule) ≡ applyWord w t rule n
+  put-made rule e = sym (ap (applyWrite w t rule) (word-puts n e))
+
+  pub clear-made : (rule : Rule) → n / 65536 ≡ 65534 → putSlot w t (n % 65536) (vacant w) ≡ applyWord w t rule n
+  clear-made rule e = sym (ap (applyWrite w t rule) (word-clears n e))
+
+  pub copy-made : (rule : Rule) → n / 65536 ≢ 65535 → n / 65536 ≢ 65534 → putSlot w t (n % 65536) (entryAt w t (n / 65536)) ≡ applyWord w t rule n
+  copy-made rule p c = sym (ap (applyWrite w t rule) (word-copies n p c))
+
+  -- the slots of a word that fits exist
+  pub put-below : fitsWord w t n ≡ true → n / 65536 ≡ 65535 → n % 65536 < slots w t
+  put-below f e = subst (SlotsBelow (slots w t)) (word-puts n e) (fits-below w t (writeOf n) f)
+
+  pub clear-below : fitsWord w t n ≡ true → n / 65536 ≡ 65534 → n % 65536 < slots w t
+  clear-below f e = subst (SlotsBelow (slots w t)) (word-clears n e) (fits-below w t (writeOf n) f)
+
+  pub copy-below : fitsWord w t n ≡ true → n / 65536 ≢ 65535 → n / 65536 ≢ 65534 → (n / 65536 < slots w t) × (n % 65536 < slots w t)
+  copy-below f p c = subst (SlotsBelow (slots w t)) (word-copies n p c) (fits-below w t (writeOf n) f)
+
+  -- a rule is looked at only where one is put in
+  pub put-sound : (rule : Rule) → putSound w rule (writeOf n) ≡ not (eqb (n / 65536) 65535 && not (soundRule w rule))
+  put-sound rule = pick (ℕ-discrete (n / 65536) 65535) (ℕ-discrete (n / 65536) 65534)
+    where
+      pick : Dec (n / 65536 ≡ 65535) → Dec (n / 65536 ≡ 65534) → putSound w rule (writeOf n) ≡ not (eqb (n / 65536) 65535 && not (soundRule w rule))
+      pick (yes e) d = ap (putSound w rule) (word-puts n e) ∙ (sym (Bool·not-not (soundRule w rule)) ∙ rw (eq-eqb (n / 65536) 65535 e))
+      pick (no p) (yes e) = ap (putSound w rule) (word-clears n e) ∙ rw (ne-eqb (n / 65536) 65535 p)
+      pick (no p) (no c) = ap (putSound w rule) (word-copies n p c) ∙ rw (ne-eqb (n / 65536) 65535 p)
+
+  -- how the checks of the next write end
+  module _ (rule : Rule) (done : ℕ) {s : Bool} (e : s ≡ soundRule w rule) where
+    pub write-unsound : eqb (n / 65536) 65535 && not s ≡ true → Fail RuleCause 0 ≡ writeChecks w t rule n done
+    unfolding writeChecks
+    write-unsound h = rw (put-sound rule, ← e, h)
+
+    pub write-fits : {f : Bool} → eqb (n / 65536) 65535 && not s ≡ false → f ≡ fitsWord w t n → f ≡ true → Pass ≡ writeChecks w t rule n done
+    unfolding writeChecks
+    write-fits h g i = rw (put-sound rule, ← e, h, ← g, i)
+
+    pub write-unfit : {f : Bool} → eqb (n / 65536) 65535 && not s ≡ false → f ≡ fitsWord w t n → f ≡ false → Fail WriteCause done ≡ writeChecks w t rule n done
+    unfolding writeChecks
+    write-unfit h g i = rw (put-sound rule, ← e, h, ← g, i)
+
+-- how a step ends: the answer, the table and the writes done afterwards
+abbrev pub Ends : ℕ → List ℕ → List ℕ → Rule → ℕ → ℕ → Told → List ℕ → ℕ → Type 0
+Ends w t plan rule done total told after next =
+    (told ≡ stepAnswer w t plan rule done total) × (after ≡ stepTable w t plan rule done total) × (next ≡ stepDone w t plan rule done total)
+
+module _ (w : ℕ) (t plan : List ℕ) (rule : Rule) (done total : ℕ) {x : Check} (e : x ≡ progressChecks w t (length plan) done total) where
+  -- refused by 1, 2 or 12 on the progress
+  pub step-declined : {cause : Cause} {spot : ℕ} → x ≡ Fail cause spot → Ends w t plan rule done total (refusal cause spot) t done
+  unfolding stepAnswer stepTable stepDone stepWrites
+  step-declined f = let g = sym e ∙ f in (rw g, rw g, rw g)
+
+  -- finished
+  pub step-finished : x ≡ Pass → done ≡ total → Ends w t plan rule done total (success []) t done
+  unfolding stepAnswer stepTable stepDone stepWrites
+  step-finished f d = let g = sym e ∙ f in let b = eq-eqb done total d in (rw (g, b), rw (g, b), rw (g, b))
+
+  module _ (f : x ≡ Pass) (d : done ≢ total) {y : Check} (h : y ≡ writeChecks w t rule (getD plan done 0) done) where
+    -- refused by 5 or 12 on the write
+    pub step-unfit : {cause : Cause} {spot : ℕ} → y ≡ Fail cause spot → Ends w t plan rule done total (refusal cause spot) t done
+    unfolding stepAnswer stepTable stepDone stepWrites
+    step-unfit i = let g = sym e ∙ f in let b = ne-eqb done total d in let j = sym h ∙ i in (rw (g, b, j), rw (g, b, j), rw (g, b, j))
+
+    -- the write is made
+    pub step-wrote : y ≡ Pass → Ends w t plan rule done total (success ((done + 1) ∷ [])) (applyWord w t rule (getD plan done 0)) (done + 1)
+    unfolding stepAnswer stepTable stepDone stepWrites
+    step-wrote i = let g = sym e ∙ f in let b = ne-eqb done total d in let j = sym h ∙ i in (rw (g, b, j), rw (g, b, j), rw (g, b, j))
+
+-- a write that passes its checks fits
+pub checked-fits : (w : ℕ) (t : List ℕ) (rule : Rule) (n done : ℕ) → writeChecks w t rule n done ≡ Pass → fitsWord w t n ≡ true
+unfolding writeChecks
+checked-fits w t rule n done e =
+    pass-law WriteCause done (fitsWord w t n) .0
+    (or-else-pass (cond (putSound w rule (writeOf n)) Pass (Fail RuleCause 0)) (cond (fitsWord w t n) Pass (Fail WriteCause done)) .0 e .1)
+
+-- a progress that passes its check: done ≤ in all ≤ the plan's words
+pub progress-within : (w : ℕ) (t : List ℕ) (words done total : ℕ) → progressChecks w t words done total ≡ Pass → (done ≤ total) × (total ≤ words)
+unfolding progressChecks
+progress-within w t words done total e =
+    let h = pass-law WriteCause done (leb done total && leb total words) .0
+    (or-else-pass (slotChecks w t) (cond (leb done total && leb total words) Pass (Fail WriteCause done)) .0 e .1) in
+    (leb-true done total (and-left (leb done total) (leb total words) h), leb-true total words (and-right (leb done total) (leb total words) h))
