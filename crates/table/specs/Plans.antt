@@ -4,6 +4,8 @@ use mathlib.Core.Path.{_≡_, refl, sym, ap, ap₂, _∙_}
 use mathlib.Core.Bool.{Bool, true, false, cond, true≢false}
 use mathlib.Core.List.{List, [], _∷_, _++_}
 use Prim.Native.Nat.{ℕ, _<_, _≤_}
+use native.Mathlib.Decide.{decLt}
+use native.Mathlib.Omega.{arith}
 use lib.Dec.{eqb, ltb}
 use lib.ListN.{length, getD, drop}
 use borrow.Author.Tests.{lt-ltb, le-ltb}
@@ -66,3 +68,16 @@ plan-written words plan e f h =
     let g = sym e ∙ f in
     let s = le-ltb (length plan) (length words) h in
     (rw (g, s), rw (g, s))
+
+-- a planning call that answers with a success has passed its checks, and its words stand at the front of the buffer
+pub plan-accepted : (checks : Check) (words plan : List ℕ) (count : ℕ) → planAnswer checks (length words) (length plan) ≡ success (count ∷ [])
+    → (checks ≡ Pass) × (count ≡ length words) × (planBuffer checks words plan ≡ words ++ drop (length words) plan)
+plan-accepted (Fail cause spot) words plan count e =
+    absurd (true≢false (sym (ap (λ (t : Told). eqb (t .number) 0) (plan-refused words plan refl refl .0 ∙ e)) ∙ cause-not-zero cause))
+plan-accepted Pass words plan count e = pick (decLt (length plan) (length words))
+  where
+    pick : Dec (length plan < length words) → (Pass ≡ Pass) × (count ≡ length words) × (planBuffer Pass words plan ≡ words ++ drop (length words) plan)
+    pick (yes h) = absurd (true≢false (sym (ap (λ (t : Told). eqb (t .number) 0) (plan-short words plan refl refl h .0 ∙ e)) ∙ cause-not-zero Short))
+    pick (no h) =
+        let r = plan-written words plan refl refl (omega arith) in
+        (refl, sym (ap (λ (t : Told). getD (t .values) 0 0) (r .0 ∙ e)), sym (r .1))

@@ -1,0 +1,113 @@
+-- Document 01, demand 2: from an empty table, after any accepted inserts and deletes carried out in full, each key is answered by the
+-- highest-priority matching rule that was inserted and not since deleted, or by a miss.
+use mathlib.Core.Path.{_≡_, refl, sym, ap, _∙_, subst}
+use mathlib.Core.Bool.{Bool, true, false, not, true≢false}
+use mathlib.Core.Logic.{_↔_, _⊎_, _≢_}
+use mathlib.Core.Logic._⊎_.{inl, inr}
+use mathlib.Core.List.{List, [], _∷_}
+use Prim.Native.Nat.{ℕ, zero, suc, _+_, _*_, _≤_, _<_}
+use native.Mathlib.Decide.{decLe}
+use native.Mathlib.Omega.{arith}
+use lib.ListN.{length, getD, replicate, length-replicate}
+use Rattle.ternary.specs.Pattern.{Words}
+use Rattle.layout.specs.Held.{Held}
+use Rattle.records.specs.Record.{recordWords, slotWords, empty, recordOf}
+use Rattle.records.specs.Order.{slots}
+use Rattle.records.specs.Checks.{Told, success, orElse, checkShape, checkRecords, checkTwice, checkOrder, slotChecks, tableChecks}
+use Rattle.records.specs.Laws.{or-else-pass, shape-law, records-law, empty-law}
+use Rattle.records.specs.Entries.{vacant, entries, entryOccupied, entrySame, entryMisordered, entries-length, occupied-at, entry-laws, order-entries, unique-entries, refuted}
+use Rattle.records.specs.declared.Rule.{Rule}
+use Rattle.records.specs.declared.Check.the-variants.{Pass}
+use Rattle.table.specs.Inserts.{insertAnswer, insertPlan}
+use Rattle.table.specs.Deletes.{deleteAnswer, deletePlan}
+use Rattle.histories.specs.RuleSet.{Change, insert, delete, ruleSet, without, Member, setReply}
+use Rattle.histories.specs.Holding.{Replies, Holding, holding-lookup}
+use Rattle.histories.specs.Calls.{State, afterCalls, callAnswer}
+use Rattle.histories.specs.Demand2.{Demand2, demand-2-insert, demand-2-delete}
+
+-- a table of so many empty slots: all its words are zero
+abbrev pub emptyTable : ℕ → ℕ → List ℕ
+emptyTable w n = replicate (n * recordWords w) 0
+
+-- The tables that are reached by a history of changes, the latest first: an empty table by none; by an insert or a delete more, if the
+-- planning call accepts it and the step is called, with that plan and that count, until it answers "finished".
+pub data Reached (w : ℕ) : List Change → List ℕ → Type 0 where
+  start : (n : ℕ) → 1 ≤ n → n ≤ 1024 → Reached w [] (emptyTable w n)
+  inserted : (history : List Change) (t : List ℕ) → Reached w history t
+      → (rule : Rule) → rule .action < 4294967296 → (plan : List ℕ) (count : ℕ) → insertAnswer w t rule (length plan) ≡ success (count ∷ [])
+      → (calls : ℕ) → callAnswer w t (insertPlan w t rule plan) rule count calls ≡ success []
+      → Reached w (insert rule ∷ history) (afterCalls w t (insertPlan w t rule plan) rule count calls .table)
+  deleted : (history : List Change) (t : List ℕ) → Reached w history t
+      → (id : ℕ) (plan : List ℕ) (count : ℕ) → deleteAnswer w t id (length plan) ≡ success (count ∷ [])
+      → (rule : Rule) (calls : ℕ) → callAnswer w t (deletePlan w t id plan) rule count calls ≡ success []
+      → Reached w (delete id ∷ history) (afterCalls w t (deletePlan w t id plan) rule count calls .table)
+
+zero-word : (n k : ℕ) → _≡_ {A = ℕ} (getD (replicate n 0) k 0) 0
+zero-word zero k = refl
+zero-word (suc n) zero = refl
+zero-word (suc n) (suc k) = zero-word n k
+
+-- an empty table holds no rules
+module _ (w n : ℕ) (some : 1 ≤ n) (few : n ≤ 1024) where
+  t : List ℕ
+  t = emptyTable w n
+
+  slot-empty : (i : ℕ) → empty w (slotWords w t i) ≡ true
+  unfolding t
+  slot-empty i = empty-law w (slotWords w t i) .1 (λ j h. zero-word (n * recordWords w) (i * recordWords w + j))
+
+  abbrev entry : ℕ → List ℕ
+  entry i = getD (entries w t) i (vacant w)
+
+  entry-empty : (i : ℕ) → i < length (entries w t) → entryOccupied w (entry i) ≡ false
+  entry-empty i h = occupied-at w t i (omega (arith, entries-length w t)) ∙ ap not (slot-empty i)
+
+  pub empty-holding : Holding w [] (emptyTable w n)
+  unfolding t slotChecks tableChecks
+  empty-holding = record {
+    checks = or-else-pass (slotChecks w t) (orElse (checkTwice w t) (checkOrder w t)) .1 (
+      or-else-pass (checkShape w t) (checkRecords w t) .1 (
+        shape-law w t .1 (n, some, few, length-replicate (n * recordWords w) 0),
+        records-law w t .1 (λ i h. inl (slot-empty i)),
+      ),
+      or-else-pass (checkTwice w t) (checkOrder w t) .1 (
+        unique-entries w t .0 (λ i k a b d. refuted (λ e. true≢false (sym (entry-laws w .same-occupied (entry i) (entry k) e) ∙ entry-empty i a))),
+        order-entries w t .0 (λ i k l h. entry-laws w .misordered-left (entry i) (entry k) (entry-empty i (omega arith))),
+      ),
+    );
+    held = λ x. (λ m. absurd (true≢false (sym (m .0) ∙ (ap (entryOccupied w) (sym (m .1 .2)) ∙ entry-empty (m .1 .0) (m .1 .1)))), λ m. absurd (m .1));
+    actions = λ r m. absurd m;
+  }
+
+-- a plan that has answered "finished" is carried out in full
+finished-late : {w : ℕ} {t plan : List ℕ} {rule : Rule} {count : ℕ} {change : List Rule → List Rule} → Demand2 w t plan rule count change
+    → (calls : ℕ) → callAnswer w t plan rule count calls ≡ success [] → count ≤ calls
+finished-late {count = count} d calls e = pick (decLe count calls)
+  where
+    pick : Dec (count ≤ calls) → count ≤ calls
+    pick (yes h) = h
+    pick (no h) =
+        let n : _≡_ {A = ℕ} 1 0 = ap (λ (told : Told). length (told .values)) (sym (d .writes calls (omega arith)) ∙ e) in absurd (omega arith)
+
+carried : {w : ℕ} {t plan : List ℕ} {rule : Rule} {count : ℕ} {change : List Rule → List Rule} → Demand2 w t plan rule count change
+    → (rules : List Rule) → Holding w rules t → (calls : ℕ) → callAnswer w t plan rule count calls ≡ success []
+    → Holding w (change rules) (afterCalls w t plan rule count calls .table)
+carried {w} {change = change} d rules h calls e =
+    subst (λ (s : State). Holding w (change rules) (s .table)) (sym (d .rests calls (finished-late d calls e))) (d .holds rules h)
+
+-- every table reached is sound and holds exactly the rules inserted and not since deleted, each in one slot
+pub reached-holding : {w : ℕ} {history : List Change} {t : List ℕ} → Reached w history t → Holding w (ruleSet history) t
+reached-holding {w} (Reached.start n some few) = empty-holding w n some few
+reached-holding {w} (Reached.inserted history t before rule small plan count accepted calls finished) =
+    carried (demand-2-insert w t rule plan count small accepted) (ruleSet history) (reached-holding before) calls finished
+reached-holding {w} (Reached.deleted history t before id plan count accepted rule calls finished) =
+    carried (demand-2-delete w t id plan count rule accepted) (ruleSet history) (reached-holding before) calls finished
+
+-- every table reached passes checks 1 to 4
+pub reached-sound : {w : ℕ} {history : List Change} {t : List ℕ} → Reached w history t → tableChecks w t ≡ Pass
+reached-sound reached = reached-holding reached .checks
+
+-- and every key is answered by the highest-priority match among those rules, or by a miss
+pub reached-lookup : {w : ℕ} {history : List Change} {t : List ℕ} → Reached w history t → (key : Words)
+    → Replies w t key (setReply w (ruleSet history) key)
+reached-lookup {w} {history} {t} reached = holding-lookup w (ruleSet history) t (reached-holding reached)
