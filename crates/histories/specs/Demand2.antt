@@ -1,7 +1,7 @@
 -- Document 01, demand 2 within a plan: drawn for the table, carried out in order, from its start, with its own rule, on that table.
 -- Every key keeps its old reply until the last write, and from then on has the reply of the changed rules.
-use mathlib.Core.Path.{_≡_, refl, sym, ap, ap₂, _∙_, subst}
-use mathlib.Core.Bool.{Bool, true, false, true≢false}
+use mathlib.Core.Path.{_≡_, refl, sym, ap, _∙_, subst}
+use mathlib.Core.Bool.{true, false, true≢false}
 use mathlib.Core.Logic.{_↔_, _⊎_, ⊎-elim, _≢_}
 use mathlib.Core.Logic._⊎_.{inl, inr}
 use mathlib.Core.List.{List, [], _∷_, _++_}
@@ -38,7 +38,7 @@ use Rattle.table.specs.Soundness.{insert-between-checks, insert-after-checks, d
 use Rattle.carrying.specs.Carrying.{putSound}
 use Rattle.histories.specs.RuleSet.{Member, without, without-law, setReply}
 use Rattle.histories.specs.Holding.{Replies, looked-up, Holding, holding-lookup, checks-twice-order}
-use Rattle.histories.specs.Calls.{State, afterCalls, callAnswer, InTurn, calls-state, calls-write, calls-rest, calls-finished}
+use Rattle.histories.specs.Calls.{afterCalls, callAnswer, InTurn, calls-state, calls-write, calls-rest, calls-finished}
 
 -- What demand 2 promises of a plan of so many writes for a change of the rules, from the table that it was drawn for; the number of a call
 -- counts from 0.
@@ -77,12 +77,12 @@ module _
   demand-2 = record {
     writes = calls-write w t rule words plan turn;
     counted = λ k h. calls-state w t rule words plan turn k h .1;
-    finished = calls-finished w t rule words plan turn;
+    finished = λ k h. calls-finished w t rule words plan turn k (omega (arith, h));
     rests = stays;
     kept = λ k h key. subst (λ (u : List ℕ). Replies w u key (reply w t key)) (sym (calls-state w t rule words plan turn k (omega arith) .0))
-        (looked-up w (applyWords w t rule (take k words)) key (reply w t key) (turn .checks k (omega arith)) (keeps k h key));
+        (looked-up w (applyWords w t rule (take k words)) key (reply w t key) (turn .checks k (omega arith)) (keeps k (omega (arith, h)) key));
     holds = λ rules h. left rules h (length words) (omega arith);
-    changed = λ rules h k l key. holding-lookup w (change rules) (afterCalls w t plan rule (length words) k .table) (left rules h k l) key;
+    changed = λ rules h k l key. holding-lookup w (change rules) (afterCalls w t plan rule (length words) k .table) (left rules h k (omega (arith, l))) key;
   }
 
 -- a sound rule may be put in by any write
@@ -159,8 +159,8 @@ demand-2-insert w t rule plan count small e =
 
 -- the one write of an accepted delete
 module _ (w : ℕ) (t : List ℕ) (id : ℕ) (checks : deleteChecks w t id ≡ Pass) (rule : Rule) where
-  p : DeletePlanned w t id
-  p = delete-planned w t id checks
+  deletion : DeletePlanned w t id
+  deletion = delete-planned w t id checks
 
   sound-before : tableChecks w t ≡ Pass
   unfolding deleteChecks
@@ -171,13 +171,13 @@ module _ (w : ℕ) (t : List ℕ) (id : ℕ) (checks : deleteChecks w t id ≡ P
   few-slots = shaped-slots w t (or-else-pass (checkShape w t) (checkRecords w t) .0 (checks-twice-order w t sound-before .0) .0) .1
 
   clears : writeOf (writeWord (clear (slotOfId w t id))) ≡ clear (slotOfId w t id)
-  clears = write-of-word (clear (slotOfId w t id)) (omega (arith, p .exists, few-slots))
+  clears = write-of-word (clear (slotOfId w t id)) (omega (arith, deletion .exists, few-slots))
 
   delete-turn : (plan rest : List ℕ) → plan ≡ deleteWords w t id ++ rest → InTurn w t rule (deleteWords w t id) plan
   delete-turn plan rest e = record { rest = rest; front = e; fits = fits; sound = sound; checks = checked }
     where
       fits : (k : ℕ) → k < 1 → fitsWord w (applyWords w t rule (take k (deleteWords w t id))) (getD (deleteWords w t id) k 0) ≡ true
-      fits zero h = p .fits
+      fits zero h = deletion .fits
       fits (suc k) h = absurd (omega arith)
 
       sound : (k : ℕ) → k < 1 → putSound w rule (writeOf (getD (deleteWords w t id) k 0)) ≡ true
@@ -194,26 +194,26 @@ module _ (w : ℕ) (t : List ℕ) (id : ℕ) (checks : deleteChecks w t id ≡ P
   unfolding hasId
   has =
       let x = slotWords w t (slotOfId w t id) in
-      (and-right (eqb (ident w x) id) (occupied w x) (p .holds), eqb-true (ident w x) id (and-left (eqb (ident w x) id) (occupied w x) (p .holds)))
+      (and-right (eqb (ident w x) id) (occupied w x) (deletion .holds), eqb-true (ident w x) id (and-left (eqb (ident w x) id) (occupied w x) (deletion .holds)))
 
   abbrev entry : List ℕ
   entry = getD (entries w t) (slotOfId w t id) (vacant w)
 
   entry-id : ident w (word entry) ≡ id
-  entry-id = ident-cong w (entry-same w t (slotOfId w t id) (p .exists)) ∙ has .1
+  entry-id = ident-cong w (entry-same w t (slotOfId w t id) (deletion .exists)) ∙ has .1
 
   entry-occupied : entryOccupied w entry ≡ true
-  entry-occupied = occupied-at w t (slotOfId w t id) (p .exists) ∙ has .0
+  entry-occupied = occupied-at w t (slotOfId w t id) (deletion .exists) ∙ has .0
 
   removed : (x : List ℕ) → Held (vacant w) (entryOccupied w) (entries w (applyWords w t rule (deleteWords w t id))) x
       ↔ (Held (vacant w) (entryOccupied w) (entries w t) x × (entrySame w x entry ≡ false))
   removed x =
-      let low : slotOfId w t id < length (entries w t) = omega (arith, p .exists, entries-length w t) in
+      let low : slotOfId w t id < length (entries w t) = omega (arith, deletion .exists, entries-length w t) in
       let after : entries w (applyWords w t rule (deleteWords w t id)) ≡ emptied (vacant w) (entries w t) (slotOfId w t id) =
-      ap (entries w) (p .after rule) ∙ apply-entries w t rule (clear (slotOfId w t id)) (p .exists) in
+      ap (entries w) (deletion .after rule) ∙ apply-entries w t rule (clear (slotOfId w t id)) (deletion .exists) in
       rw after
       (held-removed (entry-laws w) (entries w t) (slotOfId w t id) low
-      (λ k l d. unique-entries w t .1 (p .once) k (slotOfId w t id) l low d) x)
+      (λ k l d. unique-entries w t .1 (deletion .once) k (slotOfId w t id) l low d) x)
 
   delete-leaves : (rules : List Rule) → Holding w rules t → Holding w (without id rules) (applyWords w t rule (deleteWords w t id))
   delete-leaves rules h = record {

@@ -1,7 +1,7 @@
 -- Document 01, demand 2: from an empty table, after any accepted inserts and deletes carried out in full, each key is answered by the
 -- highest-priority matching rule that was inserted and not since deleted, or by a miss.
 use mathlib.Core.Path.{_≡_, refl, sym, ap, _∙_, subst}
-use mathlib.Core.Bool.{Bool, true, false, not, true≢false}
+use mathlib.Core.Bool.{true, false, not, true≢false}
 use mathlib.Core.Logic.{_↔_, _⊎_, _≢_}
 use mathlib.Core.Logic._⊎_.{inl, inr}
 use mathlib.Core.List.{List, [], _∷_}
@@ -49,30 +49,30 @@ zero-word (suc n) (suc k) = zero-word n k
 
 -- an empty table holds no rules
 module _ (w n : ℕ) (some : 1 ≤ n) (few : n ≤ 1024) where
-  t : List ℕ
-  t = emptyTable w n
+  zeros : List ℕ
+  zeros = emptyTable w n
 
-  slot-empty : (i : ℕ) → empty w (slotWords w t i) ≡ true
-  unfolding t
-  slot-empty i = empty-law w (slotWords w t i) .1 (λ j h. zero-word (n * recordWords w) (i * recordWords w + j))
+  slot-empty : (i : ℕ) → empty w (slotWords w zeros i) ≡ true
+  unfolding zeros
+  slot-empty i = empty-law w (slotWords w zeros i) .1 (λ j h. zero-word (n * recordWords w) (i * recordWords w + j))
 
   abbrev entry : ℕ → List ℕ
-  entry i = getD (entries w t) i (vacant w)
+  entry i = getD (entries w zeros) i (vacant w)
 
-  entry-empty : (i : ℕ) → i < length (entries w t) → entryOccupied w (entry i) ≡ false
-  entry-empty i h = occupied-at w t i (omega (arith, entries-length w t)) ∙ ap not (slot-empty i)
+  entry-empty : (i : ℕ) → i < length (entries w zeros) → entryOccupied w (entry i) ≡ false
+  entry-empty i h = occupied-at w zeros i (omega (arith, entries-length w zeros)) ∙ ap not (slot-empty i)
 
   pub empty-holding : Holding w [] (emptyTable w n)
-  unfolding t slotChecks tableChecks
+  unfolding zeros slotChecks tableChecks
   empty-holding = record {
-    checks = or-else-pass (slotChecks w t) (orElse (checkTwice w t) (checkOrder w t)) .1 (
-      or-else-pass (checkShape w t) (checkRecords w t) .1 (
-        shape-law w t .1 (n, some, few, length-replicate (n * recordWords w) 0),
-        records-law w t .1 (λ i h. inl (slot-empty i)),
+    checks = or-else-pass (slotChecks w zeros) (orElse (checkTwice w zeros) (checkOrder w zeros)) .1 (
+      or-else-pass (checkShape w zeros) (checkRecords w zeros) .1 (
+        shape-law w zeros .1 (n, some, few, length-replicate (n * recordWords w) 0),
+        records-law w zeros .1 (λ i h. inl (slot-empty i)),
       ),
-      or-else-pass (checkTwice w t) (checkOrder w t) .1 (
-        unique-entries w t .0 (λ i k a b d. refuted (λ e. true≢false (sym (entry-laws w .same-occupied (entry i) (entry k) e) ∙ entry-empty i a))),
-        order-entries w t .0 (λ i k l h. entry-laws w .misordered-left (entry i) (entry k) (entry-empty i (omega arith))),
+      or-else-pass (checkTwice w zeros) (checkOrder w zeros) .1 (
+        unique-entries w zeros .0 (λ i k a b d. refuted (λ e. true≢false (sym (entry-laws w .same-occupied (entry i) (entry k) e) ∙ entry-empty i a))),
+        order-entries w zeros .0 (λ i k l h. entry-laws w .misordered-left (entry i) (entry k) (entry-empty i (omega arith))),
       ),
     );
     held = λ x. (λ m. absurd (true≢false (sym (m .0) ∙ (ap (entryOccupied w) (sym (m .1 .2)) ∙ entry-empty (m .1 .0) (m .1 .1)))), λ m. absurd (m .1));

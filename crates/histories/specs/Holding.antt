@@ -7,9 +7,10 @@ use mathlib.Core.Logic._⊎_.{inl, inr}
 use mathlib.Core.Option.{Option, none, some}
 use mathlib.Core.List.{List, [], _∷_}
 use Prim.Native.Nat.{ℕ, _<_, _≤_}
+use native.Mathlib.Decide.{decLt}
 use native.Mathlib.Omega.{arith}
 use lib.Dec.{ltb}
-use lib.ListN.{getD, drop}
+use lib.ListN.{length, getD, drop}
 use Rattle.search.specs.Search.{decided}
 use Rattle.ternary.specs.Pattern.{Words, Overlap, matches-cong, overlaps-law, matched-overlap}
 use Rattle.layout.specs.Order.{precedes}
@@ -64,23 +65,23 @@ checks-twice-order w t e =
     let b = or-else-pass (checkTwice w t) (checkOrder w t) .0 (a .1) in
     (a .0, b .0, b .1)
 
--- two rules that match one key, the first of no higher priority: the first before the second is out of order, or they have one id
-module _ (w : ℕ) (key : Words) (y x : List ℕ) where
-  not-above : entryOccupied w y ≡ true → entryOccupied w x ≡ true → entryMatches w key y ≡ true → entryMatches w key x ≡ true
-      → rank w (word y) ≤ rank w (word x) → precedes (entryMisordered w) y x ≡ false
-  not-above oy ox my mx l = pick (decided (entrySame w y x))
-    where
-      overlap : Overlap w (value (word y)) (mask w (word y)) (value (word x)) (mask w (word x))
-      overlap =
-          overlaps-law w (value (word y)) (mask w (word y)) (value (word x)) (mask w (word x)) .0
-          (matched-overlap w key (value (word y)) (mask w (word y)) (value (word x)) (mask w (word x)) my mx)
+-- of two rules that match one key the first, if its priority is not higher, may not stand before the second, unless they have one id
+module _ (w : ℕ) (key : Words) (y x : List ℕ) (oy : entryOccupied w y ≡ true) (ox : entryOccupied w x ≡ true)
+    (my : entryMatches w key y ≡ true) (mx : entryMatches w key x ≡ true) (l : rank w (word y) ≤ rank w (word x)) where
+  out-of-order : entrySame w y x ≡ false → entryMisordered w y x ≡ true
+  out-of-order s =
+      let differ : ident w (word y) ≡ ident w (word x) → ⊥ = λ e. true≢false (sym (same-id-law w (word y) (word x) .1 (oy, ox, e)) ∙ s) in
+      let overlap : Overlap w (value (word y)) (mask w (word y)) (value (word x)) (mask w (word x)) =
+      overlaps-law w (value (word y)) (mask w (word y)) (value (word x)) (mask w (word x)) .0
+      (matched-overlap w key (value (word y)) (mask w (word y)) (value (word x)) (mask w (word x)) my mx) in
+      misordered-law w (word y) (word x) .1 ((oy, ox, differ, overlap), l)
 
+  not-above : precedes (entryMisordered w) y x ≡ false
+  not-above = pick (decided (entrySame w y x))
+    where
       pick : (entrySame w y x ≡ true) ⊎ (entrySame w y x ≡ false) → precedes (entryMisordered w) y x ≡ false
       pick (inl s) = rw (entry-laws w .misordered-same x y (entry-laws w .same-symmetric y x s))
-      pick (inr s) =
-          let differ : ident w (word y) ≡ ident w (word x) → ⊥ = λ e. true≢false (sym (same-id-law w (word y) (word x) .1 (oy, ox, e)) ∙ s) in
-          let above : entryMisordered w y x ≡ true = misordered-law w (word y) (word x) .1 ((oy, ox, differ, overlap), l) in
-          rw above (and-false (entryMisordered w x y))
+      pick (inr s) = rw (out-of-order s) (and-false (entryMisordered w x y))
 
 module _ (w : ℕ) (rules : List Rule) (t : List ℕ) (h : Holding w rules t) (key : Words) where
   -- what is told of the rules' highest match, by its record
@@ -130,3 +131,37 @@ module _ (w : ℕ) (rules : List Rule) (t : List ℕ) (h : Holding w rules t) (k
 
   pub holding-lookup : Replies w t key (setReply w rules key)
   holding-lookup = looked-up w t key (setReply w rules key) (checks-twice-order w t (h .checks) .0) holding-reply
+
+  -- one rule is the highest: two rules of one priority that match a key have one record
+  pub holding-untied : (r s : Rule) → Member r rules → Member s rules → ruleMatches w key r ≡ true → ruleMatches w key s ≡ true
+      → r .priority ≡ s .priority → recordOf w r ≡ recordOf w s
+  holding-untied r s i k a b e = pick (h .held (recordOf w r) .1 (r, i, refl)) (h .held (recordOf w s) .1 (s, k, refl))
+    where
+      c : (slotChecks w t ≡ Pass) × (checkTwice w t ≡ Pass) × (checkOrder w t ≡ Pass)
+      c = checks-twice-order w t (h .checks)
+
+      ranks : rank w (word (recordOf w r)) ≡ rank w (word (recordOf w s))
+      ranks = record-rank w r ∙ (e ∙ sym (record-rank w s))
+
+      apart : (x y : List ℕ) (m n : ℕ) → n < length (entries w t) → m < n → getD (entries w t) m (vacant w) ≡ x → getD (entries w t) n (vacant w) ≡ y
+          → entryOccupied w x ≡ true → entryOccupied w y ≡ true → entryMatches w key x ≡ true → entryMatches w key y ≡ true
+          → rank w (word x) ≤ rank w (word y) → ⊥
+      apart x y m n l d f g ox oy mx my low =
+          let differ : entrySame w x y ≡ false = rw (f, g) at (unique-entries w t .1 (c .1) m n (omega arith) l (λ o. omega arith)) in
+          let fine : entryMisordered w x y ≡ false = rw (f, g) at (order-entries w t .1 (c .2) m n d l) in
+          true≢false (sym (out-of-order w key x y ox oy mx my low differ) ∙ fine)
+
+      pick : Held (vacant w) (entryOccupied w) (entries w t) (recordOf w r) → Held (vacant w) (entryOccupied w) (entries w t) (recordOf w s)
+          → recordOf w r ≡ recordOf w s
+      pick (o, (m, l, f)) (q, (n, d, g)) = order (decLt m n) (decLt n m)
+        where
+          mr : entryMatches w key (recordOf w r) ≡ true
+          mr = record-matches w key r ∙ a
+
+          ms : entryMatches w key (recordOf w s) ≡ true
+          ms = record-matches w key s ∙ b
+
+          order : Dec (m < n) → Dec (n < m) → recordOf w r ≡ recordOf w s
+          order (yes x) y = absurd (apart (recordOf w r) (recordOf w s) m n d x f g o q mr ms (omega (arith, ranks)))
+          order (no x) (yes y) = absurd (apart (recordOf w s) (recordOf w r) n m l y g f q o ms mr (omega (arith, ranks)))
+          order (no x) (no y) = let same : m ≡ n = omega arith in sym f ∙ (ap (λ (j : ℕ). getD (entries w t) j (vacant w)) same ∙ g)
