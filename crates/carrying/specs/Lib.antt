@@ -1,4 +1,5 @@
 -- What a step answers, and the table and the writes done after it.
--- Carrying: the definitions. Steps: what they say, and the ways in which a step ends.
+-- Carrying: the definitions. Steps: what they say, and the ways in which a step ends. Calls: step after step.
 pub mod Carrying
 pub mod Steps
+pub mod Calls

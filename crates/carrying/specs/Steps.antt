@@ -16,14 +16,15 @@ use Rattle.records.specs.Order.{slots}
 use Rattle.records.specs.Rules.{listed-words, record-length}
 use Rattle.records.specs.Checks.{Told, success, refusal, unless, passes, orElse, slotChecks}
 use Rattle.records.specs.Entries.{vacant, entryAt}
-use Rattle.records.specs.Laws.{or-else-pass, pass-law}
+use Rattle.records.specs.Laws.{or-else-pass, pass-law, cause-not-zero}
 use Rattle.records.specs.Writes.{writeOf, word-puts, word-clears, word-copies, freeAt, fitsWrite, fitsWord, applyWrite, applyWord, SlotsBelow, fits-below}
 use Rattle.records.specs.declared.Rule.{Rule}
 use Rattle.records.specs.declared.Cause.{Cause}
 use Rattle.records.specs.declared.Cause.the-variants.{Rule as RuleCause, Write as WriteCause}
 use Rattle.records.specs.declared.Check.{Check}
 use Rattle.records.specs.declared.Check.the-variants.{Pass, Fail}
-use Rattle.carrying.specs.Carrying.{heldAt, standsElsewhere, progressChecks, putSound, writeChecks, stepAnswer, stepWrites, stepTable, stepDone}
+use Rattle.carrying.specs.declared.StepAnswer.{StepAnswer}
+use Rattle.carrying.specs.Carrying.{stepTold, heldAt, standsElsewhere, progressChecks, putSound, writeChecks, stepAnswer, stepWrites, stepTable, stepDone}
 
 -- a slot is free where it is empty, or where its id stands elsewhere
 pub free-empty : (w : ℕ) (t : List ℕ) (j : ℕ) → empty w (slotWords w t j) ≡ true → true ≡ freeAt w t j
@@ -145,6 +146,31 @@ module _ (w : ℕ) (t plan : List ℕ) (rule : Rule) (done total : ℕ) {x : Che
     pub step-wrote : y ≡ Pass → Ends w t plan rule done total (success ((done + 1) ∷ [])) (applyWord w t rule (getD plan done 0)) (done + 1)
     unfolding stepAnswer stepTable stepDone stepWrites
     step-wrote i = let g = sym e ∙ f in let b = ne-eqb done total d in let j = sym h ∙ i in (rw (g, b, j), rw (g, b, j), rw (g, b, j))
+
+-- the writes done after an answer: those that a write tells, or as many as before
+abbrev pub doneTold : Told → ℕ → ℕ
+doneTold told before = cond (eqb (told .number) 0) (getD (told .values) 0 before) before
+
+pub done-refused : (cause : Cause) (spot before : ℕ) → doneTold (refusal cause spot) before ≡ before
+done-refused cause spot before = rw (cause-not-zero cause)
+
+-- a step's answer tells the writes done after it
+pub done-told : (w : ℕ) (t plan : List ℕ) (rule : Rule) (done total : ℕ)
+    → doneTold (stepAnswer w t plan rule done total) done ≡ stepDone w t plan rule done total
+unfolding stepAnswer stepDone stepWrites
+done-told w t plan rule done total =
+    turn (progressChecks w t (length plan) done total) (eqb done total) (writeChecks w t rule (getD plan done 0) done)
+  where
+    turn : (x : Check) (b : Bool) (y : Check)
+        → doneTold (unless x (cond b (success []) (unless y (success ((done + 1) ∷ []))))) done ≡ cond (passes x && (not b && passes y)) (done + 1) done
+    turn Pass true y = refl
+    turn Pass false Pass = refl
+    turn Pass false (Fail cause spot) = done-refused cause spot done
+    turn (Fail cause spot) b y = done-refused cause spot done
+
+pub answer-done : (w : ℕ) (t plan : List ℕ) (rule : Rule) (done total : ℕ) {a b : StepAnswer} → a ≡ b → stepTold a ≡ stepAnswer w t plan rule done total
+    → doneTold (stepTold b) done ≡ stepDone w t plan rule done total
+answer-done w t plan rule done total e f = ap (λ (told : Told). doneTold told done) (sym (ap stepTold e) ∙ f) ∙ done-told w t plan rule done total
 
 -- a write that passes its checks fits
 pub checked-fits : (w : ℕ) (t : List ℕ) (rule : Rule) (n done : ℕ) → writeChecks w t rule n done ≡ Pass → fitsWord w t n ≡ true

@@ -36,9 +36,10 @@ use Rattle.table.specs.Deletes.{hasId, slotOfId, checkId, checkUnknown, deleteC
 use Rattle.table.specs.Replies.{insert-keeps-reply}
 use Rattle.table.specs.Soundness.{insert-between-checks, insert-after-checks, delete-after-checks}
 use Rattle.carrying.specs.Carrying.{putSound}
+use Rattle.carrying.specs.Calls.{afterCalls, callAnswer}
 use Rattle.histories.specs.RuleSet.{Member, without, without-law, setReply}
 use Rattle.histories.specs.Holding.{Replies, looked-up, Holding, holding-lookup, checks-twice-order}
-use Rattle.histories.specs.Calls.{afterCalls, callAnswer, InTurn, calls-state, calls-write, calls-rest, calls-finished}
+use Rattle.histories.specs.InTurn.{InTurn, calls-state, calls-write, calls-rest, calls-finished}
 
 -- What demand 2 promises of a plan of so many writes for a change of the rules, from the table that it was drawn for; the number of a call
 -- counts from 0.

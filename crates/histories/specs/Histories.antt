@@ -22,7 +22,7 @@ use Rattle.table.specs.Inserts.{insertAnswer, insertPlan}
 use Rattle.table.specs.Deletes.{deleteAnswer, deletePlan}
 use Rattle.histories.specs.RuleSet.{Change, insert, delete, ruleSet, without, Member, setReply}
 use Rattle.histories.specs.Holding.{Replies, Holding, holding-lookup}
-use Rattle.histories.specs.Calls.{State, afterCalls, callAnswer}
+use Rattle.carrying.specs.Calls.{State, afterCalls, callAnswer}
 use Rattle.histories.specs.Demand2.{Demand2, demand-2-insert, demand-2-delete}
 
 -- a table of so many empty slots: all its words are zero

@@ -1,9 +1,9 @@
 -- Demand 2 of document 01. RuleSet: the rules inserted and not since deleted, and the highest-priority match among them, without slots.
--- Holding, TableRules: a table and the rules it holds. Calls: a plan, call by call. Demand2: within a plan. Histories: from an empty table on.
+-- Holding, TableRules: a table and the rules it holds. InTurn: a plan, call by call. Demand2: within a plan. Histories: from an empty table on.
 pub mod RuleSet
 pub mod Holding
 pub mod TableRules
-pub mod Calls
+pub mod InTurn
 pub mod Demand2
 pub mod Histories
 pub mod Examples

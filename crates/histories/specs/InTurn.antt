@@ -1,5 +1,5 @@
--- A plan carried out call by call: the table and the writes done after each call of the step, and each call's answer.
--- Where every write fits in its turn, each call makes one write, and the calls after the last answer "finished".
+-- A plan whose writes fit in their turn, carried out call by call: each call makes one write, and the calls after the last answer "finished".
+-- The state after each call is the table with so many writes made.
 use mathlib.Core.Path.{_≡_, refl, sym, ap, ap₂, _∙_, subst}
 use mathlib.Core.Bool.{Bool, true, cond, _&&_}
 use mathlib.Core.Logic.{_≢_}
@@ -19,29 +19,8 @@ use Rattle.records.specs.declared.Rule.{Rule}
 use Rattle.records.specs.declared.Cause.the-variants.{Rule as RuleCause, Write as WriteCause}
 use Rattle.records.specs.declared.Check.the-variants.{Pass, Fail}
 use Rattle.carrying.specs.Carrying.{progressChecks, putSound, writeChecks, stepAnswer, stepTable, stepDone}
+use Rattle.carrying.specs.Calls.{afterCalls, callAnswer}
 use Rattle.carrying.specs.Steps.{Ends, step-wrote, step-finished}
-
--- the table and the writes done so far
-pub record State : Type 0 where
-  pub table : List ℕ
-  pub done : ℕ
-
--- with the same plan, rule and writes in all each call takes the state that the call before left
-abbrev pub nextState : ℕ → List ℕ → Rule → ℕ → State → State
-nextState w plan rule total s = record {
-  table = stepTable w (s .table) plan rule (s .done) total;
-  done = stepDone w (s .table) plan rule (s .done) total;
-}
-
--- the state after so many calls, from the plan's start
-abbrev pub afterCalls : ℕ → List ℕ → List ℕ → Rule → ℕ → ℕ → State
-afterCalls w t plan rule total zero = record { table = t; done = 0 }
-afterCalls w t plan rule total (suc calls) = nextState w plan rule total (afterCalls w t plan rule total calls)
-
--- what the call after so many answers
-abbrev pub callAnswer : ℕ → List ℕ → List ℕ → Rule → ℕ → ℕ → Told
-callAnswer w t plan rule total calls =
-    stepAnswer w (afterCalls w t plan rule total calls .table) plan rule (afterCalls w t plan rule total calls .done) total
 
 -- words whose writes fit in their turn, at the front of a plan buffer
 pub record InTurn (w : ℕ) (t : List ℕ) (rule : Rule) (words plan : List ℕ) : Type 0 where

@@ -1,0 +1,36 @@
+-- A plan carried out call by call: the table and the writes done after each call of the step, and each call's answer.
+-- For any table, plan and rule; what they come to for a plan that was drawn for the table is demand 2.
+use mathlib.Core.Path.{_≡_, ap}
+use mathlib.Core.List.{List}
+use Prim.Native.Nat.{ℕ, zero, suc, _+_}
+use native.Mathlib.Numerals.{add-one}
+use Rattle.records.specs.Checks.{Told}
+use Rattle.records.specs.declared.Rule.{Rule}
+use Rattle.carrying.specs.Carrying.{stepAnswer, stepTable, stepDone}
+
+-- the table and the writes done so far
+pub record State : Type 0 where
+  pub table : List ℕ
+  pub done : ℕ
+
+-- with the same plan, rule and writes in all each call takes the state that the call before left
+abbrev pub nextState : ℕ → List ℕ → Rule → ℕ → State → State
+nextState w plan rule total s = record {
+  table = stepTable w (s .table) plan rule (s .done) total;
+  done = stepDone w (s .table) plan rule (s .done) total;
+}
+
+-- the state after so many calls, from the plan's start
+abbrev pub afterCalls : ℕ → List ℕ → List ℕ → Rule → ℕ → ℕ → State
+afterCalls w t plan rule total zero = record { table = t; done = 0 }
+afterCalls w t plan rule total (suc calls) = nextState w plan rule total (afterCalls w t plan rule total calls)
+
+-- what the call after so many answers
+abbrev pub callAnswer : ℕ → List ℕ → List ℕ → Rule → ℕ → ℕ → Told
+callAnswer w t plan rule total calls =
+    stepAnswer w (afterCalls w t plan rule total calls .table) plan rule (afterCalls w t plan rule total calls .done) total
+
+-- one call more
+pub call-more : (w : ℕ) (t plan : List ℕ) (rule : Rule) (total calls : ℕ)
+    → afterCalls w t plan rule total (calls + 1) ≡ nextState w plan rule total (afterCalls w t plan rule total calls)
+call-more w t plan rule total calls = ap (afterCalls w t plan rule total) (add-one calls)
