@@ -18,6 +18,7 @@ use Rattle.carrying.specs.declared.StepInfo.{StepInfo}
 use Rattle.carrying.specs.declared.StepAnswer.{StepAnswer}
 use Rattle.carrying.specs.declared.StepAnswer.the-variants.{Wrote, Finished, Refused}
 use Rattle.tcam.specs.declared.carry.Moved.{Moved}
+use Rattle.tcam.specs.declared.carry.Progress.{Progress}
 
 -- the number that tells a step's answer: 0 where a write is done, 1 for "finished", the success without values,
 -- and for a refusal its number × 2^32 + its spot
@@ -30,6 +31,13 @@ carryMoved t plan rule done total = record {
   done = stepDone 2 t plan rule done total;
   number = carryNumber (stepAnswer 2 t plan rule done total);
 }
+
+-- What carrying out leaves: its result, the table and the progress record, before and after.
+pub record CarryLeft (t plan : List ℕ) (rule : Rule) (progress : Progress) (result : ℕ) (after : List ℕ) (progress′ : Progress) : Type 0 where
+  pub number : result ≡ carryNumber (stepAnswer 2 t plan rule (progress .done) (progress .total))
+  pub table : after ≡ stepTable 2 t plan rule (progress .done) (progress .total)
+  pub advanced : progress′ .done ≡ stepDone 2 t plan rule (progress .done) (progress .total)
+  pub in-all : progress′ .total ≡ progress .total
 
 -- each case of an answer has its number
 pub carry-wrote : (info : StepInfo) → carryNumber (stepTold (Wrote info)) ≡ 0

@@ -1,9 +1,9 @@
 // Carrying a plan out from C: the progress record is lent to the call and advanced by one write.
 // The checks and the write are the step's; its answer crosses as one number.
 ghost use mathlib.Core.Path.{_≡_};
-ghost use Rattle.carrying.specs.Carrying.{stepAnswer, stepTable, stepDone};
+ghost use Rattle.carrying.specs.Carrying.{stepTable};
 ghost use Rattle.tcam.specs.Cells.{ruleFrom};
-ghost use Rattle.tcam.specs.Carried.{carryNumber, carryMoved};
+ghost use Rattle.tcam.specs.Carried.{carryMoved, CarryLeft};
 use crate::rule_from;
 use carrying::StepAnswer;
 use carrying::step::step;
@@ -36,8 +36,8 @@ fn carry(
     done: u32,
     total: u32,
 ) -> Moved
-    ensures { λ r. ⌜ r ≡ carryMoved (now (table .entry)) (now (plan .entry)) (ruleFrom id priority «value_high» «value_low» «mask_high» «mask_low» action) done total ⌝ }
-    ensures { λ _. ⌜ now (table .exit) ≡ stepTable 2 (now (table .entry)) (now (plan .entry)) (ruleFrom id priority «value_high» «value_low» «mask_high» «mask_low» action) done total ⌝ }
+    ensures { λ r. ⌜ (r ≡ carryMoved (now (table .entry)) (now (plan .entry)) (ruleFrom id priority «value_high» «value_low» «mask_high» «mask_low» action) done total)
+        × (now (table .exit) ≡ stepTable 2 (now (table .entry)) (now (plan .entry)) (ruleFrom id priority «value_high» «value_low» «mask_high» «mask_low» action) done total) ⌝ }
 {
     let rule = rule_from(
         id,
@@ -75,10 +75,7 @@ pub extern "C" fn tcam_carry_out(
     action: u32,
     progress: &mut Progress,
 ) -> u64
-    ensures { λ r. ⌜ r ≡ carryNumber (stepAnswer 2 (now (table .entry)) (now (plan .entry)) (ruleFrom id priority «value_high» «value_low» «mask_high» «mask_low» action) (now (progress .entry) .done) (now (progress .entry) .total)) ⌝ }
-    ensures { λ _. ⌜ now (table .exit) ≡ stepTable 2 (now (table .entry)) (now (plan .entry)) (ruleFrom id priority «value_high» «value_low» «mask_high» «mask_low» action) (now (progress .entry) .done) (now (progress .entry) .total) ⌝ }
-    ensures { λ _. ⌜ now (progress .exit) .done ≡ stepDone 2 (now (table .entry)) (now (plan .entry)) (ruleFrom id priority «value_high» «value_low» «mask_high» «mask_low» action) (now (progress .entry) .done) (now (progress .entry) .total) ⌝ }
-    ensures { λ _. ⌜ now (progress .exit) .total ≡ now (progress .entry) .total ⌝ }
+    ensures { λ r. ⌜ CarryLeft (now (table .entry)) (now (plan .entry)) (ruleFrom id priority «value_high» «value_low» «mask_high» «mask_low» action) (now (progress .entry)) r (now (table .exit)) (now (progress .exit)) ⌝ }
 {
     let done = progress.done;
     let total = progress.total;
