@@ -1,5 +1,5 @@
--- `tcam::carry::tcam_carry_out` meets its contract: a walk of its MIR, by hand. The progress record's borrow is opened and its two numbers are read; `carry` is called on the table, the plan, the rule's numbers and the two; the writes done that it returned are stored in the record, and the borrow is closed at the new record.
--- The table's borrow is given up for good (`gave-slice`), the plan is Copy, and all that is known of `carry` is that it meets its contract. With 16 locals, local i stands at 2 · (15 - i). Assumes nothing.
+-- `tcam::carry::tcam_carry_out` meets its contract, by a walk of its steps: the record's borrow is opened, its numbers are read, `carry` is called,
+-- the writes done are stored and the borrow is closed. Of `carry` its contract is known; the table's borrow is passed on to it for good.
 use mathlib.Core.Path.{_≡_, refl, ap}
 use Prim.Native.Nat.{ℕ, _<_, _^_}
 use mathlib.Core.List.{[], _∷_, List}
@@ -60,14 +60,16 @@ use Rattle.tcam.proofs.carry.tcam_carry_out.Statement as stated
 use Rattle.tcam.proofs.carry.tcam_carry_out.Code as code
 
 abbrev stayed : Stays (f.ended .signature .params) (f.ended .kept)
-stayed = (gave-slice (0 ∷ []) tt (plain (λ _. u64)), (stay-none-slice (1 ∷ []) tt (plain (λ _. u32)) yes, (stay-none (λ _. u32) yes, (stay-none (λ _. u32) yes, (stay-none (λ _. u64) yes, (stay-none (λ _. u64) yes, (stay-none (λ _. u64) yes, (stay-none (λ _. u64) yes, (stay-none (λ _. u32) yes, (stay-ref (2 ∷ []) tt (plain (λ _. T.the-row)), tt))))))))))
+stayed =
+    (gave-slice (0 ∷ []) tt (plain (λ _. u64)), (stay-none-slice (1 ∷ []) tt (plain (λ _. u32)) yes, (stay-none (λ _. u32) yes, (stay-none (λ _. u32) yes, (stay-none (λ _. u64) yes, (stay-none (λ _. u64) yes, (stay-none (λ _. u64) yes, (stay-none (λ _. u64) yes, (stay-none (λ _. u32) yes, (stay-ref (2 ∷ []) tt (plain (λ _. T.the-row)), tt))))))))))
 
 -- the contract that the proof cites
 abbrev Carry : {M : Type 1} (𝓤 : URA M) (H : Heap 𝓤) (A : Atoms 𝓤) (at-mem : Memory → SProp 𝓤) (run : Routine → Fun 𝓤) → Contract 𝓤
 Carry 𝓤 H A at-mem run = tripleOf 𝓤 H A callee.signature (callee.spec 𝓤 H A at-mem run)
 
 module _ {M : Type 1} (𝓤 : URA M) (H : Heap 𝓤) (A : Atoms 𝓤) (W : Given 𝓤 H A) (at-mem : Memory → SProp 𝓤) (run : Routine → Fun 𝓤) (κ κ₁ κ₂ : Lft) (q q₁ q₂ : Share) (b o : ℕ) (γ : GName) (ys : List ℕ) (p : RefT (List ℕ))
-    (id priority value-high value-low mask-high mask-low action : ℕ) (id-fits : id < 2 ^ 32) (priority-fits : priority < 2 ^ 32) (value-high-fits : value-high < 2 ^ 64) (value-low-fits : value-low < 2 ^ 64) (mask-high-fits : mask-high < 2 ^ 64) (mask-low-fits : mask-low < 2 ^ 64) (action-fits : action < 2 ^ 32)
+    (id priority value-high value-low mask-high mask-low action : ℕ)
+    (id-fits : id < 2 ^ 32) (priority-fits : priority < 2 ^ 32) (value-high-fits : value-high < 2 ^ 64) (value-low-fits : value-low < 2 ^ 64) (mask-high-fits : mask-high < 2 ^ 64) (mask-low-fits : mask-low < 2 ^ 64) (action-fits : action < 2 ^ 32)
     (b′ o′ : ℕ) (γ′ : GName) (h : Progress) where
   abbrev x : RefT (List ℕ)
   x = record { ptr = (b, o); name = γ; now = ys }
@@ -98,6 +100,9 @@ module _ {M : Type 1} (𝓤 : URA M) (H : Heap 𝓤) (A : Atoms 𝓤) (W : Given
   abbrev vals : List Val × (List Val × (List Val × (List Val × (List Val × (List Val × (List Val × (List Val × (List Val × (List Val × (Unit {0}))))))))))
   vals = (s ∷ [], (v ∷ [], (vint w32 id ∷ [], (vint w32 priority ∷ [], (vint w64 value-high ∷ [], (vint w64 value-low ∷ [], (vint w64 mask-high ∷ [], (vint w64 mask-low ∷ [], (vint w32 action ∷ [], (vptr b′ o′ ∷ [], tt))))))))))
 
+  abbrev inputs : List Val
+  inputs = s ∷ v ∷ vint w32 id ∷ vint w32 priority ∷ vint w64 value-high ∷ vint w64 value-low ∷ vint w64 mask-high ∷ vint w64 mask-low ∷ vint w32 action ∷ vptr b′ o′ ∷ []
+
   abbrev Post : Val → SProp 𝓤
   Post = walkOf 𝓤 H A f.ended stayed (f.clauses 𝓤 H A at-mem run) .post (((κ, (κ₁, (κ₂, tt))), (q, (q₁, (q₂, tt))), tt, a, vals), tt)
 
@@ -111,16 +116,37 @@ module _ {M : Type 1} (𝓤 : URA M) (H : Heap 𝓤) (A : Atoms 𝓤) (W : Given
   left : (m : Moved) (zs : List ℕ) → Said m zs → CarryLeft ys (p .now) rule h (m .number) zs (at (m .done))
   left m zs e = record { number = ap (λ (k : Moved). k .number) (e .0); table = e .1; advanced = ap (λ (k : Moved). k .done) (e .0); in-all = refl }
 
-  -- what `carry`'s triple binds outside
+  -- what `carry` is called on, and what its triple binds outside
+  abbrev Sent : Type 0
+  Sent = RefT (List ℕ) × (RefT (List ℕ) × (ℕ × (ℕ × (ℕ × (ℕ × (ℕ × (ℕ × (ℕ × (ℕ × (ℕ × Unit {0}))))))))))
+
+  abbrev sent : Sent
+  sent = (x, (p, (id, (priority, (value-high, (value-low, (mask-high, (mask-low, (action, (h .done, (h .total, tt)))))))))))
+
   abbrev to : Carry 𝓤 H A at-mem run .Ghost
-  to = (((κ, (κ₁, tt)), (q, (q₁, tt)), tt, (x, (p, (id, (priority, (value-high, (value-low, (mask-high, (mask-low, (action, (h .done, (h .total, tt))))))))))), (s ∷ [], (v ∷ [], (vint w32 id ∷ [], (vint w32 priority ∷ [], (vint w64 value-high ∷ [], (vint w64 value-low ∷ [], (vint w64 mask-high ∷ [], (vint w64 mask-low ∷ [], (vint w32 action ∷ [], (vint w32 (h .done) ∷ [], (vint w32 (h .total) ∷ [], tt)))))))))))), tt)
+  to = (
+    (
+      (κ, (κ₁, tt)),
+      (q, (q₁, tt)),
+      tt,
+      sent,
+      (s ∷ [], (v ∷ [], (vint w32 id ∷ [], (vint w32 priority ∷ [], (vint w64 value-high ∷ [], (vint w64 value-low ∷ [], (vint w64 mask-high ∷ [], (vint w64 mask-low ∷ [], (vint w32 action ∷ [], (vint w32 (h .done) ∷ [], (vint w32 (h .total) ∷ [], tt))))))))))),
+    ),
+    tt,
+  )
 
   goes : h .done < 2 ^ 32 → h .total < 2 ^ 32
       → ent 𝓤 (⋆ 𝓤 H A ((‵ (flft κ q) ⊛ ‵ (flft κ₁ q₁) ⊛ ‵ ftrue) ∷ ‵ (MutSlice (named 0) κ u64 .own x (s ∷ [])) ∷ ‵ Plan ∷ [])) (Carry 𝓤 H A at-mem run .pre to)
   goes d-fits t-fits =
       qed W ((‵ (flft κ q) ⊛ ‵ (flft κ₁ q₁) ⊛ ‵ ftrue) ∷ ‵ (MutSlice (named 0) κ u64 .own x (s ∷ [])) ∷ ‵ Plan ∷ []) ∵ move ! (1 ∷ 2 ∷ []) $
       nothing ! $ owned ! u32 (Is u32) (uint-makes 𝓤 H A W w32) (h .total) _ (refl, t-fits) $ fjoin ! $ owned ! u32 (Is u32) (uint-makes 𝓤 H A W w32) (h .done) _ (refl, d-fits) $ fjoin ! $
-      owned ! u32 (Is u32) (uint-makes 𝓤 H A W w32) action _ (refl, action-fits) $ fjoin ! $ owned ! u64 (Is u64) (uint-makes 𝓤 H A W w64) mask-low _ (refl, mask-low-fits) $ fjoin ! $ owned ! u64 (Is u64) (uint-makes 𝓤 H A W w64) mask-high _ (refl, mask-high-fits) $ fjoin ! $ owned ! u64 (Is u64) (uint-makes 𝓤 H A W w64) value-low _ (refl, value-low-fits) $ fjoin ! $ owned ! u64 (Is u64) (uint-makes 𝓤 H A W w64) value-high _ (refl, value-high-fits) $ fjoin ! $ owned ! u32 (Is u32) (uint-makes 𝓤 H A W w32) priority _ (refl, priority-fits) $ fjoin ! $ owned ! u32 (Is u32) (uint-makes 𝓤 H A W w32) id _ (refl, id-fits) $ fjoin ! $
+      owned ! u32 (Is u32) (uint-makes 𝓤 H A W w32) action _ (refl, action-fits) $ fjoin ! $
+      owned ! u64 (Is u64) (uint-makes 𝓤 H A W w64) mask-low _ (refl, mask-low-fits) $ fjoin ! $
+      owned ! u64 (Is u64) (uint-makes 𝓤 H A W w64) mask-high _ (refl, mask-high-fits) $ fjoin ! $
+      owned ! u64 (Is u64) (uint-makes 𝓤 H A W w64) value-low _ (refl, value-low-fits) $ fjoin ! $
+      owned ! u64 (Is u64) (uint-makes 𝓤 H A W w64) value-high _ (refl, value-high-fits) $ fjoin ! $
+      owned ! u32 (Is u32) (uint-makes 𝓤 H A W w32) priority _ (refl, priority-fits) $ fjoin ! $
+      owned ! u32 (Is u32) (uint-makes 𝓤 H A W w32) id _ (refl, id-fits) $ fjoin ! $
       move ! (2 ∷ 0 ∷ []) $ fjoin ! $ move ! (1 ∷ 0 ∷ []) $ fjoin ! $ move ! (1 ∷ 0 ∷ []) $ join ! $ frame ! $ done !
 
   made : {d : ℕ} → d < 2 ^ 32 → Is T.the-row h (LL.vals T.the-type T′.the-laws h) → Is T.the-row (at d) (mach d ∷ [])
@@ -134,22 +160,39 @@ module _ {M : Type 1} (𝓤 : URA M) (H : Heap 𝓤) (A : Atoms 𝓤) (W : Given
       → ent 𝓤 (⋆ 𝓤 H A (‵ (fobs γ′ (T.the-row .coded .code (at (m .done)))) ∷ ‵ (fbor κ₂ (Body (mem T.the-row) b′ o′ γ′)) ∷ ‵ (flft κ₂ q₂) ∷ (‵ (flft κ q) ⊛ ‵ (flft κ₁ q₁) ⊛ ‵ ftrue) ∷ ‵ (finally u64 γ zs) ∷ ‵ Plan ∷ [])) (Post (vint w64 (m .number)))
   exits m zs e l n-fits =
       qed W (‵ (fobs γ′ (T.the-row .coded .code (at (m .done)))) ∷ ‵ (fbor κ₂ (Body (mem T.the-row) b′ o′ γ′)) ∷ ‵ (flft κ₂ q₂) ∷ (‵ (flft κ q) ⊛ ‵ (flft κ₁ q₁) ⊛ ‵ ftrue) ∷ ‵ (finally u64 γ zs) ∷ ‵ Plan ∷ []) ∵
-      suffices ! _ (ends-at 𝓤 H A f.ended stayed (f.clauses 𝓤 H A at-mem run) W (((κ, (κ₁, (κ₂, tt))), (q, (q₁, (q₂, tt))), tt, a, vals), tt) (vint w64 (m .number)) (m .number) (zs, (tt, (tt, (tt, (tt, (tt, (tt, (tt, (tt, (at (m .done), tt)))))))))) (l, (tt, (tt, (tt, (tt, (tt, (tt, (tt, (tt, (tt, tt))))))))))) $
+      suffices ! _ (ends-at 𝓤 H A f.ended stayed (f.clauses 𝓤 H A at-mem run) W (((κ, (κ₁, (κ₂, tt))), (q, (q₁, (q₂, tt))), tt, a, vals), tt) (vint w64 (m .number)) (m .number)
+      (zs, (tt, (tt, (tt, (tt, (tt, (tt, (tt, (tt, (at (m .done), tt)))))))))) (l, (tt, (tt, (tt, (tt, (tt, (tt, (tt, (tt, (tt, tt))))))))))) $
       says ! (left m zs e) $
       move ! (3 ∷ []) $ split ! $ move ! (1 ∷ []) $ split ! $ move ! (5 ∷ 1 ∷ []) $ join ! $ move ! (1 ∷ 0 ∷ []) $ join ! $ move ! (1 ∷ 0 ∷ []) $ join ! $ frame ! $
       feqI ! (List Val) (vptr b′ o′ ∷ []) (vptr b′ o′ ∷ []) refl $ fjoin3 ! $ nothing ! $ move ! (1 ∷ 0 ∷ []) $ fjoin ! $
-      owned ! u32 (Is u32) (uint-makes 𝓤 H A W w32) action _ (refl, action-fits) $ fjoin ! $ owned ! u64 (Is u64) (uint-makes 𝓤 H A W w64) mask-low _ (refl, mask-low-fits) $ fjoin ! $ owned ! u64 (Is u64) (uint-makes 𝓤 H A W w64) mask-high _ (refl, mask-high-fits) $ fjoin ! $ owned ! u64 (Is u64) (uint-makes 𝓤 H A W w64) value-low _ (refl, value-low-fits) $ fjoin ! $ owned ! u64 (Is u64) (uint-makes 𝓤 H A W w64) value-high _ (refl, value-high-fits) $ fjoin ! $ owned ! u32 (Is u32) (uint-makes 𝓤 H A W w32) priority _ (refl, priority-fits) $ fjoin ! $ owned ! u32 (Is u32) (uint-makes 𝓤 H A W w32) id _ (refl, id-fits) $ fjoin ! $
+      owned ! u32 (Is u32) (uint-makes 𝓤 H A W w32) action _ (refl, action-fits) $ fjoin ! $
+      owned ! u64 (Is u64) (uint-makes 𝓤 H A W w64) mask-low _ (refl, mask-low-fits) $ fjoin ! $
+      owned ! u64 (Is u64) (uint-makes 𝓤 H A W w64) mask-high _ (refl, mask-high-fits) $ fjoin ! $
+      owned ! u64 (Is u64) (uint-makes 𝓤 H A W w64) value-low _ (refl, value-low-fits) $ fjoin ! $
+      owned ! u64 (Is u64) (uint-makes 𝓤 H A W w64) value-high _ (refl, value-high-fits) $ fjoin ! $
+      owned ! u32 (Is u32) (uint-makes 𝓤 H A W w32) priority _ (refl, priority-fits) $ fjoin ! $
+      owned ! u32 (Is u32) (uint-makes 𝓤 H A W w32) id _ (refl, id-fits) $ fjoin ! $
       move ! (2 ∷ 0 ∷ []) $ fjoin ! $ move ! (1 ∷ 0 ∷ []) $ fjoin ! $
       owned ! u64 (Is u64) (uint-makes 𝓤 H A W w64) (m .number) _ (refl, n-fits) $ move ! (1 ∷ 0 ∷ []) $ done !
 
   module _ (C : Calls 𝓤 H) (Λ : Loops 𝓤 H) (fm : FmC 𝓤 H (W .laws) C) (known : Triple 𝓤 (C #carry) (Carry 𝓤 H A at-mem run)) where
     walk : Room u64 (length ys) → Is (ShrSlice (named 1) κ₁ u32) p (v ∷ [])
-        → ent 𝓤 (onEntry 𝓤 H A f.signature (κ, (κ₁, (κ₂, tt))) (q, (q₁, (q₂, tt))) a vals) (WpFn 𝓤 H C Λ code.function (s ∷ v ∷ vint w32 id ∷ vint w32 priority ∷ vint w64 value-high ∷ vint w64 value-low ∷ vint w64 mask-high ∷ vint w64 mask-low ∷ vint w32 action ∷ vptr b′ o′ ∷ []) Post)
+        → ent 𝓤 (onEntry 𝓤 H A f.signature (κ, (κ₁, (κ₂, tt))) (q, (q₁, (q₂, tt))) a vals) (WpFn 𝓤 H C Λ code.function inputs Post)
     walk room is-p =
-        qed W ((‵ (flft κ q) ⊛ ‵ (flft κ₁ q₁) ⊛ ‵ (flft κ₂ q₂) ⊛ ‵ ftrue) ∷ ‵ (owns (MutSlice (named 0) κ u64 ∷ ShrSlice (named 1) κ₁ u32 ∷ u32 ∷ u32 ∷ u64 ∷ u64 ∷ u64 ∷ u64 ∷ u32 ∷ MutRef (named 2) κ₂ T.the-row ∷ []) a vals) ∷ []) ∵ enter ! C Λ code.function (s ∷ v ∷ vint w32 id ∷ vint w32 priority ∷ vint w64 value-high ∷ vint w64 value-low ∷ vint w64 mask-high ∷ vint w64 mask-low ∷ vint w32 action ∷ vptr b′ o′ ∷ []) _ $
-        alloc1 ! (λ l₀. alloc1 ! (λ l₁. alloc1 ! (λ l₂. alloc1 ! (λ l₃. alloc1 ! (λ l₄. alloc1 ! (λ l₅. alloc1 ! (λ l₆. alloc1 ! (λ l₇. alloc1 ! (λ l₈. alloc1 ! (λ l₉. alloc1 ! (λ l₁₀. alloc1 ! (λ l₁₁. alloc1 ! (λ l₁₂. alloc1 ! (λ l₁₃. alloc1 ! (λ l₁₄. alloc1 ! (λ l₁₅. alloc0 ! $ params1 ! $
+        qed W (
+        (‵ (flft κ q) ⊛ ‵ (flft κ₁ q₁) ⊛ ‵ (flft κ₂ q₂) ⊛ ‵ ftrue) ∷
+        ‵ (owns (MutSlice (named 0) κ u64 ∷ ShrSlice (named 1) κ₁ u32 ∷ u32 ∷ u32 ∷ u64 ∷ u64 ∷ u64 ∷ u64 ∷ u32 ∷ MutRef (named 2) κ₂ T.the-row ∷ []) a vals) ∷ []) ∵
+        enter ! C Λ code.function inputs _ $
+        alloc1 ! (λ l₀. alloc1 ! (λ l₁. alloc1 ! (λ l₂. alloc1 ! (λ l₃. alloc1 ! (λ l₄. alloc1 ! (λ l₅. alloc1 ! (λ l₆. alloc1 ! (λ l₇.
+        alloc1 ! (λ l₈. alloc1 ! (λ l₉. alloc1 ! (λ l₁₀. alloc1 ! (λ l₁₁. alloc1 ! (λ l₁₂. alloc1 ! (λ l₁₃. alloc1 ! (λ l₁₄. alloc1 ! (λ l₁₅. alloc0 ! $ params1 ! $
         pass1 ! (init ! 28 refl (tt, (tt, (record { fits = room .0 }, tt)))) $ pass1 ! (init ! 26 refl (shr-slice-lawful 𝓤 H A W (named 1) κ₁ u32 .typed p (v ∷ []) is-p .0)) $
-        pass1 ! (init ! 24 refl (tt, record { fits = id-fits })) $ pass1 ! (init ! 22 refl (tt, record { fits = priority-fits })) $ pass1 ! (init ! 20 refl (tt, record { fits = value-high-fits })) $ pass1 ! (init ! 18 refl (tt, record { fits = value-low-fits })) $ pass1 ! (init ! 16 refl (tt, record { fits = mask-high-fits })) $ pass1 ! (init ! 14 refl (tt, record { fits = mask-low-fits })) $ pass1 ! (init ! 12 refl (tt, record { fits = action-fits })) $
+        pass1 ! (init ! 24 refl (tt, record { fits = id-fits })) $
+        pass1 ! (init ! 22 refl (tt, record { fits = priority-fits })) $
+        pass1 ! (init ! 20 refl (tt, record { fits = value-high-fits })) $
+        pass1 ! (init ! 18 refl (tt, record { fits = value-low-fits })) $
+        pass1 ! (init ! 16 refl (tt, record { fits = mask-high-fits })) $
+        pass1 ! (init ! 14 refl (tt, record { fits = mask-low-fits })) $
+        pass1 ! (init ! 12 refl (tt, record { fits = action-fits })) $
         pass1 ! (init ! 10 refl (tt, tt)) $ pass0 ! $
         -- [_15; …; _1; …; room for _0; …; the tokens; what the parameters own]: what the numbers own is dropped, and the record's borrow is opened
         move ! (33 ∷ []) $ fsplit ! $ move ! (1 ∷ []) $ fsplit ! $ move ! (1 ∷ []) $ fsplit ! $ drop ! $ fsplit ! $ drop ! $ fsplit ! $ drop ! $ fsplit ! $ drop ! $ fsplit ! $ drop ! $ fsplit ! $ drop ! $ fsplit ! $ drop ! $ fsplit ! $ fsplit3 ! $ drop ! $
@@ -165,10 +208,12 @@ module _ {M : Type 1} (𝓤 : URA M) (H : Heap 𝓤) (A : Atoms 𝓤) (W : Given
         move ! (9 ∷ []) $ use1 W (‵ Plan ⊛ ‵ Plan) (shr-slice-copy 𝓤 H A W (named 1) κ₁ u32 .twice p (v ∷ [])) $ split ! $
         move ! (8 ∷ 7 ∷ []) $ join ! $ move ! (8 ∷ 0 ∷ []) $ join ! $ move ! (0 ∷ 9 ∷ 1 ∷ []) $
         use3 W (raw (Carry 𝓤 H A at-mem run .pre to)) (goes (LL.owed T.the-type T′.the-laws h _ was .0 .1) (LL.owed T.the-type T′.the-laws h _ was .1 .0 .1)) $
-        calls-at ! fm (Carry 𝓤 H A at-mem run) known to (and-then ! (load ! (from ! (stop !)) (look ! 8 refl)) (and-then ! (load ! (from ! (stop !)) (look ! 34 refl)) (and-then ! (load ! (from ! (stop !)) (look ! 32 refl)) (and-then ! (load ! (from ! (stop !)) (look ! 30 refl)) (and-then ! (load ! (from ! (stop !)) (look ! 28 refl)) (and-then ! (load ! (from ! (stop !)) (look ! 26 refl)) (and-then ! (load ! (from ! (stop !)) (look ! 24 refl)) (and-then ! (load ! (from ! (stop !)) (look ! 22 refl)) (and-then ! (load ! (from ! (stop !)) (look ! 20 refl)) (and-then ! (load ! (from ! (stop !)) (look ! 16 refl)) (and-then ! (load ! (from ! (stop !)) (look ! 14 refl)) (no-more !)))))))))))) (λ z.
-        use1 W (later (some (λ (m : Moved). ((‵ (flft κ q) ⊛ ‵ (flft κ₁ q₁) ⊛ ‵ ftrue) ⊛ ‵ (S.the-row .own m (z ∷ []))) ⊛ raw (ensured 𝓤 H A callee.ended (callee.clauses 𝓤 H A at-mem run) (κ, (κ₁, tt)) (x, (p, (id, (priority, (value-high, (value-low, (mask-high, (mask-low, (action, (h .done, (h .total, tt))))))))))) tt m)))) (id⊢ 𝓤 _) $ await ! tt $ pick ! (λ m.
+        calls-at ! fm (Carry 𝓤 H A at-mem run) known to (and-then ! (load ! (from ! (stop !)) (look ! 8 refl)) (and-then ! (load ! (from ! (stop !)) (look ! 34 refl)) (and-then ! (load ! (from ! (stop !)) (look ! 32 refl)) (and-then ! (load ! (from ! (stop !)) (look ! 30 refl)) (
+        and-then ! (load ! (from ! (stop !)) (look ! 28 refl)) (and-then ! (load ! (from ! (stop !)) (look ! 26 refl)) (and-then ! (load ! (from ! (stop !)) (look ! 24 refl)) (and-then ! (load ! (from ! (stop !)) (look ! 22 refl)) (
+        and-then ! (load ! (from ! (stop !)) (look ! 20 refl)) (and-then ! (load ! (from ! (stop !)) (look ! 16 refl)) (and-then ! (load ! (from ! (stop !)) (look ! 14 refl)) (no-more !)))))))))))) (λ z.
+        use1 W (later (some (λ (m : Moved). ((‵ (flft κ q) ⊛ ‵ (flft κ₁ q₁) ⊛ ‵ ftrue) ⊛ ‵ (S.the-row .own m (z ∷ []))) ⊛ raw (ensured 𝓤 H A callee.ended (callee.clauses 𝓤 H A at-mem run) (κ, (κ₁, tt)) sent tt m)))) (id⊢ 𝓤 _) $ await ! tt $ pick ! (λ m.
         -- what `carry` ensures, at some last table
-        split ! $ move ! (1 ∷ []) $ use1 W (some (λ (zs : List ℕ × (Unit {0} × (Unit {0} × (Unit {0} × (Unit {0} × (Unit {0} × (Unit {0} × (Unit {0} × (Unit {0} × (Unit {0} × (Unit {0} × Unit {0}))))))))))). ‵ (lasts callee.ended (κ, (κ₁, tt)) (x, (p, (id, (priority, (value-high, (value-low, (mask-high, (mask-low, (action, (h .done, (h .total, tt))))))))))) zs) ⊛ raw (fact 𝓤 (Said m (zs .0))))) (id⊢ 𝓤 _) $ pick ! (λ zs.
+        split ! $ move ! (1 ∷ []) $ use1 W (some (λ (zs : List ℕ × (Unit {0} × (Unit {0} × (Unit {0} × (Unit {0} × (Unit {0} × (Unit {0} × (Unit {0} × (Unit {0} × (Unit {0} × (Unit {0} × Unit {0}))))))))))). ‵ (lasts callee.ended (κ, (κ₁, tt)) sent zs) ⊛ raw (fact 𝓤 (Said m (zs .0))))) (id⊢ 𝓤 _) $ pick ! (λ zs.
         split ! $ move ! (1 ∷ []) $ heard ! (Said m (zs .0)) (λ e. fsplit ! $ fsplit ! $ move ! (1 ∷ []) $ feqL ! (λ l.
         move ! (2 ∷ []) $ split ! $ move ! (1 ∷ []) $ peeks ! S.the-row (Is S.the-row) (shows 𝓤 H A S.the-row) m (z ∷ []) (λ is.
         land ! (from ! (stop !)) (init ! 15 refl (LL.lawful S.the-type S′.the-laws 𝓤 H A W .typed m _ is .0)) $ rewrite ! 15 (λ (y : Val). ‵ (fat fullShare S′.mir l₁₃ 0 y)) (ap only (LL.tells S.the-type S′.the-laws m _ is)) refl $
@@ -176,8 +221,11 @@ module _ {M : Type 1} (𝓤 : URA M) (H : Heap 𝓤) (A : Atoms 𝓤) (W : Given
         assigns ! (of-opd ! (load ! (from ! (fld ! refl (stop !))) (look-in ! 15 (sub ! 0 refl (whole !))))) (from ! (hop ! (look ! 21 refl) (fld ! refl (stop !)))) (store-in ! 5 (sub ! 0 refl (whole !)) (tt, record { fits = parts m is .0 })) $
         assigns ! (of-opd ! (load ! (from ! (fld ! refl (stop !))) (look-in ! 15 (sub ! 1 refl (whole !))))) (from ! (stop !)) (init ! 41 refl (tt, record { fits = parts m is .1 })) $
         move ! (6 ∷ []) $ drop ! $ owned ! T.the-row (Is T.the-row) ((LL.makes T.the-type T′.the-plain) 𝓤 H A) (at (m .done)) _ (made (parts m is .0) was) $ move ! (6 ∷ 0 ∷ 7 ∷ 8 ∷ 9 ∷ []) $ closes ! tt T.the-row (at (m .done)) (mach (m .done) ∷ []) b′ o′ $
-        returns ! (look ! 39 refl) $ forget ! 9 refl $ forget ! 11 refl $ forget ! 13 refl $ forget ! 15 refl $ forget ! 17 refl $ forget ! 19 refl $ forget ! 21 refl $ forget ! 23 refl $ forget ! 25 refl $ forget ! 27 refl $ forget ! 29 refl $ forget ! 31 refl $ forget ! 33 refl $ forget ! 35 refl $ forget ! 37 refl $ forget ! 39 refl $
-        move ! (39 ∷ 40 ∷ []) $ free1 ! $ move ! (37 ∷ 38 ∷ []) $ free1 ! $ move ! (35 ∷ 36 ∷ []) $ free1 ! $ move ! (33 ∷ 34 ∷ []) $ free1 ! $ move ! (31 ∷ 32 ∷ []) $ free1 ! $ move ! (29 ∷ 30 ∷ []) $ free1 ! $ move ! (27 ∷ 28 ∷ []) $ free1 ! $ move ! (25 ∷ 26 ∷ []) $ free1 ! $ move ! (23 ∷ 24 ∷ []) $ free1 ! $ move ! (21 ∷ 22 ∷ []) $ free1 ! $ move ! (19 ∷ 20 ∷ []) $ free1 ! $ move ! (17 ∷ 18 ∷ []) $ free1 ! $ move ! (15 ∷ 16 ∷ []) $ free1 ! $ move ! (13 ∷ 14 ∷ []) $ free1 ! $ move ! (11 ∷ 12 ∷ []) $ free1 ! $ move ! (9 ∷ 10 ∷ []) $ free1 ! $ free0 ! $
+        returns ! (look ! 39 refl) $
+        forget ! 9 refl $ forget ! 11 refl $ forget ! 13 refl $ forget ! 15 refl $ forget ! 17 refl $ forget ! 19 refl $ forget ! 21 refl $ forget ! 23 refl $
+        forget ! 25 refl $ forget ! 27 refl $ forget ! 29 refl $ forget ! 31 refl $ forget ! 33 refl $ forget ! 35 refl $ forget ! 37 refl $ forget ! 39 refl $
+        move ! (39 ∷ 40 ∷ []) $ free1 ! $ move ! (37 ∷ 38 ∷ []) $ free1 ! $ move ! (35 ∷ 36 ∷ []) $ free1 ! $ move ! (33 ∷ 34 ∷ []) $ free1 ! $ move ! (31 ∷ 32 ∷ []) $ free1 ! $ move ! (29 ∷ 30 ∷ []) $ free1 ! $ move ! (27 ∷ 28 ∷ []) $ free1 ! $ move ! (25 ∷ 26 ∷ []) $ free1 ! $
+        move ! (23 ∷ 24 ∷ []) $ free1 ! $ move ! (21 ∷ 22 ∷ []) $ free1 ! $ move ! (19 ∷ 20 ∷ []) $ free1 ! $ move ! (17 ∷ 18 ∷ []) $ free1 ! $ move ! (15 ∷ 16 ∷ []) $ free1 ! $ move ! (13 ∷ 14 ∷ []) $ free1 ! $ move ! (11 ∷ 12 ∷ []) $ free1 ! $ move ! (9 ∷ 10 ∷ []) $ free1 ! $ free0 ! $
         keep ! (0 ∷ 1 ∷ 2 ∷ 4 ∷ 5 ∷ 7 ∷ []) $ by ! (exits m (zs .0) e l (parts m is .1))))))))))))))))))))))))))
 
 module _ {M : Type 1} (𝓤 : URA M) (H : Heap 𝓤) (A : Atoms 𝓤) (W : Given 𝓤 H A) (at-mem : Memory → SProp 𝓤) (run : Routine → Fun 𝓤) where
@@ -192,7 +240,8 @@ module _ {M : Type 1} (𝓤 : URA M) (H : Heap 𝓤) (A : Atoms 𝓤) (W : Given
       (a .1 .1 .1 .1 .1 .1 .1 .1 .1 .0 .ptr .0) (a .1 .1 .1 .1 .1 .1 .1 .1 .1 .0 .ptr .1) (a .1 .1 .1 .1 .1 .1 .1 .1 .1 .0 .name) (a .1 .1 .1 .1 .1 .1 .1 .1 .1 .0 .now) C Λ fm known (are .0 .0 .1) (are .1 .0)))
 
   all-go : AllGo 𝓤 H A W 3 (f.signature .params) (f.ended .kept) stayed
-  all-go = (goes-gave-slice 𝓤 H A W 3 0 tt (plain (λ _. u64)), (goes-none-slice 𝓤 H A W 3 (1 ∷ []) tt (plain (λ _. u32)) yes, (goes-none 𝓤 H A W 3 (λ _. u32) yes (λ κs x f. refl), (goes-none 𝓤 H A W 3 (λ _. u32) yes (λ κs x f. refl), (goes-none 𝓤 H A W 3 (λ _. u64) yes (λ κs x f. refl), (goes-none 𝓤 H A W 3 (λ _. u64) yes (λ κs x f. refl), (goes-none 𝓤 H A W 3 (λ _. u64) yes (λ κs x f. refl), (goes-none 𝓤 H A W 3 (λ _. u64) yes (λ κs x f. refl), (goes-none 𝓤 H A W 3 (λ _. u32) yes (λ κs x f. refl), (goes-ref 𝓤 H A W 3 2 tt (plain (λ _. T.the-row)), tt))))))))))
+  all-go =
+      (goes-gave-slice 𝓤 H A W 3 0 tt (plain (λ _. u64)), (goes-none-slice 𝓤 H A W 3 (1 ∷ []) tt (plain (λ _. u32)) yes, (goes-none 𝓤 H A W 3 (λ _. u32) yes (λ κs x f. refl), (goes-none 𝓤 H A W 3 (λ _. u32) yes (λ κs x f. refl), (goes-none 𝓤 H A W 3 (λ _. u64) yes (λ κs x f. refl), (goes-none 𝓤 H A W 3 (λ _. u64) yes (λ κs x f. refl), (goes-none 𝓤 H A W 3 (λ _. u64) yes (λ κs x f. refl), (goes-none 𝓤 H A W 3 (λ _. u64) yes (λ κs x f. refl), (goes-none 𝓤 H A W 3 (λ _. u32) yes (λ κs x f. refl), (goes-ref 𝓤 H A W 3 2 tt (plain (λ _. T.the-row)), tt))))))))))
 
 carry-out-meets : {M : Type 1} (𝓤 : URA M) (H : Heap 𝓤) (A : Atoms 𝓤) → Given 𝓤 H A → (at-mem : Memory → SProp 𝓤) (run : Routine → Fun 𝓤) (𝓣 : Tables 𝓤 H) → Triple 𝓤 (𝓣 .C #carry) (Carry 𝓤 H A at-mem run)
     → Meets 𝓤 H A f.signature (WpFn 𝓤 H (𝓣 .C) (𝓣 .Λ) code.function) (f.spec 𝓤 H A at-mem run)
