@@ -60,6 +60,7 @@
  *
  *     tcam_lookup, tcam_slot_record   128 bytes
  *     tcam_plan_delete                256 bytes
+ *     tcam_carry_out                  192 bytes
  *     tcam_plan_insert                6,656 bytes, and 96 for each word of the plan
  *
  * The longest plan, of 1,024 words, takes 104,960 bytes, 102.5 KiB. A plan that does not fit its buffer is
