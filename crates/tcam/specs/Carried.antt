@@ -3,7 +3,7 @@
 use mathlib.Core.Path.{_≡_, refl, sym, ap, _∙_}
 use mathlib.Core.Bool.{Bool, true, false, not, cond, _&&_, true≢false}
 use mathlib.Core.List.{List, [], _∷_}
-use Prim.Native.Nat.{ℕ, zero, suc, _+_, _*_, _<_}
+use Prim.Native.Nat.{ℕ, zero, suc, _+_, _*_, _/_, _%_, _<_}
 use native.Mathlib.Omega.{arith}
 use lib.Dec.{eqb}
 use lib.ListN.{length, getD}
@@ -48,6 +48,11 @@ carry-finished = refl
 
 pub carry-refused : (cause : Cause) (spot : ℕ) → carryNumber (stepTold (Refused cause spot)) ≡ causeNumber cause * 4294967296 + spot
 carry-refused cause spot = rw (cause-not-zero cause)
+
+-- a refusal's number and spot are the halves of it
+pub carry-halves : (cause : Cause) (spot : ℕ) → spot < 4294967296
+    → (carryNumber (stepTold (Refused cause spot)) / 4294967296 ≡ causeNumber cause) × (carryNumber (stepTold (Refused cause spot)) % 4294967296 ≡ spot)
+carry-halves cause spot f = let e = carry-refused cause spot in (omega (arith, e, f), omega (arith, e, f))
 
 -- a spot is a number of 32 bits
 abbrev pub SpotFits : StepAnswer → Type 0

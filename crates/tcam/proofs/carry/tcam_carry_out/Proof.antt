@@ -60,34 +60,8 @@ use Rattle.tcam.proofs.carry.tcam_carry_out.Statement as stated
 use Rattle.tcam.proofs.carry.tcam_carry_out.Code as code
 
 abbrev stayed : Stays (f.ended .signature .params) (f.ended .kept)
-stayed = (
-  gave-slice (0 ∷ []) tt (plain (λ _. u64)),
-  (
-    stay-none-slice (1 ∷ []) tt (plain (λ _. u32)) yes,
-    (
-      stay-none (λ _. u32) yes,
-      (
-        stay-none (λ _. u32) yes,
-        (
-          stay-none (λ _. u64) yes,
-          (
-            stay-none (λ _. u64) yes,
-            (
-              stay-none (λ _. u64) yes,
-              (
-                stay-none (λ _. u64) yes,
-                (
-                  stay-none (λ _. u32) yes,
-                  (stay-ref (2 ∷ []) tt (plain (λ _. T.the-row)), tt),
-                ),
-              ),
-            ),
-          ),
-        ),
-      ),
-    ),
-  ),
-)
+stayed =
+    (gave-slice (0 ∷ []) tt (plain (λ _. u64)), (stay-none-slice (1 ∷ []) tt (plain (λ _. u32)) yes, (stay-none (λ _. u32) yes, (stay-none (λ _. u32) yes, (stay-none (λ _. u64) yes, (stay-none (λ _. u64) yes, (stay-none (λ _. u64) yes, (stay-none (λ _. u64) yes, (stay-none (λ _. u32) yes, (stay-ref (2 ∷ []) tt (plain (λ _. T.the-row)), tt))))))))))
 
 -- the contract that the proof cites
 abbrev Carry : {M : Type 1} (𝓤 : URA M) (H : Heap 𝓤) (A : Atoms 𝓤) (at-mem : Memory → SProp 𝓤) (run : Routine → Fun 𝓤) → Contract 𝓤
@@ -283,34 +257,8 @@ module _ {M : Type 1} (𝓤 : URA M) (H : Heap 𝓤) (A : Atoms 𝓤) (W : Given
       (a .1 .1 .1 .1 .1 .1 .1 .1 .1 .0 .ptr .0) (a .1 .1 .1 .1 .1 .1 .1 .1 .1 .0 .ptr .1) (a .1 .1 .1 .1 .1 .1 .1 .1 .1 .0 .name) (a .1 .1 .1 .1 .1 .1 .1 .1 .1 .0 .now) C Λ fm known (are .0 .0 .1) (are .1 .0)))
 
   all-go : AllGo 𝓤 H A W 3 (f.signature .params) (f.ended .kept) stayed
-  all-go = (
-    goes-gave-slice 𝓤 H A W 3 0 tt (plain (λ _. u64)),
-    (
-      goes-none-slice 𝓤 H A W 3 (1 ∷ []) tt (plain (λ _. u32)) yes,
-      (
-        goes-none 𝓤 H A W 3 (λ _. u32) yes (λ κs x f. refl),
-        (
-          goes-none 𝓤 H A W 3 (λ _. u32) yes (λ κs x f. refl),
-          (
-            goes-none 𝓤 H A W 3 (λ _. u64) yes (λ κs x f. refl),
-            (
-              goes-none 𝓤 H A W 3 (λ _. u64) yes (λ κs x f. refl),
-              (
-                goes-none 𝓤 H A W 3 (λ _. u64) yes (λ κs x f. refl),
-                (
-                  goes-none 𝓤 H A W 3 (λ _. u64) yes (λ κs x f. refl),
-                  (
-                    goes-none 𝓤 H A W 3 (λ _. u32) yes (λ κs x f. refl),
-                    (goes-ref 𝓤 H A W 3 2 tt (plain (λ _. T.the-row)), tt),
-                  ),
-                ),
-              ),
-            ),
-          ),
-        ),
-      ),
-    ),
-  )
+  all-go =
+      (goes-gave-slice 𝓤 H A W 3 0 tt (plain (λ _. u64)), (goes-none-slice 𝓤 H A W 3 (1 ∷ []) tt (plain (λ _. u32)) yes, (goes-none 𝓤 H A W 3 (λ _. u32) yes (λ κs x f. refl), (goes-none 𝓤 H A W 3 (λ _. u32) yes (λ κs x f. refl), (goes-none 𝓤 H A W 3 (λ _. u64) yes (λ κs x f. refl), (goes-none 𝓤 H A W 3 (λ _. u64) yes (λ κs x f. refl), (goes-none 𝓤 H A W 3 (λ _. u64) yes (λ κs x f. refl), (goes-none 𝓤 H A W 3 (λ _. u64) yes (λ κs x f. refl), (goes-none 𝓤 H A W 3 (λ _. u32) yes (λ κs x f. refl), (goes-ref 𝓤 H A W 3 2 tt (plain (λ _. T.the-row)), tt))))))))))
 
 carry-out-meets : {M : Type 1} (𝓤 : URA M) (H : Heap 𝓤) (A : Atoms 𝓤) → Given 𝓤 H A → (at-mem : Memory → SProp 𝓤) (run : Routine → Fun 𝓤) (𝓣 : Tables 𝓤 H) → Triple 𝓤 (𝓣 .C #carry) (Carry 𝓤 H A at-mem run)
     → Meets 𝓤 H A f.signature (WpFn 𝓤 H (𝓣 .C) (𝓣 .Λ) code.function) (f.spec 𝓤 H A at-mem run)
