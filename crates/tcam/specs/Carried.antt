@@ -1,19 +1,18 @@
 -- A plan carried out through a lent progress record: the number that the call returns, and what it leaves.
 -- The answer, the table and the writes done are the step's, at two words of value.
 use mathlib.Core.Path.{_≡_, refl, sym, ap, _∙_}
-use mathlib.Core.Bool.{Bool, true, false, not, cond, _&&_, true≢false}
-use mathlib.Core.List.{List, [], _∷_}
+use mathlib.Core.Bool.{true, false, cond, true≢false}
+use mathlib.Core.List.{List}
 use Prim.Native.Nat.{ℕ, zero, suc, _+_, _*_, _/_, _%_, _<_}
 use native.Mathlib.Omega.{arith}
 use lib.Dec.{eqb}
 use lib.ListN.{length, getD}
-use Rattle.records.specs.Checks.{Told, causeNumber, success, refusal, unless, passes}
+use Rattle.records.specs.Checks.{Told, causeNumber, refusal}
 use Rattle.records.specs.Laws.{cause-not-zero, cause-number-once}
 use Rattle.records.specs.declared.Cause.{Cause}
 use Rattle.records.specs.declared.Rule.{Rule}
-use Rattle.records.specs.declared.Check.{Check}
-use Rattle.records.specs.declared.Check.the-variants.{Pass, Fail}
-use Rattle.carrying.specs.Carrying.{stepTold, progressChecks, writeChecks, stepAnswer, stepWrites, stepTable, stepDone}
+use Rattle.carrying.specs.Carrying.{stepTold, stepAnswer, stepTable, stepDone}
+use Rattle.carrying.specs.Steps.{doneTold, done-told}
 use Rattle.carrying.specs.declared.StepInfo.{StepInfo}
 use Rattle.carrying.specs.declared.StepAnswer.{StepAnswer}
 use Rattle.carrying.specs.declared.StepAnswer.the-variants.{Wrote, Finished, Refused}
@@ -94,30 +93,13 @@ carry-number-once (Refused cause spot) (Refused other place) f g e =
     let same = sym (carry-refused cause spot) ∙ (e ∙ carry-refused other place) in
     (cause-number-once cause other (omega (arith, same, f, g)), omega (arith, same, f, g))
 
--- the writes done after an answer, those that a write tells or as many as before, and its number
-abbrev pub doneTold : Told → ℕ → ℕ
-doneTold told before = cond (eqb (told .number) 0) (getD (told .values) 0 before) before
-
+-- the writes done after an answer, and its number
 abbrev pub movedBy : Told → ℕ → Moved
 movedBy told before = record { done = doneTold told before; number = carryNumber told }
 
 pub moved-refused : (cause : Cause) (spot done : ℕ) {n : ℕ} → n ≡ causeNumber cause
     → _≡_ {A = Moved} (record { done = done; number = n * 4294967296 + spot }) (movedBy (refusal cause spot) done)
 moved-refused cause spot done e = rw (e, cause-not-zero cause)
-
--- a step's answer tells the writes done after it
-pub done-told : (w : ℕ) (t plan : List ℕ) (rule : Rule) (done total : ℕ)
-    → doneTold (stepAnswer w t plan rule done total) done ≡ stepDone w t plan rule done total
-unfolding stepAnswer stepDone stepWrites
-done-told w t plan rule done total =
-    turn (progressChecks w t (length plan) done total) (eqb done total) (writeChecks w t rule (getD plan done 0) done)
-  where
-    turn : (x : Check) (b : Bool) (y : Check)
-        → doneTold (unless x (cond b (success []) (unless y (success ((done + 1) ∷ []))))) done ≡ cond (passes x && (not b && passes y)) (done + 1) done
-    turn Pass true y = refl
-    turn Pass false Pass = refl
-    turn Pass false (Fail cause spot) = rw (cause-not-zero cause)
-    turn (Fail cause spot) b y = rw (cause-not-zero cause)
 
 -- what is told of a step, with the rule given, is what the call tells
 pub carry-ends : (t plan : List ℕ) {rule given : Rule} (done total : ℕ) {told : Told} {after : List ℕ} {moved : Moved} → rule ≡ given
