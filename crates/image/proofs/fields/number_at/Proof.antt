@@ -1,0 +1,94 @@
+-- `image::fields::number_at` meets its contract.
+-- The bytes passed are a number of as many digits to the base 256.
+use mathlib.Core.Path.{_≡_, refl, ap, ap₂, _∙_}
+use Prim.Native.Nat.{ℕ, _+_, _-_, _*_, _^_, _≤_, _<_}
+use native.Mathlib.Nat.{pow-suc}
+use native.Mathlib.Numerals.{add-one}
+use native.Mathlib.Omega.{arith}
+use lib.Arith.{digits-lt}
+use borrow.Author.Needs.{needs}
+use Rattle.image.specs.Bytes.{numberAt}
+use Rattle.image.specs.ByteLaws.{digit-room}
+use Rattle.image.proofs.fields.number_at.Statement.{statement}
+use Rattle.image.proofs.fields.number_at.Tie as tie
+use Rattle.image.proofs.fields.number_at.Reads as reads
+use Rattle.image.proofs.fields.number_at.Lts as lts
+use Rattle.image.proofs.fields.wide.Reads as wide-reads
+
+abbrev Inv-loop : tie.InvT-loop
+Inv-loop image at bytes number₀ read₀ number read = (read ≤ bytes) × (number ≡ numberAt image at read) × (number < 256 ^ read)
+
+abbrev μ-loop : tie.MeasureT-loop
+μ-loop image at bytes number₀ read₀ number read = bytes - read
+
+-- src/fields.rt:21:5
+loop-holds : tie.Need-loop-holds Inv-loop μ-loop
+unfolding numberAt
+loop-holds c = (omega arith, refl, omega arith)
+
+-- src/fields.rt:22:18
+mul-number : tie.Need-mul-number Inv-loop μ-loop
+mul-number c = omega (arith, digit-room {d = 0} (c .before .loop .inv .2) (omega arith) (omega arith))
+
+-- src/fields.rt:22:44
+add-wide : tie.Need-add-wide Inv-loop μ-loop
+add-wide c = omega arith
+
+-- src/fields.rt:22:38
+shared-slice-read-wide : tie.Need-shared-slice-read-wide Inv-loop μ-loop
+shared-slice-read-wide c = omega arith
+
+-- src/fields.rt:22:33
+wide-requires : tie.Need-wide-requires Inv-loop μ-loop
+wide-requires c κs = search needs
+
+byte : (c : lts.After-wide (wide-reads.Asked, wide-reads.Learnt) reads.Pre reads.Post Inv-loop μ-loop) → c .wide .result < 256
+byte c =
+    let turn = c .before .before .before .loop in
+    omega (arith, c .wide .ensures, c .before .before .before .before .shared-slice-known .given (c .before .before .before .before .before .args .at + turn .read))
+
+add-number : tie.Need-add-number Inv-loop μ-loop
+add-number c =
+    let turn = c .before .before .before .loop in
+    omega (arith, c .wide .ensures, digit-room (turn .inv .2) (omega arith) (byte c))
+
+-- src/fields.rt:23:9
+add-read : tie.Need-add-read Inv-loop μ-loop
+add-read c = omega arith
+
+-- src/fields.rt:21:5
+loop-less : tie.Need-loop-less Inv-loop μ-loop
+loop-less c = omega arith
+
+-- src/fields.rt:21:5
+loop-again : tie.Need-loop-again Inv-loop μ-loop
+unfolding numberAt
+loop-again c =
+    let turn = c .before .before .before .loop in (
+      omega arith,
+      rw (add-one (turn .read)) (ap₂ (λ (n d : ℕ). n * 256 + d) (turn .inv .1) (c .wide .ensures)),
+      rw (add-one (turn .read), pow-suc 256 (turn .read)) (digits-lt (turn .inv .2) (byte c)),
+    )
+
+-- src/fields.rt:15:1
+returns : tie.Need-returns Inv-loop μ-loop
+returns c =
+    let end : c .before .loop .read ≡ c .before .before .before .args .bytes = omega arith in
+    c .before .loop .inv .1 ∙ ap (numberAt _ _) end
+
+pub number-at-spec : {M : Type 1} → statement M
+number-at-spec =
+    tie.close
+    (tie.spec
+    Inv-loop
+    μ-loop
+    loop-holds
+    mul-number
+    add-wide
+    shared-slice-read-wide
+    wide-requires
+    add-number
+    add-read
+    loop-less
+    loop-again
+    returns)

@@ -1,0 +1,9 @@
+-- The saved image of a table: its bytes, the checks that a load makes, the table that an image means, and the answers of both calls.
+-- Bytes, Indices, Format, Checks, Answers: the definitions. ByteLaws and the laws beside them: what they say.
+pub mod Bytes
+pub mod ByteLaws
+pub mod Indices
+pub mod Format
+pub mod Checks
+pub mod Answers
+pub mod SaveLaws
