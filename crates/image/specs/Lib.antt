@@ -7,3 +7,5 @@ pub mod Format
 pub mod Checks
 pub mod Answers
 pub mod SaveLaws
+pub mod CheckLaws
+pub mod LoadLaws
