@@ -1,6 +1,5 @@
 -- What saving and loading answer, and what they leave in the lent buffers.
 -- A refused call leaves its buffer as it was; bytes past a saved image stay.
-use mathlib.Core.Path.{_≡_, sym, ap, _∙_}
 use mathlib.Core.Bool.{cond}
 use mathlib.Core.List.{List, [], _∷_}
 use Prim.Native.Nat.{ℕ}

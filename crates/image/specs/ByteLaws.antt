@@ -3,13 +3,12 @@
 use mathlib.Core.Path.{_≡_, refl, sym, ap, ap₂, _∙_}
 use mathlib.Core.List.{List, [], _∷_, _++_, append-assoc, append-nil}
 use Prim.Native.Nat.{ℕ, zero, suc, _+_, _-_, _*_, _/_, _%_, _^_, _≤_, _<_}
-use native.Mathlib.Nat.{div-add-mod', add-zero, pow-suc, pow-zero, div-lt-iff-lt-mul, mod-lt, pow-le-pow-right, mul-le-mul-right, add-mul, add-assoc, add-comm, zero-add, suc-mul, zero-mul}
+use native.Mathlib.Nat.{div-add-mod', add-zero, pow-suc, pow-zero, div-lt-iff-lt-mul, pow-le-pow-right, mul-le-mul-right, add-assoc, zero-add, suc-mul, zero-mul}
 use native.Mathlib.Omega.{arith}
-use native.Mathlib.Decide.{decLt, ℕ-discrete}
-use native.Mathlib.Numerals.{add-one}
+use native.Mathlib.Decide.{decLt}
 use lib.Arith.{digits-div, digits-mod, digits-lt}
-use lib.ListN.{length, getD, set, take, drop, length-append, length-take, length-drop, take-append-drop}
-use lib.Seq.{length-take-le, take-suc, getD-drop, getD-take, getD-at, take-at, drop-at, take-add, drop-drop, take-take, drop-cons, set-at, append-snoc, take-append-le, drop-append-le, take-append-add, drop-append-add, take-all, take-nil, take-set-le, set-split}
+use lib.ListN.{length, getD, set, take, drop, length-append, length-drop, take-append-drop}
+use lib.Seq.{length-take-le, take-suc, getD-drop, getD-take, getD-at, take-at, drop-at, take-add, drop-drop, take-take, append-snoc, take-append-le, drop-append-le, take-append-add, drop-append-add, take-all, take-nil, take-set-le, set-split}
 use Rattle.image.specs.Bytes.{bytesOf, numberAt, part, store, pieces}
 
 pub length-bytes : (k n : ℕ) → length (bytesOf k n) ≡ k

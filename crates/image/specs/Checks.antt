@@ -1,11 +1,11 @@
 -- What a load checks of an image, in document 01's order, and the table that an image means.
 -- A wrong field is 14 at its offset; the first wrong field decides.
-use mathlib.Core.Bool.{Bool, true, false, not, cond, _&&_}
-use mathlib.Core.List.{List, [], _∷_}
-use Prim.Native.Nat.{ℕ, zero, suc, _+_, _*_}
+use mathlib.Core.Bool.{Bool, not, cond, _&&_}
+use mathlib.Core.List.{List}
+use Prim.Native.Nat.{ℕ, zero, suc, _+_}
 use lib.Dec.{eqb, ltb, leb}
 use lib.ListN.{length, replicate}
-use Rattle.records.specs.Record.{word, recordWords, sound, putSlot}
+use Rattle.records.specs.Record.{word, sound, putSlot}
 use Rattle.records.specs.Order.{slots}
 use Rattle.records.specs.Checks.{orElse, checkShape, checkTwice, checkOrder}
 use Rattle.records.specs.declared.Cause.the-variants.{Image}

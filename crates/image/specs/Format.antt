@@ -2,8 +2,8 @@
 -- w is the number of words of a value; document 01 has two, so that a body has 40 bytes and an image 4 + 50 × e.
 use mathlib.Core.Bool.{Bool}
 use mathlib.Core.List.{List, [], _∷_, _++_}
-use Prim.Native.Nat.{ℕ, zero, suc, _+_, _*_}
-use lib.ListN.{length, getD}
+use Prim.Native.Nat.{ℕ, _+_, _*_}
+use lib.ListN.{length}
 use Rattle.ternary.specs.Pattern.{Words}
 use Rattle.records.specs.Record.{listed, slotWords, ident, action, rank, occupied}
 use Rattle.records.specs.Order.{slots}

@@ -1,8 +1,8 @@
 -- The indices at which a test holds, in rising order: a table's occupied slots, counted and taken in turn.
 -- A list of rising indices that hits each of them is that list.
 use mathlib.Core.Path.{_≡_, refl, sym, ap, ap₂, _∙_}
-use mathlib.Core.Bool.{Bool, true, false, cond, false≢true, true≢false}
-use mathlib.Core.Logic.{_⊎_, ⊎-elim}
+use mathlib.Core.Bool.{Bool, true, false, cond, true≢false}
+use mathlib.Core.Logic.{_⊎_}
 use mathlib.Core.Logic._⊎_.{inl, inr}
 use mathlib.Core.List.{List, [], _∷_, _++_, append-nil}
 use Prim.Native.Nat.{ℕ, zero, suc, _+_, _≤_, _<_}
@@ -13,7 +13,6 @@ use lib.ListN.{length, getD, length-append, List·getD-append}
 use lib.Seq.{getD-at}
 use Rattle.search.specs.Search.{decided, below-suc}
 use Rattle.records.specs.Record.{listed}
-use Rattle.records.specs.Rules.{length-listed}
 
 -- the indices below n at which the test holds, in rising order
 unfoldable pub indices : (ℕ → Bool) → ℕ → List ℕ

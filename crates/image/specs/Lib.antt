@@ -9,3 +9,6 @@ pub mod Answers
 pub mod SaveLaws
 pub mod CheckLaws
 pub mod LoadLaws
+pub mod Meaning
+pub mod Reading
+pub mod RoundTrip

@@ -2,21 +2,21 @@
 -- A rule's slot has its record, every other slot is empty.
 use mathlib.Core.Path.{_≡_, refl, sym, ap, ap₂, _∙_}
 use mathlib.Core.Bool.{cond}
-use mathlib.Core.List.{List, [], _∷_, _++_}
-use Prim.Native.Nat.{ℕ, zero, suc, _+_, _-_, _*_, _/_, _≤_, _<_}
+use mathlib.Core.List.{List, [], _∷_}
+use Prim.Native.Nat.{ℕ, zero, suc, _+_, _-_, _*_, _/_, _≤_}
 use native.Mathlib.Nat.{sub-zero}
 use native.Mathlib.Omega.{arith}
 use lib.ListN.{length, take, replicate, length-append}
 use Rattle.records.specs.Record.{recordWords, listed}
 use Rattle.records.specs.Order.{slots}
-use Rattle.records.specs.Checks.{success, refusal, unless, passes, orElse, checkShape, checkTwice, checkOrder}
+use Rattle.records.specs.Checks.{success, refusal, unless, passes, orElse, shaped, checkShape, checkTwice, checkOrder}
 use Rattle.records.specs.Laws.{or-else-pass, failed, passed}
 use Rattle.records.specs.Rules.{length-listed}
 use Rattle.records.specs.declared.Cause.{Cause}
 use Rattle.records.specs.declared.Check.{Check}
 use Rattle.records.specs.declared.Check.the-variants.{Pass, Fail}
 use Rattle.image.specs.Bytes.{numberAt}
-use Rattle.image.specs.Format.{imageBytes, bodyPlace, rulesIn, idAt, recordAt}
+use Rattle.image.specs.Format.{bodyPlace, rulesIn, idAt, recordAt}
 use Rattle.image.specs.Checks.{imageChecks, filled, meant, loadChecks}
 use Rattle.image.specs.CheckLaws.{Sound, image-law}
 use Rattle.image.specs.Answers.{loadAnswer, loadTable}
@@ -74,3 +74,18 @@ take-zeros (suc n) (suc m) h = ap (λ (l : List ℕ). 0 ∷ l) (take-zeros n m (
 
 pub front-zeros : (n m : ℕ) → n ≤ m → take {A = ℕ} (n - 0) (replicate m 0) ≡ replicate n 0
 front-zeros n m h = ap (λ (k : ℕ). take k (replicate m 0)) (sub-zero n) ∙ take-zeros n m h
+
+-- of the lent table only the length counts
+pub shape-same : (w : ℕ) (t u : List ℕ) → length u ≡ length t → checkShape w u ≡ checkShape w t
+unfolding checkShape shaped
+shape-same w t u e = rw e
+
+pub lent-checks : (w : ℕ) (b t u : List ℕ) → length u ≡ length t → loadChecks w b u ≡ loadChecks w b t
+unfolding loadChecks
+lent-checks w b t u e =
+    ap₂ (λ (shape : Check) (n : ℕ). orElse (orElse shape (imageChecks w b (n / recordWords w))) (orElse (checkTwice w (meant w b n)) (checkOrder w (meant w b n))))
+    (shape-same w t u e) e
+
+pub lent-answer : (w : ℕ) (b t u : List ℕ) → length u ≡ length t → loadAnswer w b u ≡ loadAnswer w b t
+unfolding loadAnswer
+lent-answer w b t u e = ap (λ (check : Check). unless check (success [])) (lent-checks w b t u e)

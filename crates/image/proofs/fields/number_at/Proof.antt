@@ -21,24 +21,19 @@ Inv-loop image at bytes number₀ read₀ number read = (read ≤ bytes) × (num
 abbrev μ-loop : tie.MeasureT-loop
 μ-loop image at bytes number₀ read₀ number read = bytes - read
 
--- src/fields.rt:21:5
 loop-holds : tie.Need-loop-holds Inv-loop μ-loop
 unfolding numberAt
 loop-holds c = (omega arith, refl, omega arith)
 
--- src/fields.rt:22:18
 mul-number : tie.Need-mul-number Inv-loop μ-loop
 mul-number c = omega (arith, digit-room {d = 0} (c .before .loop .inv .2) (omega arith) (omega arith))
 
--- src/fields.rt:22:44
 add-wide : tie.Need-add-wide Inv-loop μ-loop
 add-wide c = omega arith
 
--- src/fields.rt:22:38
 shared-slice-read-wide : tie.Need-shared-slice-read-wide Inv-loop μ-loop
 shared-slice-read-wide c = omega arith
 
--- src/fields.rt:22:33
 wide-requires : tie.Need-wide-requires Inv-loop μ-loop
 wide-requires c κs = search needs
 
@@ -52,15 +47,12 @@ add-number c =
     let turn = c .before .before .before .loop in
     omega (arith, c .wide .ensures, digit-room (turn .inv .2) (omega arith) (byte c))
 
--- src/fields.rt:23:9
 add-read : tie.Need-add-read Inv-loop μ-loop
 add-read c = omega arith
 
--- src/fields.rt:21:5
 loop-less : tie.Need-loop-less Inv-loop μ-loop
 loop-less c = omega arith
 
--- src/fields.rt:21:5
 loop-again : tie.Need-loop-again Inv-loop μ-loop
 unfolding numberAt
 loop-again c =
@@ -70,7 +62,6 @@ loop-again c =
       rw (add-one (turn .read), pow-suc 256 (turn .read)) (digits-lt (turn .inv .2) (byte c)),
     )
 
--- src/fields.rt:15:1
 returns : tie.Need-returns Inv-loop μ-loop
 returns c =
     let end : c .before .loop .read ≡ c .before .before .before .args .bytes = omega arith in

@@ -1,16 +1,13 @@
 -- `image::fields::put_number` meets its contract.
 -- What is left to store goes before what has been stored.
 use mathlib.Core.Path.{_≡_, refl, sym, ap, _∙_}
-use Prim.Native.Nat.{ℕ, suc, _+_, _-_, _*_, _/_, _%_, _≤_, _<_}
+use Prim.Native.Nat.{ℕ, suc, _-_, _≤_}
 use native.Mathlib.Omega.{arith}
-use borrow.Author.Needs.{needs}
 use lib.ListN.{length, length-set}
 use Rattle.image.specs.Bytes.{bytesOf, store}
 use Rattle.image.specs.ByteLaws.{store-none, store-last}
 use Rattle.image.proofs.fields.put_number.Statement.{statement}
 use Rattle.image.proofs.fields.put_number.Tie as tie
-use Rattle.image.proofs.fields.put_number.Reads as reads
-use Rattle.image.proofs.fields.put_number.Lts as lts
 
 abbrev Inv-loop : tie.InvT-loop
 Inv-loop image₀ at bytes number left₀ rest₀ image left rest =
@@ -19,31 +16,24 @@ Inv-loop image₀ at bytes number left₀ rest₀ image left rest =
 abbrev μ-loop : tie.MeasureT-loop
 μ-loop image₀ at bytes number left₀ rest₀ image left rest = left
 
--- src/fields.rt:35:5
 loop-holds : tie.Need-loop-holds Inv-loop μ-loop
 loop-holds c = (omega arith, refl, refl)
 
--- src/fields.rt:36:9
 sub-left : tie.Need-sub-left Inv-loop μ-loop
 sub-left c = omega arith
 
--- src/fields.rt:37:28
 cast-image : tie.Need-cast-image Inv-loop μ-loop
 cast-image c = omega arith
 
--- src/fields.rt:37:15
 add-image : tie.Need-add-image Inv-loop μ-loop
 add-image c = omega arith
 
--- src/fields.rt:37:9
 slice-write-image : tie.Need-slice-write-image Inv-loop μ-loop
 slice-write-image c = omega arith
 
--- src/fields.rt:35:5
 loop-less : tie.Need-loop-less Inv-loop μ-loop
 loop-less c = omega arith
 
--- src/fields.rt:35:5
 loop-again : tie.Need-loop-again Inv-loop μ-loop
 loop-again c =
     let turn = c .before .loop in
@@ -55,11 +45,9 @@ loop-again c =
           ∙ (ap (λ (k : ℕ). store (turn .image) at (bytesOf k (turn .rest))) back ∙ turn .inv .2),
     )
 
--- src/fields.rt:29:1
 same-length : tie.Need-same-length Inv-loop μ-loop
 same-length c = omega arith
 
--- src/fields.rt:29:1
 returns : tie.Need-returns Inv-loop μ-loop
 unfolding bytesOf
 returns c =

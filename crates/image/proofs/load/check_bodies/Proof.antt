@@ -1,15 +1,12 @@
 -- `image::load::check_bodies` meets its contract.
 -- Those below the loop's pass, in turn.
-use Prim.Native.Nat.{ℕ, _-_, _≤_, _<_}
+use Prim.Native.Nat.{_-_}
 use native.Mathlib.Omega.{arith}
 use borrow.Author.Needs.{needs}
 use Rattle.image.specs.Checks.{checkBody, checkBodies}
 use Rattle.image.specs.CheckLaws.{PassBelow, pass-start, pass-more, turn-fails, turn-passes}
 use Rattle.image.proofs.load.check_bodies.Statement.{statement}
 use Rattle.image.proofs.load.check_bodies.Tie as tie
-use Rattle.image.proofs.load.check_bodies.Reads as reads
-use Rattle.image.proofs.load.check_bodies.Lts as lts
-use Rattle.image.proofs.load.check_body.Reads as check-body-reads
 
 abbrev Inv-loop : tie.InvT-loop
 Inv-loop image rules entry₀ entry = PassBelow (checkBody 2 image rules) rules entry
@@ -17,19 +14,15 @@ Inv-loop image rules entry₀ entry = PassBelow (checkBody 2 image rules) rules 
 abbrev μ-loop : tie.MeasureT-loop
 μ-loop image rules entry₀ entry = rules - entry
 
--- src/load.rt:130:5
 loop-holds : tie.Need-loop-holds Inv-loop μ-loop
 loop-holds c = pass-start _ _
 
--- src/load.rt:131:13
 check-body-requires : tie.Need-check-body-requires Inv-loop μ-loop
 check-body-requires c κs = omega arith
 
--- src/load.rt:132:28
 enum-known-check : tie.Need-enum-known-check Inv-loop μ-loop
 enum-known-check c = search needs
 
--- src/load.rt:133:13
 returns : tie.Need-returns Inv-loop μ-loop
 unfolding checkBodies
 returns c = turn-fails _ _ _ (c .before .before .before .before .before .loop .inv) (omega arith) (c .before .before .before .check-body .ensures) (c .before .check .given .1)
@@ -37,19 +30,15 @@ returns c = turn-fails _ _ _ (c .before .before .before .before .before .loop .i
 enum-told : tie.Need-enum-told Inv-loop μ-loop
 enum-told c = search needs
 
--- src/load.rt:135:9
 add-entry : tie.Need-add-entry Inv-loop μ-loop
 add-entry c = omega arith
 
--- src/load.rt:130:5
 loop-less : tie.Need-loop-less Inv-loop μ-loop
 loop-less c = omega arith
 
--- src/load.rt:130:5
 loop-again : tie.Need-loop-again Inv-loop μ-loop
 loop-again c = pass-more _ _ _ (c .before .before .before .before .loop .inv) (omega arith) (c .before .before .check-body .ensures) (c .enum-told .given .1)
 
--- src/load.rt:125:1
 returns-2 : tie.Need-returns-2 Inv-loop μ-loop
 unfolding checkBodies
 returns-2 c = turn-passes _ _ _ (c .before .loop .inv) (omega arith)

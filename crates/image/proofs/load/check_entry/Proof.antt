@@ -1,69 +1,47 @@
 -- `image::load::check_entry` meets its contract.
 -- Each return is the first field that is wrong, or all three are right.
-use mathlib.Core.Path.{_≡_, refl, sym, ap, _∙_}
-use mathlib.Core.Bool.{Bool, true, false, not, _&&_}
-use mathlib.Core.List.{List}
-use Prim.Native.Nat.{ℕ, suc, _+_, _-_, _*_, _/_, _≤_, _<_}
-use native.Mathlib.Numerals.{add-one}
-use native.Mathlib.Omega.{arith}
-use lib.Dec.{eqb, ltb, leb}
-use lib.ListN.{length}
-use borrow.Author.Tests.{eq-eqb, ne-eqb, le-leb, lt-leb, lt-ltb, not-true, not-false}
-use Rattle.search.specs.Search.{and-both}
-use Rattle.image.specs.Bytes.{numberAt}
-use Rattle.image.specs.ByteLaws.{number-small}
+use mathlib.Core.Path.{sym, ap, _∙_}
+use mathlib.Core.Bool.{Bool, not, _&&_}
+use Prim.Native.Nat.{ℕ, _-_}
+use lib.Dec.{ltb, leb}
+use borrow.Author.Tests.{eq-eqb, ne-eqb, not-true, not-false}
 use Rattle.image.specs.Checks.{checkEntry}
 use Rattle.image.specs.CheckLaws.{field-wrong, field-right, field-last, field-last-wrong}
 use borrow.Author.Needs.{needs}
 use Rattle.image.proofs.load.check_entry.Statement.{statement}
 use Rattle.image.proofs.load.check_entry.Tie as tie
-use Rattle.image.proofs.load.check_entry.Reads as reads
-use Rattle.image.proofs.load.check_entry.Lts as lts
-use Rattle.image.proofs.fields.number_at.Reads as number-at-reads
-use Rattle.image.proofs.load.lowest_slot.Reads as lowest-slot-reads
 
--- src/load.rt:55:18
 mul-at : tie.Need-mul-at
 mul-at c = search needs
 
--- src/load.rt:55:14
 add-at : tie.Need-add-at
 add-at c = search needs
 
--- src/load.rt:56:8
 number-at-requires : tie.Need-number-at-requires
 number-at-requires c κs = search needs
 
--- src/load.rt:57:42
 cast-t12 : tie.Need-cast-t12
 cast-t12 c = search needs
 
--- src/load.rt:57:9
 returns : tie.Need-returns
 unfolding checkEntry
 returns c = field-wrong _ _ (ap not (eq-eqb _ _ (sym (c .before .number-at .ensures) ∙ c .if1 .taken)))
 
--- src/load.rt:59:33
 add-number-at : tie.Need-add-number-at
 add-number-at c = search needs
 
--- src/load.rt:59:9
 number-at-requires-2 : tie.Need-number-at-requires-2
 number-at-requires-2 c κs = search needs
 
--- src/load.rt:60:9
 lowest-slot-requires : tie.Need-lowest-slot-requires
 lowest-slot-requires c κs = search needs
 
--- src/load.rt:62:43
 add-t17 : tie.Need-add-t17
 add-t17 c = search needs
 
--- src/load.rt:62:42
 cast-t18 : tie.Need-cast-t18
 cast-t18 c = search needs
 
--- src/load.rt:62:9
 abbrev test : ℕ → ℕ → ℕ → Bool
 test slot slots lowest = ltb slot slots && leb lowest slot
 
@@ -73,39 +51,30 @@ returns-2 c =
     field-right _ (ap not (ne-eqb _ _ (λ z. c .before .before .before .if1 .left (c .before .before .before .before .number-at .ensures ∙ z))))
     (field-wrong _ _ (rw (c .before .lowest-slot .ensures, c .before .before .number-at2 .ensures) at (not-true (test (c .before .before .number-at2 .result) (c .before .before .before .before .before .before .args .slots) (c .before .lowest-slot .result)) (c .if2 .taken))))
 
--- src/load.rt:64:25
 add-number-at-2 : tie.Need-add-number-at-2
 add-number-at-2 c = search needs
 
--- src/load.rt:64:8
 number-at-requires-3 : tie.Need-number-at-requires-3
 number-at-requires-3 c κs = search needs
 
--- src/load.rt:64:52
 mul-if3 : tie.Need-mul-if3
 mul-if3 c = search needs
 
--- src/load.rt:64:48
 add-if3 : tie.Need-add-if3
 add-if3 c = search needs
 
--- src/load.rt:64:65
 mul-if3-2 : tie.Need-mul-if3-2
 mul-if3-2 c = search needs
 
--- src/load.rt:64:48
 add-if3-2 : tie.Need-add-if3-2
 add-if3-2 c = search needs
 
--- src/load.rt:65:43
 add-t25 : tie.Need-add-t25
 add-t25 c = search needs
 
--- src/load.rt:65:42
 cast-t26 : tie.Need-cast-t26
 cast-t26 c = search needs
 
--- src/load.rt:65:9
 returns-3 : tie.Need-returns-3
 unfolding checkEntry
 returns-3 c =
@@ -113,7 +82,6 @@ returns-3 c =
     (field-right _ (rw (c .before .before .before .lowest-slot .ensures, c .before .before .before .before .number-at2 .ensures) at (not-false (test (c .before .before .before .before .number-at2 .result) (c .before .before .before .before .before .before .before .before .args .slots) (c .before .before .before .lowest-slot .result)) (c .before .before .if2 .left)))
     (field-last-wrong _ (ne-eqb _ _ (λ z. c .if3 .taken (c .before .number-at3 .ensures ∙ z)))))
 
--- src/load.rt:51:1
 returns-4 : tie.Need-returns-4
 unfolding checkEntry
 returns-4 c =

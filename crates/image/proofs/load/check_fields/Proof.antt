@@ -6,31 +6,22 @@ use Rattle.records.specs.Laws.{failed, passed, shape-length}
 use borrow.Author.Needs.{needs}
 use Rattle.image.proofs.load.check_fields.Statement.{statement}
 use Rattle.image.proofs.load.check_fields.Tie as tie
-use Rattle.image.proofs.load.check_fields.Reads as reads
-use Rattle.image.proofs.load.check_fields.Lts as lts
-use Rattle.image.proofs.load.check_image.Reads as check-image-reads
-use Rattle.records.proofs.checks.check_shape.Reads as check-shape-reads
 
--- src/load.rt:161:9
 check-shape-requires : tie.Need-check-shape-requires
 check-shape-requires c κs = search needs
 
--- src/load.rt:162:24
 enum-known-shape : tie.Need-enum-known-shape
 enum-known-shape c = search needs
 
--- src/load.rt:163:9
 returns : tie.Need-returns
 returns c = failed _ (c .before .before .before .check-shape .ensures) (c .before .shape .given .1)
 
 enum-told : tie.Need-enum-told
 enum-told c = search needs
 
--- src/load.rt:165:5
 check-image-requires : tie.Need-check-image-requires
 check-image-requires c κs = omega (arith, shape-length 2 (c .before .before .before .before .before .args .table .now) (sym (c .before .before .check-shape .ensures) ∙ c .enum-told .given .1))
 
--- src/load.rt:158:1
 returns-2 : tie.Need-returns-2
 returns-2 c = passed (c .before .before .before .check-shape .ensures) (c .before .enum-told .given .1) (c .check-image .ensures)
 

@@ -1,14 +1,12 @@
 -- `image::load::check_header` meets its contract.
 -- Each return is a field that is wrong, or both right.
-use mathlib.Core.Path.{_≡_, refl, sym, ap, ap₂, _∙_}
-use mathlib.Core.Bool.{Bool, true, false, not, _&&_}
-use mathlib.Core.List.{List}
-use Prim.Native.Nat.{ℕ, suc, _+_, _-_, _*_, _/_, _≤_, _<_}
-use native.Mathlib.Numerals.{add-one}
+use mathlib.Core.Path.{sym, ap, ap₂, _∙_}
+use mathlib.Core.Bool.{Bool, _&&_}
+use Prim.Native.Nat.{_-_}
 use native.Mathlib.Omega.{arith}
-use lib.Dec.{eqb, ltb, leb}
+use lib.Dec.{eqb, leb}
 use lib.ListN.{length}
-use borrow.Author.Tests.{eq-eqb, ne-eqb, le-leb, lt-leb, lt-ltb, not-true}
+use borrow.Author.Tests.{eq-eqb, ne-eqb, le-leb, lt-leb}
 use Rattle.search.specs.Search.{and-both}
 use Rattle.image.specs.Bytes.{numberAt}
 use Rattle.image.specs.ByteLaws.{number-small}
@@ -18,46 +16,35 @@ use Rattle.image.specs.CheckLaws.{field-wrong, field-right, field-last, 
 use borrow.Author.Needs.{needs}
 use Rattle.image.proofs.load.check_header.Statement.{statement}
 use Rattle.image.proofs.load.check_header.Tie as tie
-use Rattle.image.proofs.load.check_header.Reads as reads
-use Rattle.image.proofs.load.check_header.Lts as lts
-use Rattle.image.proofs.fields.number_at.Reads as number-at-reads
 
--- src/load.rt:27:9
 returns : tie.Need-returns
 unfolding checkHeader
 returns c = field-wrong 0 (field (leb (rulesIn (c .before .before .args .image .now)) (c .before .before .args .slots) && eqb (length (c .before .before .args .image .now)) (imageBytes 2 (rulesIn (c .before .before .args .image .now)))) 2) (ap (λ (q : Bool). q && eqb (numberAt (c .before .before .args .image .now) 0 2) (c .before .before .args .slots)) (lt-leb 4 _ (c .if1 .taken)))
 
--- src/load.rt:29:8
 number-at-requires : tie.Need-number-at-requires
 number-at-requires c κs = search needs
 
--- src/load.rt:30:9
 returns-2 : tie.Need-returns-2
 unfolding checkHeader
 returns-2 c = field-wrong 0 _ (ap₂ _&&_ (le-leb 4 _ (c .before .before .if1 .left)) (ne-eqb _ _ (λ e. c .if2 .taken (c .before .number-at .ensures ∙ e))))
 
--- src/load.rt:32:17
 number-at-requires-2 : tie.Need-number-at-requires-2
 number-at-requires-2 c κs = search needs
 
--- src/load.rt:33:41
 mul-if3 : tie.Need-mul-if3
 mul-if3 c =
     omega (arith, c .number-at2 .ensures, number-small 2 (c .before .before .before .before .before .args .image .now) 2 (λ i. omega (arith, c .before .before .before .before .shared-slice-known .given i)))
 
--- src/load.rt:33:37
 add-if3 : tie.Need-add-if3
 add-if3 c =
     omega (arith, c .number-at2 .ensures, number-small 2 (c .before .before .before .before .before .args .image .now) 2 (λ i. omega (arith, c .before .before .before .before .shared-slice-known .given i)))
 
--- src/load.rt:34:9
 returns-3 : tie.Need-returns-3
 unfolding checkHeader
 returns-3 c =
     field-right 0 (and-both _ _ (le-leb 4 _ (c .before .before .before .before .if1 .left)) (eq-eqb _ _ (sym (c .before .before .before .number-at .ensures) ∙ c .before .before .if2 .left)))
     (field-last 2 (rw (c .before .number-at2 .ensures) at (c .if3 .taken)))
 
--- src/load.rt:22:1
 returns-4 : tie.Need-returns-4
 unfolding checkHeader
 returns-4 c =

@@ -1,32 +1,21 @@
 -- `image::load::check_image` meets its contract.
 -- Each check is made where those before it pass.
-use mathlib.Core.Path.{_≡_, sym, ap, _∙_}
+use mathlib.Core.Path.{sym, ap, _∙_}
 use Prim.Native.Nat.{ℕ}
 use native.Mathlib.Omega.{arith}
-use Rattle.records.specs.Checks.{orElse}
 use Rattle.records.specs.Laws.{failed, passed}
-use Rattle.records.specs.declared.Check.{Check}
 use Rattle.image.specs.Checks.{checkContents, checkBodies, imageChecks}
 use Rattle.image.specs.CheckLaws.{header-law}
 use borrow.Author.Needs.{needs}
 use Rattle.image.proofs.load.check_image.Statement.{statement}
 use Rattle.image.proofs.load.check_image.Tie as tie
-use Rattle.image.proofs.load.check_image.Reads as reads
-use Rattle.image.proofs.load.check_image.Lts as lts
-use Rattle.image.proofs.fields.number_at.Reads as number-at-reads
-use Rattle.image.proofs.load.check_bodies.Reads as check-bodies-reads
-use Rattle.image.proofs.load.check_contents.Reads as check-contents-reads
-use Rattle.image.proofs.load.check_header.Reads as check-header-reads
 
--- src/load.rt:145:9
 check-header-requires : tie.Need-check-header-requires
 check-header-requires c κs = search needs
 
--- src/load.rt:146:24
 enum-known-header : tie.Need-enum-known-header
 enum-known-header c = search needs
 
--- src/load.rt:147:9
 returns : tie.Need-returns
 unfolding imageChecks
 returns c = failed _ (c .before .before .before .check-header .ensures) (c .before .header .given .1)
@@ -34,25 +23,21 @@ returns c = failed _ (c .before .before .before .check-header .ensures) (c .befo
 enum-told : tie.Need-enum-told
 enum-told c = search needs
 
--- src/load.rt:149:17
 number-at-requires : tie.Need-number-at-requires
 number-at-requires c κs =
     let a = c .before .before .before .before .args in
     let h = header-law 2 (a .image .now) (a .slots) .0 (sym (c .before .before .check-header .ensures) ∙ c .enum-told .given .1) in
     (omega arith, h .0)
 
--- src/load.rt:150:9
 check-contents-requires : tie.Need-check-contents-requires
 check-contents-requires c κs =
     let a = c .before .before .before .before .before .args in
     let h = header-law 2 (a .image .now) (a .slots) .0 (sym (c .before .before .before .check-header .ensures) ∙ c .before .enum-told .given .1) in
     (omega (arith, h .2, c .number-at .ensures), omega (arith, h .3, c .number-at .ensures))
 
--- src/load.rt:151:24
 enum-known-contents : tie.Need-enum-known-contents
 enum-known-contents c = search needs
 
--- src/load.rt:152:9
 returns-2 : tie.Need-returns-2
 unfolding imageChecks
 returns-2 c =
@@ -63,14 +48,12 @@ returns-2 c =
 enum-told-2 : tie.Need-enum-told-2
 enum-told-2 c = search needs
 
--- src/load.rt:154:5
 check-bodies-requires : tie.Need-check-bodies-requires
 check-bodies-requires c κs =
     let a = c .before .before .before .before .before .before .before .before .args in
     let h = header-law 2 (a .image .now) (a .slots) .0 (sym (c .before .before .before .before .before .before .check-header .ensures) ∙ c .before .before .before .before .enum-told .given .1) in
     (omega (arith, h .2, c .before .before .before .number-at .ensures), omega (arith, h .3, c .before .before .before .number-at .ensures))
 
--- src/load.rt:141:1
 returns-3 : tie.Need-returns-3
 unfolding imageChecks
 returns-3 c =

@@ -4,31 +4,22 @@ use Rattle.records.specs.Laws.{failed, passed}
 use borrow.Author.Needs.{needs}
 use Rattle.image.proofs.load.check_meant.Statement.{statement}
 use Rattle.image.proofs.load.check_meant.Tie as tie
-use Rattle.image.proofs.load.check_meant.Reads as reads
-use Rattle.image.proofs.load.check_meant.Lts as lts
-use Rattle.records.proofs.checks.check_order.Reads as check-order-reads
-use Rattle.records.proofs.checks.check_twice.Reads as check-twice-reads
 
--- src/load.rt:187:9
 check-twice-requires : tie.Need-check-twice-requires
 check-twice-requires c κs = search needs
 
--- src/load.rt:188:24
 enum-known-twice : tie.Need-enum-known-twice
 enum-known-twice c = search needs
 
--- src/load.rt:189:9
 returns : tie.Need-returns
 returns c = failed _ (c .before .before .before .check-twice .ensures) (c .before .twice .given .1)
 
 enum-told : tie.Need-enum-told
 enum-told c = search needs
 
--- src/load.rt:191:5
 check-order-requires : tie.Need-check-order-requires
 check-order-requires c κs = search needs
 
--- src/load.rt:183:1
 returns-2 : tie.Need-returns-2
 returns-2 c = passed (c .before .before .before .check-twice .ensures) (c .before .enum-told .given .1) (c .check-order .ensures)
 

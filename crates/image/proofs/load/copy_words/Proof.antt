@@ -2,7 +2,7 @@
 -- The words passed are the other table's.
 use mathlib.Core.Path.{_≡_, refl, sym, ap, _∙_}
 use mathlib.Core.List.{List, [], _∷_, _++_}
-use Prim.Native.Nat.{ℕ, suc, _+_, _-_, _≤_, _<_}
+use Prim.Native.Nat.{ℕ, _+_, _-_, _≤_}
 use native.Mathlib.Numerals.{add-one}
 use native.Mathlib.Omega.{arith}
 use borrow.Author.Needs.{needs}
@@ -10,8 +10,6 @@ use lib.ListN.{length, getD, take, length-set}
 use lib.Seq.{take-suc, take-suc-set, take-all}
 use Rattle.image.proofs.load.copy_words.Statement.{statement}
 use Rattle.image.proofs.load.copy_words.Tie as tie
-use Rattle.image.proofs.load.copy_words.Reads as reads
-use Rattle.image.proofs.load.copy_words.Lts as lts
 
 abbrev Inv-loop : tie.InvT-loop
 Inv-loop from to₀ word₀ to word = (word ≤ length from) × (length to ≡ length to₀) × (take word to ≡ take word from)
@@ -19,35 +17,27 @@ Inv-loop from to₀ word₀ to word = (word ≤ length from) × (length to ≡ l
 abbrev μ-loop : tie.MeasureT-loop
 μ-loop from to₀ word₀ to word = length from - word
 
--- src/load.rt:200:5
 loop-holds : tie.Need-loop-holds Inv-loop μ-loop
 loop-holds c = (omega arith, refl, refl)
 
--- src/load.rt:201:20
 mul-to : tie.Need-mul-to Inv-loop μ-loop
 mul-to c = search needs
 
--- src/load.rt:201:20
 shared-slice-read-to : tie.Need-shared-slice-read-to Inv-loop μ-loop
 shared-slice-read-to c = omega arith
 
--- src/load.rt:201:9
 mul-to-2 : tie.Need-mul-to-2 Inv-loop μ-loop
 mul-to-2 c = search needs
 
--- src/load.rt:201:9
 slice-write-to : tie.Need-slice-write-to Inv-loop μ-loop
 slice-write-to c = omega arith
 
--- src/load.rt:202:9
 add-word : tie.Need-add-word Inv-loop μ-loop
 add-word c = omega arith
 
--- src/load.rt:200:5
 loop-less : tie.Need-loop-less Inv-loop μ-loop
 loop-less c = omega arith
 
--- src/load.rt:200:5
 loop-again : tie.Need-loop-again Inv-loop μ-loop
 loop-again c =
     let turn = c .before .before .loop in
@@ -59,11 +49,9 @@ loop-again c =
           ∙ (ap (λ (front : List ℕ). front ++ (getD from (turn .word) 0 ∷ [])) (turn .inv .2) ∙ sym (take-suc from (turn .word) 0 (omega arith)))),
     )
 
--- src/load.rt:195:1
 same-length : tie.Need-same-length Inv-loop μ-loop
 same-length c = omega arith
 
--- src/load.rt:195:1
 returns : tie.Need-returns Inv-loop μ-loop
 returns c =
     let end = c .before .loop in

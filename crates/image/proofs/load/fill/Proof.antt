@@ -2,23 +2,17 @@
 -- The records of the entries passed stand in their slots.
 use mathlib.Core.Path.{_≡_, refl, sym, ap, ap₂, _∙_}
 use mathlib.Core.List.{List}
-use Prim.Native.Nat.{ℕ, suc, _+_, _-_, _*_, _/_, _≤_, _<_}
+use Prim.Native.Nat.{ℕ, _-_, _≤_}
 use native.Mathlib.Numerals.{add-one}
 use native.Mathlib.Omega.{arith}
 use lib.ListN.{length}
-use borrow.Author.Needs.{needs}
 use Rattle.records.specs.Record.{listed, word, putSlot}
 use Rattle.records.specs.Rules.{listed-words}
-use Rattle.image.specs.Format.{slotAt, recordAt}
+use Rattle.image.specs.Format.{recordAt}
 use Rattle.image.specs.Checks.{filled}
 use Rattle.image.specs.LoadLaws.{record-at-length}
 use Rattle.image.proofs.load.fill.Statement.{statement}
 use Rattle.image.proofs.load.fill.Tie as tie
-use Rattle.image.proofs.load.fill.Reads as reads
-use Rattle.image.proofs.load.fill.Lts as lts
-use Rattle.image.proofs.fields.number_at.Reads as number-at-reads
-use Rattle.image.proofs.load.record_at.Reads as record-at-reads
-use Rattle.records.proofs.slot.put_record.Reads as put-record-reads
 
 abbrev Inv-loop : tie.InvT-loop
 Inv-loop image rules table₀ entry₀ table entry = (entry ≤ rules) × (length table ≡ length table₀) × (table ≡ filled 2 image rules table₀ entry)
@@ -26,44 +20,34 @@ Inv-loop image rules table₀ entry₀ table entry = (entry ≤ rules) × (lengt
 abbrev μ-loop : tie.MeasureT-loop
 μ-loop image rules table₀ entry₀ table entry = rules - entry
 
--- src/load.rt:175:5
 loop-holds : tie.Need-loop-holds Inv-loop μ-loop
 unfolding filled
 loop-holds c = (omega arith, refl, refl)
 
--- src/load.rt:176:41
 mul-number-at : tie.Need-mul-number-at Inv-loop μ-loop
 mul-number-at c = omega arith
 
--- src/load.rt:176:37
 add-number-at : tie.Need-add-number-at Inv-loop μ-loop
 add-number-at c = omega arith
 
--- src/load.rt:176:37
 add-number-at-2 : tie.Need-add-number-at-2 Inv-loop μ-loop
 add-number-at-2 c = omega arith
 
--- src/load.rt:176:20
 number-at-requires : tie.Need-number-at-requires Inv-loop μ-loop
 number-at-requires c κs = omega arith
 
--- src/load.rt:177:33
 record-at-requires : tie.Need-record-at-requires Inv-loop μ-loop
 record-at-requires c κs = omega arith
 
--- src/load.rt:177:9
 put-record-requires : tie.Need-put-record-requires Inv-loop μ-loop
 put-record-requires c κs = omega (arith, c .before .before .number-at .ensures, c .before .before .before .before .before .before .before .pre .1 (c .before .before .before .before .loop .entry) (c .before .before .before .loop-test .taken), c .before .before .before .before .loop .inv .1)
 
--- src/load.rt:178:9
 add-entry : tie.Need-add-entry Inv-loop μ-loop
 add-entry c = omega arith
 
--- src/load.rt:175:5
 loop-less : tie.Need-loop-less Inv-loop μ-loop
 loop-less c = omega arith
 
--- src/load.rt:175:5
 loop-again : tie.Need-loop-again Inv-loop μ-loop
 unfolding filled
 loop-again c =
@@ -79,11 +63,9 @@ loop-again c =
           ∙ ap (filled 2 (a .image .now) (a .rules) (a .table .now)) (sym (add-one (turn .entry))))),
     )
 
--- src/load.rt:169:1
 same-length : tie.Need-same-length Inv-loop μ-loop
 same-length c = omega arith
 
--- src/load.rt:169:1
 returns : tie.Need-returns Inv-loop μ-loop
 returns c =
     let a = c .before .before .before .before .args in

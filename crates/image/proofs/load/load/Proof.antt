@@ -11,57 +11,43 @@ use Rattle.image.specs.LoadLaws.{load-wrong, front-zeros}
 use borrow.Author.Needs.{needs}
 use Rattle.image.proofs.load.load.Statement.{statement}
 use Rattle.image.proofs.load.load.Tie as tie
-use Rattle.image.proofs.load.load.Reads as reads
-use Rattle.image.proofs.load.load.Lts as lts
-use Rattle.image.proofs.load.check_fields.Reads as check-fields-reads
-use Rattle.image.proofs.load.load_through.Reads as load-through-reads
 
--- src/load.rt:227:9
 check-fields-requires : tie.Need-check-fields-requires
 check-fields-requires c κs = search needs
 
--- src/load.rt:228:24
 enum-known-check : tie.Need-enum-known-check
 enum-known-check c = search needs
 
--- src/load.rt:229:9
 same-length : tie.Need-same-length
 same-length c = search needs
 
--- src/load.rt:229:9
 returns : tie.Need-returns
 returns c = load-wrong 2 (c .before .before .before .before .before .before .before .args .image .now) (c .before .before .before .before .before .before .before .args .table .now) (c .before .before .before .check-fields .ensures) (c .before .check .given .1)
 
 enum-told : tie.Need-enum-told
 enum-told c = search needs
 
--- src/load.rt:233:25
 sub-load-through : tie.Need-sub-load-through
 sub-load-through c = search needs
 
--- src/load.rt:233:25
 part-working-start : tie.Need-part-working-start
 part-working-start c = search needs
 
--- src/load.rt:233:25
 part-working-end : tie.Need-part-working-end
 part-working-end c =
     let a = c .before .before .before .before .before .before .args in
     let pass = sym (c .before .before .check-fields .ensures) ∙ c .enum-told .given .1 in
     omega (arith, shape-length 2 (a .table .now) (or-else-pass (checkShape 2 (a .table .now)) (imageChecks 2 (a .image .now) (length (a .table .now) / 6)) .0 pass .0))
 
--- src/load.rt:233:5
 load-through-requires : tie.Need-load-through-requires
 load-through-requires c κs =
     let a = c .before .before .before .before .before .before .before .before .args in
     let pass = sym (c .before .before .before .before .check-fields .ensures) ∙ c .before .before .enum-told .given .1 in
     (pass, front-zeros (length (a .table .now)) 6144 (shape-length 2 (a .table .now) (or-else-pass (checkShape 2 (a .table .now)) _ .0 pass .0)))
 
--- src/load.rt:223:1
 same-length-2 : tie.Need-same-length-2
 same-length-2 c = search needs
 
--- src/load.rt:223:1
 returns-2 : tie.Need-returns-2
 returns-2 c = search needs
 

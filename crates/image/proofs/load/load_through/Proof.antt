@@ -1,34 +1,22 @@
 -- `image::load::load_through` meets its contract.
 -- The working table is the table meant; it is written where checks 3 and 4 pass.
-use mathlib.Core.Path.{_≡_, sym, ap, ap₂, _∙_}
+use mathlib.Core.Path.{ap, _∙_}
 use mathlib.Core.List.{List}
-use Prim.Native.Nat.{ℕ, _/_, _≤_}
+use Prim.Native.Nat.{ℕ}
 use native.Mathlib.Omega.{arith}
-use lib.ListN.{length, replicate, length-replicate}
-use Rattle.records.specs.Checks.{orElse, checkShape, checkTwice, checkOrder}
-use Rattle.records.specs.Laws.{or-else-pass, shape-length}
-use Rattle.records.specs.declared.Check.{Check}
-use Rattle.image.specs.Format.{rulesIn}
-use Rattle.image.specs.Checks.{imageChecks, filled, meant}
-use Rattle.image.specs.CheckLaws.{image-law, Sound}
+use lib.ListN.{length, length-replicate}
+use Rattle.records.specs.Checks.{orElse, checkTwice, checkOrder}
+use Rattle.records.specs.Laws.{shape-length}
 use Rattle.image.specs.LoadLaws.{fields-shape, fields-sound, meant-built, load-unsound, load-written}
 use borrow.Author.Needs.{needs}
 use Rattle.image.proofs.load.load_through.Statement.{statement}
 use Rattle.image.proofs.load.load_through.Tie as tie
-use Rattle.image.proofs.load.load_through.Reads as reads
-use Rattle.image.proofs.load.load_through.Lts as lts
-use Rattle.image.proofs.fields.number_at.Reads as number-at-reads
-use Rattle.image.proofs.load.check_meant.Reads as check-meant-reads
-use Rattle.image.proofs.load.copy_words.Reads as copy-words-reads
-use Rattle.image.proofs.load.fill.Reads as fill-reads
 
--- src/load.rt:212:17
 number-at-requires : tie.Need-number-at-requires
 number-at-requires c κs =
     let s = fields-sound 2 (c .before .before .before .args .image .now) (c .before .before .before .args .table .now) (c .before .before .before .pre .0) in
     (omega arith, omega (arith, s .long))
 
--- src/load.rt:213:5
 fill-requires : tie.Need-fill-requires
 fill-requires c κs =
     let b = c .before .before .before .before .before .args .image .now in
@@ -39,7 +27,6 @@ fill-requires c κs =
     let zeros = ap length (c .before .before .before .before .before .pre .1) ∙ length-replicate (length t) 0 in
     ((omega (arith, s .few), omega (arith, s .long)), λ k l. omega (arith, s .below k (omega arith)))
 
--- src/load.rt:214:9
 check-meant-requires : tie.Need-check-meant-requires
 check-meant-requires c κs =
     let b = c .before .before .before .before .before .before .before .before .before .args .image .now in
@@ -47,15 +34,12 @@ check-meant-requires c κs =
     let h = shape-length 2 t (fields-shape 2 b t (c .before .before .before .before .before .before .before .before .before .pre .0)) in
     omega (arith, c .before .before .before .fill .kept .1 .1 .0, ap length (c .before .before .before .before .before .before .before .before .before .pre .1) ∙ length-replicate (length t) 0)
 
--- src/load.rt:215:24
 enum-known-check : tie.Need-enum-known-check
 enum-known-check c = search needs
 
--- src/load.rt:216:9
 same-length : tie.Need-same-length
 same-length c = search needs
 
--- src/load.rt:216:9
 returns : tie.Need-returns
 returns c =
     let b = c .before .before .before .before .before .before .before .before .before .before .before .before .before .args .image .now in
@@ -66,20 +50,16 @@ returns c =
 enum-told : tie.Need-enum-told
 enum-told c = search needs
 
--- src/load.rt:218:5
 copy-words-requires : tie.Need-copy-words-requires
 copy-words-requires c κs =
     omega (arith, c .before .before .before .before .before .before .before .before .fill .kept .1 .1 .0, ap length (c .before .before .before .before .before .before .before .before .before .before .before .before .before .before .pre .1) ∙ length-replicate (length (c .before .before .before .before .before .before .before .before .before .before .before .before .before .before .args .table .now)) 0)
 
--- src/load.rt:207:1
 same-length-2 : tie.Need-same-length-2
 same-length-2 c = search needs
 
--- src/load.rt:207:1
 same-length-3 : tie.Need-same-length-3
 same-length-3 c = search needs
 
--- src/load.rt:207:1
 returns-2 : tie.Need-returns-2
 returns-2 c =
     let b = c .before .before .before .before .before .before .before .before .before .before .before .before .before .before .before .before .before .args .image .now in

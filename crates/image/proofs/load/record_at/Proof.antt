@@ -1,16 +1,7 @@
 -- `image::load::record_at` meets its contract.
 -- Each word is the number read at its place.
-use mathlib.Core.Path.{_≡_, refl, sym, ap, _∙_}
-use mathlib.Core.Bool.{Bool, true, false, not, _&&_}
-use mathlib.Core.List.{List}
-use Prim.Native.Nat.{ℕ, suc, _+_, _-_, _*_, _/_, _≤_, _<_}
-use native.Mathlib.Numerals.{add-one}
+use Prim.Native.Nat.{_+_, _-_, _*_}
 use native.Mathlib.Omega.{arith}
-use lib.Dec.{eqb, ltb, leb}
-use lib.ListN.{length}
-use borrow.Author.Tests.{eq-eqb, ne-eqb, le-leb, lt-leb, lt-ltb, not-true}
-use Rattle.search.specs.Search.{and-both}
-use Rattle.image.specs.Bytes.{numberAt}
 use Rattle.image.specs.ByteLaws.{number-small}
 use native.Mathlib.Nat.{add-zero}
 use Rattle.records.specs.Record.{listed}
@@ -18,80 +9,59 @@ use Rattle.image.specs.Format.{recordAt}
 use borrow.Author.Needs.{needs}
 use Rattle.image.proofs.load.record_at.Statement.{statement}
 use Rattle.image.proofs.load.record_at.Tie as tie
-use Rattle.image.proofs.load.record_at.Reads as reads
-use Rattle.image.proofs.load.record_at.Lts as lts
-use Rattle.image.proofs.fields.number_at.Reads as number-at-reads
 
--- src/load.rt:75:20
 mul-body : tie.Need-mul-body
 mul-body c = search needs
 
--- src/load.rt:75:16
 add-body : tie.Need-add-body
 add-body c = search needs
 
--- src/load.rt:75:33
 mul-body-2 : tie.Need-mul-body-2
 mul-body-2 c = search needs
 
--- src/load.rt:75:16
 add-body-2 : tie.Need-add-body-2
 add-body-2 c = search needs
 
--- src/load.rt:76:35
 mul-number-at : tie.Need-mul-number-at
 mul-number-at c = search needs
 
--- src/load.rt:76:31
 add-number-at : tie.Need-add-number-at
 add-number-at c = search needs
 
--- src/load.rt:76:9
 number-at-requires : tie.Need-number-at-requires
 number-at-requires c κs = search needs
 
--- src/load.rt:77:35
 add-number-at-2 : tie.Need-add-number-at-2
 add-number-at-2 c = search needs
 
--- src/load.rt:77:9
 number-at-requires-2 : tie.Need-number-at-requires-2
 number-at-requires-2 c κs = search needs
 
--- src/load.rt:79:9
 number-at-requires-3 : tie.Need-number-at-requires-3
 number-at-requires-3 c κs = search needs
 
--- src/load.rt:80:26
 add-number-at-3 : tie.Need-add-number-at-3
 add-number-at-3 c = search needs
 
--- src/load.rt:80:9
 number-at-requires-4 : tie.Need-number-at-requires-4
 number-at-requires-4 c κs = search needs
 
--- src/load.rt:81:26
 add-number-at-4 : tie.Need-add-number-at-4
 add-number-at-4 c = search needs
 
--- src/load.rt:81:9
 number-at-requires-5 : tie.Need-number-at-requires-5
 number-at-requires-5 c κs = search needs
 
--- src/load.rt:82:26
 add-number-at-5 : tie.Need-add-number-at-5
 add-number-at-5 c = search needs
 
--- src/load.rt:82:9
 number-at-requires-6 : tie.Need-number-at-requires-6
 number-at-requires-6 c κs = search needs
 
--- src/load.rt:83:9
 mul-t14 : tie.Need-mul-t14
 mul-t14 c =
     omega (arith, c .before .before .before .before .before .number-at .ensures, number-small 4 (c .before .before .before .before .before .before .before .args .image .now) (4 + c .before .before .before .before .before .before .before .args .entry * 10) (λ i. omega (arith, c .before .before .before .before .before .before .shared-slice-known .given i)))
 
--- src/load.rt:83:9
 add-t15 : tie.Need-add-t15
 add-t15 c =
     let a = c .before .before .before .before .before .before .before .args in
@@ -103,15 +73,12 @@ add-t15 c =
       number-small 4 (a .image .now) (4 + a .rules * 10 + a .entry * 40 + 36) (λ i. omega (arith, c .before .before .before .before .before .before .shared-slice-known .given i)),
     )
 
--- src/load.rt:84:26
 add-number-at-6 : tie.Need-add-number-at-6
 add-number-at-6 c = search needs
 
--- src/load.rt:84:9
 number-at-requires-7 : tie.Need-number-at-requires-7
 number-at-requires-7 c κs = search needs
 
--- src/load.rt:71:1
 returns : tie.Need-returns
 unfolding recordAt listed
 returns c = rw (c .number-at7 .ensures, c .before .number-at6 .ensures, c .before .before .number-at5 .ensures, c .before .before .before .number-at4 .ensures, c .before .before .before .before .number-at3 .ensures, c .before .before .before .before .before .number-at2 .ensures, c .before .before .before .before .before .before .number-at .ensures, add-zero (4 + c .before .before .before .before .before .before .before .before .args .rules * 10 + c .before .before .before .before .before .before .before .before .args .entry * 40))

@@ -2,18 +2,14 @@
 -- As many rules are counted as stand in the slots passed.
 use mathlib.Core.Path.{_≡_, refl, sym, ap, _∙_}
 use mathlib.Core.Bool.{not}
-use Prim.Native.Nat.{ℕ, _+_, _-_, _/_, _≤_, _<_}
+use Prim.Native.Nat.{ℕ, _-_, _/_, _≤_}
 use native.Mathlib.Omega.{arith}
 use mathlib.Core.Logic.{⊎-elim}
-use borrow.Author.Needs.{needs}
 use lib.ListN.{length}
 use Rattle.image.specs.Indices.{indices, count-high, count-more, count-same}
 use Rattle.image.specs.Format.{holds}
 use Rattle.image.proofs.save.count_rules.Statement.{statement}
 use Rattle.image.proofs.save.count_rules.Tie as tie
-use Rattle.image.proofs.save.count_rules.Reads as reads
-use Rattle.image.proofs.save.count_rules.Lts as lts
-use Rattle.records.proofs.slot.slot_empty.Reads as slot-empty-reads
 
 abbrev Inv-loop : tie.InvT-loop
 Inv-loop table slots count₀ slot₀ count slot = (slot ≤ slots) × (count ≡ length (indices (holds 2 table) slot))
@@ -21,28 +17,22 @@ Inv-loop table slots count₀ slot₀ count slot = (slot ≤ slots) × (count �
 abbrev μ-loop : tie.MeasureT-loop
 μ-loop table slots count₀ slot₀ count slot = slots - slot
 
--- src/save.rt:30:5
 loop-holds : tie.Need-loop-holds Inv-loop μ-loop
 unfolding indices
 loop-holds c = (omega arith, refl)
 
--- src/save.rt:31:13
 slot-empty-requires : tie.Need-slot-empty-requires Inv-loop μ-loop
 slot-empty-requires c κs = omega arith
 
--- src/save.rt:32:13
 add-count : tie.Need-add-count Inv-loop μ-loop
 add-count c = omega (arith, count-high (holds 2 (c .before .before .before .before .before .args .table .now)) (c .before .before .before .loop .slot))
 
--- src/save.rt:34:9
 add-slot : tie.Need-add-slot Inv-loop μ-loop
 add-slot c = omega arith
 
--- src/save.rt:30:5
 loop-less : tie.Need-loop-less Inv-loop μ-loop
 loop-less c = omega arith
 
--- src/save.rt:30:5
 loop-again : tie.Need-loop-again Inv-loop μ-loop
 loop-again c =
     let turn = c .before .before .before .loop in
@@ -53,7 +43,6 @@ loop-again c =
           (λ w. w .1 ∙ count-same (holds 2 t) (turn .slot) (turn .inv .1) (held ∙ w .0 .left)) (c .if1 .came),
     )
 
--- src/save.rt:24:1
 returns : tie.Need-returns Inv-loop μ-loop
 returns c =
     let t = c .before .before .before .args .table .now in

@@ -1,7 +1,7 @@
 -- `image::save::put_body` meets its contract.
 -- Each field is stored behind the one before.
 use mathlib.Core.Path.{ap, _∙_}
-use mathlib.Core.List.{List, _++_}
+use mathlib.Core.List.{_++_}
 use Prim.Native.Nat.{ℕ, _+_, _%_}
 use native.Mathlib.Omega.{arith}
 use lib.ListN.{length-append}
@@ -13,45 +13,31 @@ use Rattle.image.specs.SaveLaws.{words-length}
 use borrow.Author.Needs.{needs}
 use Rattle.image.proofs.save.put_body.Statement.{statement}
 use Rattle.image.proofs.save.put_body.Tie as tie
-use Rattle.image.proofs.save.put_body.Reads as reads
-use Rattle.image.proofs.save.put_body.Lts as lts
-use Rattle.image.proofs.fields.put_number.Reads as put-number-reads
-use Rattle.image.proofs.save.put_words.Reads as put-words-reads
-use Rattle.records.proofs.slot.slot_word.Reads as slot-word-reads
 
--- src/save.rt:64:5
 put-words-requires : tie.Need-put-words-requires
 put-words-requires c κs = search needs
 
--- src/save.rt:65:23
 add-put-number : tie.Need-add-put-number
 add-put-number c = search needs
 
--- src/save.rt:65:35
 slot-word-requires : tie.Need-slot-word-requires
 slot-word-requires c κs = search needs
 
--- src/save.rt:65:5
 put-number-requires : tie.Need-put-number-requires
 put-number-requires c κs = search needs
 
--- src/save.rt:66:23
 add-put-number-2 : tie.Need-add-put-number-2
 add-put-number-2 c = search needs
 
--- src/save.rt:66:35
 slot-word-requires-2 : tie.Need-slot-word-requires-2
 slot-word-requires-2 c κs = search needs
 
--- src/save.rt:66:5
 put-number-requires-2 : tie.Need-put-number-requires-2
 put-number-requires-2 c κs = search needs
 
--- src/save.rt:60:1
 same-length : tie.Need-same-length
 same-length c = search needs
 
--- src/save.rt:60:1
 returns : tie.Need-returns
 unfolding bodyOf
 returns c =

@@ -10,35 +10,25 @@ use Rattle.image.specs.Format.{entryOf}
 use borrow.Author.Needs.{needs}
 use Rattle.image.proofs.save.put_entry.Statement.{statement}
 use Rattle.image.proofs.save.put_entry.Tie as tie
-use Rattle.image.proofs.save.put_entry.Reads as reads
-use Rattle.image.proofs.save.put_entry.Lts as lts
-use Rattle.image.proofs.fields.put_number.Reads as put-number-reads
 
--- src/save.rt:44:5
 put-number-requires : tie.Need-put-number-requires
 put-number-requires c κs = search needs
 
--- src/save.rt:45:23
 add-put-number : tie.Need-add-put-number
 add-put-number c = search needs
 
--- src/save.rt:45:5
 put-number-requires-2 : tie.Need-put-number-requires-2
 put-number-requires-2 c κs = search needs
 
--- src/save.rt:46:23
 add-put-number-2 : tie.Need-add-put-number-2
 add-put-number-2 c = search needs
 
--- src/save.rt:46:5
 put-number-requires-3 : tie.Need-put-number-requires-3
 put-number-requires-3 c κs = search needs
 
--- src/save.rt:40:1
 same-length : tie.Need-same-length
 same-length c = search needs
 
--- src/save.rt:40:1
 returns : tie.Need-returns
 unfolding entryOf
 returns c =

@@ -1,6 +1,6 @@
 -- `image::save::put_image` meets its contract.
 -- Behind the header stand the rules, and past the image what stood there.
-use mathlib.Core.Path.{_≡_, sym, ap, _∙_}
+use mathlib.Core.Path.{ap, _∙_}
 use Prim.Native.Nat.{ℕ}
 use native.Mathlib.Omega.{arith}
 use Rattle.image.specs.Bytes.{bytesOf, store}
@@ -8,28 +8,19 @@ use Rattle.image.specs.SaveLaws.{stored, image-stored}
 use borrow.Author.Needs.{needs}
 use Rattle.image.proofs.save.put_image.Statement.{statement}
 use Rattle.image.proofs.save.put_image.Tie as tie
-use Rattle.image.proofs.save.put_image.Reads as reads
-use Rattle.image.proofs.save.put_image.Lts as lts
-use Rattle.image.proofs.fields.put_number.Reads as put-number-reads
-use Rattle.image.proofs.save.put_rules.Reads as put-rules-reads
 
--- src/save.rt:102:5
 put-number-requires : tie.Need-put-number-requires
 put-number-requires c κs = search needs
 
--- src/save.rt:103:5
 put-number-requires-2 : tie.Need-put-number-requires-2
 put-number-requires-2 c κs = search needs
 
--- src/save.rt:104:5
 put-rules-requires : tie.Need-put-rules-requires
 put-rules-requires c κs = search needs
 
--- src/save.rt:98:1
 same-length : tie.Need-same-length
 same-length c = search needs
 
--- src/save.rt:98:1
 returns : tie.Need-returns
 returns c =
     let a = c .before .before .before .before .before .before .before .before .before .before .before .before .before .before .args in

@@ -3,12 +3,10 @@
 use mathlib.Core.Path.{_≡_, refl, sym, ap, _∙_}
 use mathlib.Core.Bool.{not}
 use mathlib.Core.Logic.{⊎-elim}
-use mathlib.Core.List.{List}
-use Prim.Native.Nat.{ℕ, suc, _+_, _-_, _*_, _/_, _≤_, _<_}
+use Prim.Native.Nat.{ℕ, _-_, _/_, _≤_}
 use native.Mathlib.Numerals.{add-one}
 use native.Mathlib.Omega.{arith}
 use lib.ListN.{length}
-use borrow.Author.Needs.{needs}
 use Rattle.records.specs.Record.{slotWords, ident}
 use Rattle.image.specs.Bytes.{store}
 use Rattle.image.specs.Indices.{indices, count-more, count-same, count-high, index-at}
@@ -16,10 +14,6 @@ use Rattle.image.specs.Format.{holds, entryPlace, bodyPlace, entryOf, bo
 use Rattle.image.specs.SaveLaws.{stored, stored-none, rule-stored}
 use Rattle.image.proofs.save.put_rules.Statement.{statement}
 use Rattle.image.proofs.save.put_rules.Tie as tie
-use Rattle.image.proofs.save.put_rules.Reads as reads
-use Rattle.image.proofs.save.put_rules.Lts as lts
-use Rattle.image.proofs.save.put_rule.Reads as put-rule-reads
-use Rattle.records.proofs.slot.slot_empty.Reads as slot-empty-reads
 
 abbrev Inv-loop : tie.InvT-loop
 Inv-loop image₀ rules table slots rule₀ slot₀ image rule slot =
@@ -28,16 +22,13 @@ Inv-loop image₀ rules table slots rule₀ slot₀ image rule slot =
 abbrev μ-loop : tie.MeasureT-loop
 μ-loop image₀ rules table slots rule₀ slot₀ image rule slot = slots - slot
 
--- src/save.rt:88:5
 loop-holds : tie.Need-loop-holds Inv-loop μ-loop
 unfolding indices
 loop-holds c = (omega arith, refl, refl, stored-none 2 _ _ (omega (arith, c .before .before .pre .1, c .before .before .pre .2)))
 
--- src/save.rt:89:13
 slot-empty-requires : tie.Need-slot-empty-requires Inv-loop μ-loop
 slot-empty-requires c κs = omega arith
 
--- src/save.rt:90:13
 put-rule-requires : tie.Need-put-rule-requires Inv-loop μ-loop
 put-rule-requires c κs =
     let turn = c .before .before .before .before .loop in
@@ -45,19 +36,15 @@ put-rule-requires c κs =
     let found = index-at (holds 2 t) (length t / 6) (turn .slot) (omega arith) (ap not (sym (c .before .before .slot-empty .ensures)) ∙ c .before .if1 .taken) in
     (omega (arith, count-high (holds 2 t) (length t / 6), c .before .before .before .before .before .before .before .pre .1), omega (arith, found .0, turn .inv .1, c .before .before .before .before .before .before .before .pre .1), omega arith, omega (arith, turn .inv .2, c .before .before .before .before .before .before .before .pre .2))
 
--- src/save.rt:91:13
 add-rule : tie.Need-add-rule Inv-loop μ-loop
 add-rule c = let t = c .before .before .before .before .before .before .before .before .before .before .args .table .now in omega (arith, count-high (holds 2 t) (c .before .before .before .before .before .before .before .loop .slot), c .before .before .before .before .before .before .before .loop .inv .1)
 
--- src/save.rt:93:9
 add-slot : tie.Need-add-slot Inv-loop μ-loop
 add-slot c = omega arith
 
--- src/save.rt:88:5
 loop-less : tie.Need-loop-less Inv-loop μ-loop
 loop-less c = omega arith
 
--- src/save.rt:88:5
 loop-again : tie.Need-loop-again Inv-loop μ-loop
 loop-again c =
     let turn = c .before .before .before .loop in
@@ -82,11 +69,9 @@ loop-again c =
       w .1 ∙ (turn .inv .3 ∙ ap (stored 2 t b) (sym (w .2))),
     )) (c .if1 .came)
 
--- src/save.rt:81:1
 same-length : tie.Need-same-length Inv-loop μ-loop
 same-length c = omega arith
 
--- src/save.rt:81:1
 returns : tie.Need-returns Inv-loop μ-loop
 returns c =
     let a = c .before .before .before .before .args in

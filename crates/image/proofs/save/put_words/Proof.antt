@@ -2,20 +2,15 @@
 -- The words passed are stored one behind another.
 use mathlib.Core.Path.{_≡_, refl, sym, ap, _∙_}
 use mathlib.Core.List.{List}
-use Prim.Native.Nat.{ℕ, _+_, _-_, _*_, _≤_, _<_}
+use Prim.Native.Nat.{ℕ, _+_, _-_, _*_, _≤_}
 use native.Mathlib.Numerals.{add-one}
 use native.Mathlib.Omega.{arith}
 use lib.ListN.{length}
-use borrow.Author.Needs.{needs}
 use Rattle.records.specs.Record.{slotWords}
 use Rattle.image.specs.Bytes.{bytesOf, store, pieces}
 use Rattle.image.specs.ByteLaws.{length-bytes, pieces-length, store-none, store-then}
 use Rattle.image.proofs.save.put_words.Statement.{statement}
 use Rattle.image.proofs.save.put_words.Tie as tie
-use Rattle.image.proofs.save.put_words.Reads as reads
-use Rattle.image.proofs.save.put_words.Lts as lts
-use Rattle.image.proofs.fields.put_number.Reads as put-number-reads
-use Rattle.records.proofs.slot.slot_word.Reads as slot-word-reads
 
 abbrev words : List ℕ → ℕ → ℕ → List ℕ
 words table slot j = bytesOf 8 (slotWords 2 table slot j)
@@ -27,36 +22,28 @@ Inv-loop image₀ at table slot word₀ image word =
 abbrev μ-loop : tie.MeasureT-loop
 μ-loop image₀ at table slot word₀ image word = 4 - word
 
--- src/save.rt:53:5
 loop-holds : tie.Need-loop-holds Inv-loop μ-loop
 unfolding pieces
 loop-holds c = (omega arith, refl, sym (store-none _ _))
 
--- src/save.rt:54:32
 mul-put-number : tie.Need-mul-put-number Inv-loop μ-loop
 mul-put-number c = omega arith
 
--- src/save.rt:54:27
 add-put-number : tie.Need-add-put-number Inv-loop μ-loop
 add-put-number c = omega arith
 
--- src/save.rt:54:45
 slot-word-requires : tie.Need-slot-word-requires Inv-loop μ-loop
 slot-word-requires c κs = omega arith
 
--- src/save.rt:54:9
 put-number-requires : tie.Need-put-number-requires Inv-loop μ-loop
 put-number-requires c κs = omega arith
 
--- src/save.rt:55:9
 add-word : tie.Need-add-word Inv-loop μ-loop
 add-word c = omega arith
 
--- src/save.rt:53:5
 loop-less : tie.Need-loop-less Inv-loop μ-loop
 loop-less c = omega arith
 
--- src/save.rt:53:5
 loop-again : tie.Need-loop-again Inv-loop μ-loop
 unfolding pieces
 loop-again c =
@@ -72,11 +59,9 @@ loop-again c =
           ∙ ap (λ (n : ℕ). store (turn .image) (a .at + turn .word * 8) (bytesOf 8 n)) (c .before .before .before .slot-word .ensures))),
     )
 
--- src/save.rt:48:1
 same-length : tie.Need-same-length Inv-loop μ-loop
 same-length c = omega arith
 
--- src/save.rt:48:1
 returns : tie.Need-returns Inv-loop μ-loop
 returns c =
     let a = c .before .before .before .before .args in

@@ -2,7 +2,7 @@
 -- The checks pass, the buffer has room, and the image is stored.
 use mathlib.Core.Path.{_≡_, sym, ap, _∙_}
 use mathlib.Core.List.{List, [], _∷_}
-use Prim.Native.Nat.{ℕ, _+_, _*_, _/_, _≤_, _<_}
+use Prim.Native.Nat.{ℕ, _≤_}
 use native.Mathlib.Omega.{arith}
 use lib.ListN.{length}
 use Rattle.records.specs.Checks.{success, refusal, tableChecks}
@@ -16,24 +16,16 @@ use Rattle.image.specs.SaveLaws.{image-length, save-answer, rules-small}
 use borrow.Author.Needs.{needs}
 use Rattle.image.proofs.save.save.Statement.{statement}
 use Rattle.image.proofs.save.save.Tie as tie
-use Rattle.image.proofs.save.save.Reads as reads
-use Rattle.image.proofs.save.save.Lts as lts
-use Rattle.image.proofs.save.count_rules.Reads as count-rules-reads
-use Rattle.image.proofs.save.put_image.Reads as put-image-reads
-use Rattle.records.proofs.checks.check_table.Reads as check-table-reads
 
 few : {n : ℕ} {x : Check} (t : List ℕ) → n ≡ tableRules 2 t → x ≡ tableChecks 2 t → x ≡ Pass → n ≤ 1024
 few t e f g = omega (arith, rules-small 2 t (sym f ∙ g))
 
--- src/save.rt:112:9
 check-table-requires : tie.Need-check-table-requires
 check-table-requires c κs = search needs
 
--- src/save.rt:113:24
 enum-known-check : tie.Need-enum-known-check
 enum-known-check c = search needs
 
--- src/save.rt:114:9
 returns : tie.Need-returns
 returns c =
     let a = c .before .before .before .before .before .before .args in
@@ -43,23 +35,18 @@ returns c =
 enum-told : tie.Need-enum-told
 enum-told c = search needs
 
--- src/save.rt:116:9
 count-rules-requires : tie.Need-count-rules-requires
 count-rules-requires c κs = search needs
 
--- src/save.rt:117:21
 mul-bytes : tie.Need-mul-bytes
 mul-bytes c = omega (arith, few (c .before .before .before .before .before .before .args .table .now) (c .count-rules .ensures) (c .before .before .before .check-table .ensures) (c .before .enum-told .given .1))
 
--- src/save.rt:117:17
 add-bytes : tie.Need-add-bytes
 add-bytes c = omega (arith, few (c .before .before .before .before .before .before .args .table .now) (c .count-rules .ensures) (c .before .before .before .check-table .ensures) (c .before .enum-told .given .1))
 
--- src/save.rt:119:50
 cast-t11 : tie.Need-cast-t11
 cast-t11 c = omega (arith, few (c .before .before .before .before .before .before .before .args .table .now) (c .before .count-rules .ensures) (c .before .before .before .before .check-table .ensures) (c .before .before .enum-told .given .1))
 
--- src/save.rt:119:9
 returns-2 : tie.Need-returns-2
 returns-2 c =
     let a = c .before .before .before .before .before .before .before .args in
@@ -68,7 +55,6 @@ returns-2 c =
     let p = plan-short (imageOf 2 t) (a .image .now) (c .before .before .before .before .check-table .ensures) (c .before .before .enum-told .given .1) (omega (arith, size, c .if1 .taken)) in
     (ap (refusal Short) size ∙ (p .0 ∙ save-answer 2 t (length (a .image .now))), p .1)
 
--- src/save.rt:121:5
 put-image-requires : tie.Need-put-image-requires
 put-image-requires c κs = (
   table-checks-length 2 _ (sym (c .before .before .before .before .before .check-table .ensures) ∙ c .before .before .before .enum-told .given .1),
@@ -76,15 +62,12 @@ put-image-requires c κs = (
   omega arith,
 )
 
--- src/save.rt:123:16
 cast-t15 : tie.Need-cast-t15
 cast-t15 c = omega (arith, few (c .before .before .before .before .before .before .before .before .before .before .before .args .table .now) (c .before .before .before .before .before .count-rules .ensures) (c .before .before .before .before .before .before .before .before .check-table .ensures) (c .before .before .before .before .before .before .enum-told .given .1))
 
--- src/save.rt:108:1
 same-length : tie.Need-same-length
 same-length c = search needs
 
--- src/save.rt:108:1
 returns-3 : tie.Need-returns-3
 returns-3 c =
     let a = c .before .before .before .before .before .before .before .before .before .before .before .args in
