@@ -20,8 +20,10 @@
 #define DELETE_BYTES 256
 #define INSERT_BYTES 6656 /* and, */
 #define WRITE_BYTES 96    /* for each word of the plan */
+#define SAVE_BYTES 256
+#define LOAD_BYTES 49664
 
-/* tcam_plan_insert calls memset, and a sanitizer's takes more stack than C's. A long plan's chain takes more than either. */
+/* tcam_plan_insert calls memset, tcam_load memset and memcpy; a sanitizer's take more stack than C's. A long plan's chain takes more. */
 #ifdef __SANITIZE_ADDRESS__
 #define MEMSET_BYTES 4096
 #else
@@ -30,13 +32,14 @@
 
 static uint64_t table[WORDS];
 static uint32_t plan[SLOTS];
+static uint8_t image[TCAM_IMAGE_BYTES(SLOTS)];
 static size_t room;
 static struct rule {
     uint32_t id, priority;
 } rule;
 
 static unsigned char *stack;
-static uint32_t result, first, slot, id, action, count, spot;
+static uint32_t result, first, slot, id, action, count, bytes_saved, spot;
 static unsigned char *top; /* the stack of the function that calls */
 
 /* Each runs on the painted stack. What it uses counts from its own frame, with the arguments that it pushes. */
@@ -64,6 +67,18 @@ ON_OWN_STACK run_plan_delete(void)
 {
     top = __builtin_frame_address(0);
     result = tcam_plan_delete(table, WORDS, rule.id, plan, SLOTS, &count, &spot);
+}
+
+ON_OWN_STACK run_save(void)
+{
+    top = __builtin_frame_address(0);
+    result = tcam_save(table, WORDS, image, sizeof image, &bytes_saved, &spot);
+}
+
+ON_OWN_STACK run_load(void)
+{
+    top = __builtin_frame_address(0);
+    result = tcam_load(image, bytes_saved, table, WORDS, &spot);
 }
 
 /* Calls a function with the stack pointer at the end of the painted stack. */
@@ -162,6 +177,13 @@ int main(int arguments, char **words)
     bytes = used(run_plan_insert);
     check(result == TCAM_SHORT && spot == 1024 && bytes <= INSERT_BYTES + MEMSET_BYTES, "tcam_plan_insert, one word short", bytes,
           INSERT_BYTES + MEMSET_BYTES);
+
+    make_chain(5);
+    bytes = used(run_save);
+    check(result == TCAM_OK && bytes_saved == TCAM_IMAGE_BYTES(1023) && bytes <= SAVE_BYTES, "tcam_save", bytes, SAVE_BYTES);
+    run_load(); /* finds memcpy, so that the loader's stack is not counted */
+    bytes = used(run_load);
+    check(result == TCAM_OK && bytes <= LOAD_BYTES + MEMSET_BYTES, "tcam_load", bytes, LOAD_BYTES + MEMSET_BYTES);
 
     if (failures != 0) {
         fprintf(stderr, "stack_test: %lu of %lu checks failed\n", failures, checks);
