@@ -31,8 +31,8 @@ pub extern "C" fn tcam_load(image: &[u8], table: &mut [u64], spot: &mut u32) -> 
 {
     match load(image, table) {
         LoadAnswer::Loaded => 0,
-        LoadAnswer::Refused(cause, at) => {
-            *spot = at;
+        LoadAnswer::Refused(cause, place) => {
+            *spot = place;
             cause_number(cause)
         }
     }
