@@ -19,7 +19,8 @@ pub fn number_at(image: &[u8], at: usize, bytes: usize) -> u64
     let mut number: u64 = 0;
     let mut read = 0;
     while read < bytes {
-        number = number * 256 + wide(image[at + read]);
+        let byte = wide(image[at + read]);
+        number = number * 256 + byte;
         read += 1;
     }
     number

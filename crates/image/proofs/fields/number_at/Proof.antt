@@ -11,9 +11,6 @@ use Rattle.image.specs.Bytes.{numberAt}
 use Rattle.image.specs.ByteLaws.{digit-room}
 use Rattle.image.proofs.fields.number_at.Statement.{statement}
 use Rattle.image.proofs.fields.number_at.Tie as tie
-use Rattle.image.proofs.fields.number_at.Reads as reads
-use Rattle.image.proofs.fields.number_at.Lts as lts
-use Rattle.image.proofs.fields.wide.Reads as wide-reads
 
 abbrev Inv-loop : tie.InvT-loop
 Inv-loop image at bytes number₀ read₀ number read = (read ≤ bytes) × (number ≡ numberAt image at read) × (number < 256 ^ read)
@@ -25,9 +22,6 @@ loop-holds : tie.Need-loop-holds Inv-loop μ-loop
 unfolding numberAt
 loop-holds c = (omega arith, refl, omega arith)
 
-mul-number : tie.Need-mul-number Inv-loop μ-loop
-mul-number c = omega (arith, digit-room {d = 0} (c .before .loop .inv .2) (omega arith) (omega arith))
-
 add-wide : tie.Need-add-wide Inv-loop μ-loop
 add-wide c = omega arith
 
@@ -37,15 +31,20 @@ shared-slice-read-wide c = omega arith
 wide-requires : tie.Need-wide-requires Inv-loop μ-loop
 wide-requires c κs = search needs
 
-byte : (c : lts.After-wide (wide-reads.Asked, wide-reads.Learnt) reads.Pre reads.Post Inv-loop μ-loop) → c .wide .result < 256
+byte : (c : tie.After-wide Inv-loop μ-loop) → c .wide .result < 256
 byte c =
     let turn = c .before .before .before .loop in
     omega (arith, c .wide .ensures, c .before .before .before .before .shared-slice-known .given (c .before .before .before .before .before .args .at + turn .read))
 
+-- one digit more fits
+room : (c : tie.After-wide Inv-loop μ-loop) → c .before .before .before .loop .number * 256 + c .wide .result < 18446744073709551616
+room c = digit-room (c .before .before .before .loop .inv .2) (omega arith) (byte c)
+
+mul-number : tie.Need-mul-number Inv-loop μ-loop
+mul-number c = omega (arith, room c, byte c)
+
 add-number : tie.Need-add-number Inv-loop μ-loop
-add-number c =
-    let turn = c .before .before .before .loop in
-    omega (arith, c .wide .ensures, digit-room (turn .inv .2) (omega arith) (byte c))
+add-number c = omega (arith, room c, byte c)
 
 add-read : tie.Need-add-read Inv-loop μ-loop
 add-read c = omega arith
@@ -74,10 +73,10 @@ number-at-spec =
     Inv-loop
     μ-loop
     loop-holds
-    mul-number
     add-wide
     shared-slice-read-wide
     wide-requires
+    mul-number
     add-number
     add-read
     loop-less
