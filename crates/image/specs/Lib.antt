@@ -12,3 +12,4 @@ pub mod LoadLaws
 pub mod Meaning
 pub mod Reading
 pub mod RoundTrip
+pub mod Examples
