@@ -57,9 +57,6 @@ bytes-number (suc k) b at h l =
     ∙ (ap (λ (front : List ℕ). front ++ (getD b (at + k) 0 ∷ [])) (bytes-number k b at h (omega arith)) ∙ sym (part-suc b at k l))
 
 -- parts
-pub part-length : (b : List ℕ) (at n : ℕ) → at + n ≤ length b → length (part b at n) ≡ n
-part-length b at n h = length-take-le n (drop at b) (let l = length-drop at b in omega arith)
-
 pub part-add : (b : List ℕ) (at n m : ℕ) → part b at (n + m) ≡ part b at n ++ part b (at + n) m
 part-add b at n m = take-add n m (drop at b) ∙ ap (λ (rest : List ℕ). part b at n ++ take m rest) (drop-drop n at b)
 

@@ -10,7 +10,7 @@ use Rattle.ternary.specs.Pattern.{within, overlaps}
 use Rattle.records.specs.Record.{listed, empty, soundParts, putSlot}
 use Rattle.records.specs.Order.{distinct, sameId, misordered}
 use Rattle.records.specs.Checks.{Told, success, refusal, lowest, shaped, checkShape, twiceAt, checkTwice, disorderAt, checkOrder}
-use Rattle.records.specs.declared.Cause.the-variants.{Shape, Twice, Order, Image}
+use Rattle.records.specs.declared.Cause.the-variants.{Order, Image}
 use Rattle.image.specs.Bytes.{bytesOf, numberAt, pieces}
 use Rattle.image.specs.Indices.{indices}
 use Rattle.image.specs.Format.{entryOf, bodyOf, entryBytes, ruleBytes, imageOf, recordAt}

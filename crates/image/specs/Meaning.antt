@@ -2,7 +2,7 @@
 -- An image's slots rise, so that no record overwrites another.
 use mathlib.Core.Path.{_≡_, refl, sym, ap, ap₂, _∙_}
 use mathlib.Core.Bool.{Bool, true, false, not, _&&_, true≢false}
-use mathlib.Core.Logic.{_⊎_, _≢_}
+use mathlib.Core.Logic.{_⊎_, _≢_, _↔_}
 use mathlib.Core.Logic._⊎_.{inl, inr}
 use mathlib.Core.List.{List}
 use Prim.Native.Nat.{ℕ, zero, suc, _+_, _*_, _/_, _%_, _≤_, _<_}
@@ -15,19 +15,20 @@ use lib.ListN.{length, getD, replicate, length-replicate, List·getD-append}
 use lib.Seq.{getD-at, getD-append-add, ext-getD}
 use borrow.Author.Tests.{eq-eqb, eqb-true}
 use Rattle.search.specs.Search.{any, any-yes, any-no, decided}
-use Rattle.ternary.specs.Pattern.{Words, within-cong}
+use Rattle.ternary.specs.Pattern.{Words, Within, within-cong}
 use Rattle.records.specs.Record.{word, listed, recordWords, slotWords, ident, action, rank, sound, soundParts, value, mask}
 use Rattle.records.specs.Order.{slots}
 use Rattle.records.specs.Laws.{empty-law, sound-law}
 use Rattle.records.specs.Rules.{length-listed, word-listed}
+use Rattle.records.specs.declared.Check.the-variants.{Pass}
 use Rattle.records.specs.Entries.{SameRecord, ident-cong, rank-cong, value-cong, mask-cong, occupied-cong, ident-occupied}
 use Rattle.records.specs.PutSlot.{put-length, put-here, put-other}
 use Rattle.image.specs.Bytes.{numberAt}
 use Rattle.image.specs.ByteLaws.{Bytes, number-small}
 use Rattle.image.specs.Indices.{indices, indices-row}
 use Rattle.image.specs.Format.{bodyPlace, rulesIn, idAt, slotAt, recordAt, holds, tableRules, ruleSlot}
-use Rattle.image.specs.Checks.{filled, meant}
-use Rattle.image.specs.CheckLaws.{Sound}
+use Rattle.image.specs.Checks.{checkBody, filled, meant}
+use Rattle.image.specs.CheckLaws.{Sound, field-law}
 use Rattle.image.specs.LoadLaws.{record-at-length}
 
 -- the words of an image's record
@@ -74,6 +75,26 @@ module _ (w : ℕ) (b : List ℕ) (e k : ℕ) where
       pick (no r) (no f) =
           let last : j ≡ 2 * w + 1 = omega arith in
           omega (arith, ap (word (recordAt w b e k)) last, record-rank, number-small 4 b (bodyPlace w e k + 2 * w * 8) h)
+
+  -- document 01: an unsound value or priority, in a body whose entry has an id
+  pub body-law : Bytes b → (idAt b k ≡ 0 → ⊥)
+      → (checkBody w b e k ≡ Pass)
+      ↔ ((numberAt b (bodyPlace w e k + 2 * w * 8) 4 ≤ 65535)
+      × Within w (λ j. numberAt b (bodyPlace w e k + j * 8) 8) (λ j. numberAt b (bodyPlace w e k + (w + j) * 8) 8))
+  unfolding checkBody soundParts
+  body-law h named =
+      let x = word (recordAt w b e k) in
+      let value-words : Words = λ j. numberAt b (bodyPlace w e k + j * 8) 8 in
+      let mask-words : Words = λ j. numberAt b (bodyPlace w e k + (w + j) * 8) 8 in
+      let priority = numberAt b (bodyPlace w e k + 2 * w * 8) 4 in
+      let same : sound w x ≡ soundParts w (idAt b k) priority value-words mask-words =
+      ap₂ (λ (i p : ℕ). soundParts w i p (value x) (mask w x)) (record-ident h) record-rank
+      ∙ ap (λ (q : Bool). not (eqb (idAt b k) 0) && leb priority 65535 && q)
+      (within-cong w (λ j l. record-word j (omega arith)) (λ j l. record-word (w + j) (omega arith))) in
+      let law = sound-law w (idAt b k) priority value-words mask-words in (
+        λ p. let s = law .0 (sym same ∙ field-law (sound w x) (bodyPlace w e k) .0 p) in (s .1, s .2),
+        λ f. field-law (sound w x) (bodyPlace w e k) .1 (same ∙ law .1 (named, f .0, f .1)),
+      )
 
 -- records of the same words are sound alike
 pub sound-same : (w : ℕ) (x y : Words) → SameRecord w x y → sound w x ≡ sound w y
@@ -147,12 +168,6 @@ same-table w n t u a b same =
 
 -- the table that a sound image means
 module _ (w : ℕ) (b : List ℕ) (n : ℕ) (s : Sound w b n) where
-  size : ℕ
-  size = n * recordWords w
-
-  e : ℕ
-  e = rulesIn b
-
   pub meant-zeros : length {A = ℕ} (replicate (n * recordWords w) 0) ≡ n * recordWords w
   meant-zeros = length-replicate (n * recordWords w) 0
 

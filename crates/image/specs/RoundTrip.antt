@@ -109,18 +109,7 @@ module _ (w : ℕ) (b : List ℕ) (n : ℕ) (s : Sound w b n) (bytes : Bytes b) 
   e : ℕ
   e = rulesIn b
 
-  within : (at k : ℕ) → at + k ≤ imageBytes w e → at + k ≤ length b
-  unfolding e
-  within at k h = omega (arith, s .long)
-
   module _ (k : ℕ) (h : k < e) where
-    x : Words
-    x = slotWords w m (slotAt b k)
-
-    same : SameRecord w x (word (recordAt w b e k))
-    unfolding m e x
-    same = meant-here w b n s k h
-
     entry-part : entryOf (idAt b k) (slotAt b k) (offsetAt b k) ≡ part b (entryPlace k) 10
     unfolding entryOf e
     entry-part =
@@ -228,6 +217,10 @@ save-succeeds w t room bytes e =
     let needed = ap (λ (l : List ℕ). getD l 0 0) (told .1) in
     let fits : imageBytes w (tableRules w t) ≤ room = ltb-false _ _ (cond-pass Short (imageBytes w (tableRules w t)) (ltb room (imageBytes w (tableRules w t))) (both .1)) in
     (both .0, omega (arith, image-length w t), omega (arith, image-length w t))
+
+-- document 01's tables are narrow enough: an image of two words a value has at most 51,204 bytes
+pub narrow-two : Numbered 2
+narrow-two = omega arith
 
 -- Demand 2: a saved image loads, into any lent table of as many slots, to the table it was saved from.
 pub saved-loads : (w : ℕ) (t image : List ℕ) (bytes : ℕ) → Numbered w → Words64 t → saveAnswer w t (length image) ≡ success (bytes ∷ [])
