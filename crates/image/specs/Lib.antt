@@ -1,5 +1,5 @@
 -- The saved image of a table: its bytes, the checks that a load makes, the table that an image means, and the answers of both calls.
--- Bytes, Indices, Format, Checks, Answers: the definitions. ByteLaws and the laws beside them: what they say.
+-- Bytes, Indices, Format, Checks, Answers: the definitions. RoundTrip: the theorems. Examples: the definitions computed. The others: laws.
 pub mod Bytes
 pub mod ByteLaws
 pub mod Indices
@@ -11,5 +11,7 @@ pub mod CheckLaws
 pub mod LoadLaws
 pub mod Meaning
 pub mod Reading
+pub mod Reloading
+pub mod Resaving
 pub mod RoundTrip
 pub mod Examples
