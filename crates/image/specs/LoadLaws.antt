@@ -9,8 +9,8 @@ use native.Mathlib.Omega.{arith}
 use lib.ListN.{length, take, replicate, length-append}
 use Rattle.records.specs.Record.{recordWords, listed}
 use Rattle.records.specs.Order.{slots}
-use Rattle.records.specs.Checks.{success, refusal, unless, passes, orElse, shaped, checkShape, checkTwice, checkOrder}
-use Rattle.records.specs.Laws.{or-else-pass, failed, passed}
+use Rattle.records.specs.Checks.{success, refusal, unless, passes, orElse, checkShape, checkTwice, checkOrder}
+use Rattle.records.specs.Laws.{or-else-pass, failed, passed, shape-same}
 use Rattle.records.specs.Rules.{length-listed}
 use Rattle.records.specs.declared.Cause.{Cause}
 use Rattle.records.specs.declared.Check.{Check}
@@ -76,10 +76,6 @@ pub front-zeros : (n m : ℕ) → n ≤ m → take {A = ℕ} (n - 0) (replicate 
 front-zeros n m h = ap (λ (k : ℕ). take k (replicate m 0)) (sub-zero n) ∙ take-zeros n m h
 
 -- of the lent table only the length counts
-pub shape-same : (w : ℕ) (t u : List ℕ) → length u ≡ length t → checkShape w u ≡ checkShape w t
-unfolding checkShape shaped
-shape-same w t u e = rw e
-
 pub lent-checks : (w : ℕ) (b t u : List ℕ) → length u ≡ length t → loadChecks w b u ≡ loadChecks w b t
 unfolding loadChecks
 lent-checks w b t u e =

@@ -21,7 +21,7 @@ use Rattle.records.specs.Order.{slots}
 use Rattle.records.specs.Laws.{empty-law, sound-law}
 use Rattle.records.specs.Rules.{length-listed, word-listed}
 use Rattle.records.specs.declared.Check.the-variants.{Pass}
-use Rattle.records.specs.Entries.{SameRecord, ident-cong, rank-cong, value-cong, mask-cong, occupied-cong, ident-occupied}
+use Rattle.records.specs.Entries.{SameRecord, occupied-cong, ident-occupied}
 use Rattle.records.specs.PutSlot.{put-length, put-here, put-other}
 use Rattle.image.specs.Bytes.{numberAt}
 use Rattle.image.specs.ByteLaws.{Bytes, number-small}
@@ -95,13 +95,6 @@ module _ (w : ℕ) (b : List ℕ) (e k : ℕ) where
         λ p. let s = law .0 (sym same ∙ field-law (sound w x) (bodyPlace w e k) .0 p) in (s .1, s .2),
         λ f. field-law (sound w x) (bodyPlace w e k) .1 (same ∙ law .1 (named, f .0, f .1)),
       )
-
--- records of the same words are sound alike
-pub sound-same : (w : ℕ) (x y : Words) → SameRecord w x y → sound w x ≡ sound w y
-unfolding soundParts
-sound-same w x y s =
-    ap₂ (λ (i p : ℕ). soundParts w i p (value x) (mask w x)) (ident-cong w s) (rank-cong w s)
-    ∙ ap (λ (q : Bool). not (eqb (ident w y) 0) && leb (rank w y) 65535 && q) (within-cong w (value-cong w s) (mask-cong w s))
 
 -- an image's slots rise
 module _ {w : ℕ} {b : List ℕ} {n : ℕ} (s : Sound w b n) where

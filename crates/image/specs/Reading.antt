@@ -14,7 +14,7 @@ use Rattle.records.specs.Record.{word, recordWords, slotWords, ident, action, r
 use Rattle.records.specs.Order.{slots}
 use Rattle.records.specs.Checks.{orElse, checkShape, checkRecords, checkTwice, checkOrder, slotChecks, tableChecks}
 use Rattle.records.specs.Laws.{or-else-pass, records-law, sound-law}
-use Rattle.records.specs.Entries.{SameRecord, shaped-slots}
+use Rattle.records.specs.Entries.{SameRecord, shaped-slots, sound-same}
 use Rattle.records.specs.declared.Check.the-variants.{Pass}
 use Rattle.image.specs.Bytes.{bytesOf, numberAt, part, pieces}
 use Rattle.image.specs.ByteLaws.{length-bytes, number-at, part-left, part-right, part-whole, part-part, pieces-length, piece-at}
@@ -23,7 +23,7 @@ use Rattle.image.specs.Format.{bodyBytes, imageBytes, entryPlace, bodyPl
 use Rattle.image.specs.Checks.{lowestSlot}
 use Rattle.image.specs.SaveLaws.{words-length, image-length, entry-bytes-length, rule-bytes-length, body-within}
 use Rattle.image.specs.CheckLaws.{Sound}
-use Rattle.image.specs.Meaning.{record-word, record-both, record-rank, sound-same}
+use Rattle.image.specs.Meaning.{record-word, record-both, record-rank}
 
 -- a field within a part of an image
 field-read : (k value : ℕ) (b piece : List ℕ) (at size off : ℕ) → part b at size ≡ piece → off + k ≤ size → part piece off k ≡ bytesOf k value → value < 256 ^ k

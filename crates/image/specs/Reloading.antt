@@ -10,10 +10,10 @@ use native.Mathlib.Omega.{arith}
 use lib.ListN.{length}
 use borrow.Author.Tests.{not-false}
 use Rattle.search.specs.Search.{decided}
-use Rattle.records.specs.Record.{word, recordWords, slotWords, sound}
+use Rattle.records.specs.Record.{word, recordWords, slotWords}
 use Rattle.records.specs.Order.{slots}
 use Rattle.records.specs.Checks.{success, orElse, checkShape, checkRecords, checkTwice, checkOrder, slotChecks, tableChecks}
-use Rattle.records.specs.Laws.{or-else-pass, empty-law}
+use Rattle.records.specs.Laws.{or-else-pass, empty-law, shape-same}
 use Rattle.records.specs.Entries.{SameRecord, shaped-slots}
 use Rattle.records.specs.declared.Check.the-variants.{Pass}
 use Rattle.image.specs.Indices.{indices, index-at, index-hit}
@@ -21,7 +21,7 @@ use Rattle.image.specs.Format.{holds, tableRules, ruleSlot, imageOf, rul
 use Rattle.image.specs.Checks.{imageChecks, meant}
 use Rattle.image.specs.Answers.{loadAnswer, loadTable}
 use Rattle.image.specs.CheckLaws.{Sound, image-law}
-use Rattle.image.specs.LoadLaws.{load-written, shape-same}
+use Rattle.image.specs.LoadLaws.{load-written}
 use Rattle.image.specs.Meaning.{same-table, meant-length, meant-here, meant-other}
 use Rattle.image.specs.Reading.{Words64, Numbered, rules-read, slot-read, record-read, saved-passes}
 

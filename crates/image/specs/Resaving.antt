@@ -15,7 +15,7 @@ use Rattle.ternary.specs.Pattern.{Words}
 use Rattle.records.specs.Record.{word, recordWords, slotWords, ident, empty, sound}
 use Rattle.records.specs.Checks.{checkRecords}
 use Rattle.records.specs.Laws.{empty-law, records-law}
-use Rattle.records.specs.Entries.{SameRecord, ident-cong, action-cong, rank-cong}
+use Rattle.records.specs.Entries.{SameRecord, ident-cong, action-cong, rank-cong, sound-same}
 use Rattle.records.specs.declared.Check.the-variants.{Pass}
 use Rattle.image.specs.Bytes.{bytesOf, part, pieces}
 use Rattle.image.specs.ByteLaws.{Bytes, bytes-number, part-add, part-whole, part-pieces, pieces-cong}
@@ -23,7 +23,7 @@ use Rattle.image.specs.Format.{bodyBytes, entryPlace, bodyPlace, entryOf
 use Rattle.image.specs.Checks.{meant}
 use Rattle.image.specs.SaveLaws.{image-bytes, body-within}
 use Rattle.image.specs.CheckLaws.{Sound}
-use Rattle.image.specs.Meaning.{record-word, record-rank, record-ident, record-action, record-small, sound-same, meant-slots, meant-here, meant-rule, meant-rules, meant-slot}
+use Rattle.image.specs.Meaning.{record-word, record-rank, record-ident, record-action, record-small, meant-slots, meant-here, meant-rule, meant-rules, meant-slot}
 use Rattle.image.specs.Reading.{Words64}
 
 joined : {a a′ c c′ d d′ : List ℕ} → a ≡ a′ → c ≡ c′ → d ≡ d′ → a ++ c ++ d ≡ a′ ++ c′ ++ d′

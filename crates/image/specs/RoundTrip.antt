@@ -12,7 +12,7 @@ use borrow.Author.Tests.{ltb-false}
 use Rattle.records.specs.Record.{recordWords, sound}
 use Rattle.records.specs.Order.{slots}
 use Rattle.records.specs.Checks.{Told, success, unless, passes, orElse, checkShape, checkRecords, checkTwice, checkOrder, slotChecks, tableChecks}
-use Rattle.records.specs.Laws.{cause-not-zero, or-else-pass, cond-pass}
+use Rattle.records.specs.Laws.{cause-not-zero, or-else-pass, cond-pass, shape-same}
 use Rattle.records.specs.Entries.{shaped-slots}
 use Rattle.records.specs.declared.Cause.the-variants.{Short}
 use Rattle.records.specs.declared.Check.{Check}
@@ -24,7 +24,6 @@ use Rattle.image.specs.Checks.{imageChecks, meant, loadChecks}
 use Rattle.image.specs.Answers.{saveAnswer, saveBuffer, loadAnswer, loadTable}
 use Rattle.image.specs.SaveLaws.{image-length, save-answer}
 use Rattle.image.specs.CheckLaws.{Sound, image-law}
-use Rattle.image.specs.LoadLaws.{shape-same}
 use Rattle.image.specs.Meaning.{meant-length}
 use Rattle.image.specs.Reading.{Words64, Numbered, slots-read}
 use Rattle.image.specs.Reloading.{saved-size, image-loads}

@@ -8,15 +8,15 @@ use Prim.Native.Nat.{ℕ, zero, suc, _+_, _*_, _/_, _%_, _≤_, _<_}
 use native.Mathlib.Nat.{add-zero}
 use native.Mathlib.Omega.{arith}
 use lib.Arith.{digits-div}
-use lib.Dec.{eqb, ltb, leb}
+use lib.Dec.{eqb, leb}
 use lib.ListN.{length, getD, replicate, getD-replicate, length-map}
 use borrow.Author.Tests.{eqb-true, eq-eqb}
 use Rattle.search.specs.Search.{all-cong, decided}
-use Rattle.ternary.specs.Pattern.{Words, matches-cong, overlaps-cong}
+use Rattle.ternary.specs.Pattern.{Words, matches-cong, overlaps-cong, within-cong}
 use Rattle.layout.specs.Order.{Laws, InOrder as LayoutInOrder}
 use Rattle.layout.specs.Held.{Unique, unique-earlier}
-use Rattle.records.specs.Record.{word, listed, recordWords, slotWords, value, mask, ident, action, rank, empty, occupied, slotMatches, recordOf}
-use Rattle.records.specs.Order.{slots, overlapping, sameId, distinct, misordered, precedes, InOrder}
+use Rattle.records.specs.Record.{word, listed, recordWords, slotWords, value, mask, ident, action, rank, empty, occupied, sound, soundParts, slotMatches, recordOf}
+use Rattle.records.specs.Order.{slots, overlapping, sameId, distinct, misordered, InOrder}
 use Rattle.records.specs.Checks.{checkShape, checkTwice, checkOrder}
 use Rattle.records.specs.Laws.{shape-law, empty-law, twice-law, same-id-law, misordered-law, ordered-law, order-law}
 use Rattle.records.specs.Rules.{length-listed, word-listed, record-ident}
@@ -106,9 +106,12 @@ module _ (w : ℕ) {x x′ y y′ : Words} (left : SameRecord w x x′) (right :
   unfolding misordered
   misordered-cong = ap₂ _&&_ (ap₂ _&&_ overlapping-cong (ap₂ leb (rank-cong w left) (rank-cong w right))) distinct-cong
 
-  pub precedes-cong : precedes w x y ≡ precedes w x′ y′
-  unfolding precedes
-  precedes-cong = ap₂ _&&_ (ap₂ _&&_ overlapping-cong (ap₂ ltb (rank-cong w right) (rank-cong w left))) distinct-cong
+-- records of the same words are sound alike
+pub sound-same : (w : ℕ) (x y : Words) → SameRecord w x y → sound w x ≡ sound w y
+unfolding soundParts
+sound-same w x y s =
+    ap₂ (λ (i p : ℕ). soundParts w i p (value x) (mask w x)) (ident-cong w s) (rank-cong w s)
+    ∙ ap (λ (b : Bool). not (eqb (ident w y) 0) && leb (rank w y) 65535 && b) (within-cong w (value-cong w s) (mask-cong w s))
 
 -- a record as a list has the record's words
 pub listed-same : (w : ℕ) (x : Words) → SameRecord w (word (listed (recordWords w) x)) x
@@ -218,9 +221,6 @@ shaped-slots w t e =
     let pos : 0 < recordWords w = omega arith in
     let count : slots w t ≡ n = ap (λ (x : ℕ). x / recordWords w) whole ∙ digits-div n pos in
     (omega (arith, s .1), omega (arith, s .2), s .3 ∙ ap (λ (x : ℕ). x * recordWords w) (sym count))
-
-pub shaped-length : (w : ℕ) (t : List ℕ) → checkShape w t ≡ Pass → length t ≡ slots w t * recordWords w
-shaped-length w t e = shaped-slots w t e .2
 
 -- a record whose id is not 0 is occupied; so is that of a rule whose id is not 0
 pub ident-occupied : (w : ℕ) (x : Words) → (ident w x ≡ 0 → ⊥) → occupied w x ≡ true

@@ -7,7 +7,7 @@ use mathlib.Core.List.{List, map}
 use Prim.Native.Nat.{ℕ, suc, _≤_, _<_}
 use native.Mathlib.Decide.{ℕ-discrete}
 use native.Mathlib.Omega.{arith}
-use lib.Dec.{eqb, ltb, leb}
+use lib.Dec.{eqb, leb}
 use lib.ListN.{length, getD, take, length-map}
 use Rattle.search.specs.Search.{least, least-law, least-cong, afterLast, after-last-law, after-last-cong}
 use Rattle.ternary.specs.Pattern.{Words, Overlap, overlaps, overlaps-law, overlaps-cong}
@@ -22,7 +22,7 @@ use Rattle.records.specs.Checks.{checkTwice, checkOrder}
 use Rattle.records.specs.Laws.{Overlapping, misordered-law, precedes-law, tied-law, precedes-misordered}
 use Rattle.records.specs.Rules.{record-value, record-mask, record-ident, record-rank}
 use Rattle.records.specs.Entries.{vacant, entries, entryOccupied, entrySame, entryMisordered, same-id-cong, misordered-cong}
-use Rattle.records.specs.Entries.{same-truth, eqb-turned, same-id-turned, distinct-turned, entries-length, entry-same, occupied-at}
+use Rattle.records.specs.Entries.{same-truth, eqb-turned, distinct-turned, entries-length, entry-same, occupied-at}
 use Rattle.records.specs.Entries.{entry-laws, order-entries, unique-entries, rule-occupied}
 use Rattle.layout.specs.Write.{writeWord}
 use Rattle.records.specs.Writes.{writeOf, WritesBelow, words-back, applyWords, apply-plan, plan-below, plan-entries}

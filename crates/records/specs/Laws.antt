@@ -12,9 +12,9 @@ use native.Mathlib.Omega.{arith}
 use lib.Arith.{digits-div, digits-mod}
 use lib.Dec.{eqb, ltb, leb}
 use lib.ListN.{length, getD}
-use borrow.Author.Tests.{eqb-true, eqb-false, eq-eqb, ne-eqb, leb-true, le-leb, lt-ltb, le-ltb, ltb-true, ltb-false, leb-false, lt-leb, not-true}
+use borrow.Author.Tests.{eqb-true, eqb-false, eq-eqb, ne-eqb, leb-true, le-leb, lt-ltb, ltb-true, ltb-false, not-true}
 use Rattle.search.specs.Search.{all-law, least, Least, least-law, any, any-no, any-none, decided, and-law, and-left, and-right, and-both}
-use Rattle.ternary.specs.Pattern.{Words, Overlap, overlaps, overlaps-law, Matches, matches, matches-law, matches-cong, Within, within, within-law}
+use Rattle.ternary.specs.Pattern.{Words, Overlap, overlaps-law, Matches, matches-law, matches-cong, Within, within, within-law}
 use Rattle.records.specs.Record.{recordWords, slotWords, value, mask, ident, rank, empty, occupied, sound, soundParts, slotMatches, patternMatches}
 use Rattle.records.specs.Order.{slots, overlapping, sameId, distinct, precedes, tied, misordered, Ordered, InOrder}
 use Rattle.records.specs.Checks.{causeNumber, Told, refusal, unless, orElse, lowest, lowest-at, lowest-none, shaped, checkShape, slotChecks, tableChecks, unsoundAt, checkRecords, twiceAt, checkTwice, disorderAt, checkOrder, firstMatch}
@@ -124,6 +124,11 @@ cond-pass cause spot false e = refl
 pub shape-law : (w : ℕ) (t : List ℕ) → (checkShape w t ≡ Pass) ↔ Shaped w t
 unfolding checkShape
 shape-law w t = let a = pass-law Shape 0 (shaped w t) in let b = shaped-law w t in (λ e. b .0 (a .0 e), λ s. a .1 (b .1 s))
+
+-- check 1 reads the number of words alone
+pub shape-same : (w : ℕ) (t u : List ℕ) → length u ≡ length t → checkShape w u ≡ checkShape w t
+unfolding checkShape shaped
+shape-same w t u e = rw e
 
 pub shape-length : (w : ℕ) (t : List ℕ) → checkShape w t ≡ Pass → length t ≤ 1024 * recordWords w
 shape-length w t e =

@@ -1,7 +1,7 @@
 -- Two records side by side: overlap, precedence, one id in two slots, and which pair is out of order. A table's order.
 -- Copies of one id are not compared with each other, so that these definitions hold in the middle of a plan too.
 use mathlib.Core.Path.{_≡_}
-use mathlib.Core.Bool.{Bool, true, false, not, _&&_}
+use mathlib.Core.Bool.{Bool, true, not, _&&_}
 use mathlib.Core.List.{List}
 use Prim.Native.Nat.{ℕ, _/_, _<_}
 use lib.Dec.{eqb, ltb, leb}

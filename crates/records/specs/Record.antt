@@ -1,7 +1,6 @@
 -- Slot records: which word is what, when a slot is empty, when a rule is sound, and a rule's record.
 -- w is the number of words of a value; document 01 has two, so that a record has six.
-use mathlib.Core.Path.{_≡_, refl, sym, ap, _∙_}
-use mathlib.Core.Bool.{Bool, true, false, not, _&&_}
+use mathlib.Core.Bool.{Bool, not, _&&_}
 use mathlib.Core.List.{List, [], _∷_, _++_}
 use Prim.Native.Nat.{ℕ, zero, suc, _+_, _*_, _/_, _%_, min}
 use lib.Dec.{eqb, leb}

@@ -4,7 +4,7 @@ use mathlib.Core.Path.{_≡_, refl, sym, ap, ap₂, _∙_}
 use mathlib.Core.Bool.{Bool, not, _&&_}
 use mathlib.Core.List.{List, [], _∷_, _++_}
 use Prim.Native.Nat.{ℕ, zero, suc, _+_, _-_, _*_, _/_, _%_, _≤_, _<_, min}
-use native.Mathlib.Nat.{div-add-mod', add-zero}
+use native.Mathlib.Nat.{div-add-mod'}
 use native.Mathlib.Decide.{ℕ-discrete, decLt, decLe}
 use native.Mathlib.Omega.{arith}
 use lib.Arith.{digits-div, digits-mod}
@@ -13,7 +13,7 @@ use borrow.Author.Tests.{le-leb, lt-leb}
 use lib.ListN.{length, getD, set, length-append, List·getD-append}
 use native.Mathlib.Numerals.{add-one, add-two, add-three, add-four, add-five}
 use lib.Seq.{getD-append-add, getD-at, ext-getD, sets-eq}
-use Rattle.ternary.specs.Pattern.{Words, within, within-cong}
+use Rattle.ternary.specs.Pattern.{Words, within-cong}
 use Rattle.records.specs.Record.{word, listed, recordWords, value, mask, ident, action, rank, sound, soundParts, soundRule, recordOf, ruleOf, putSlot}
 use Rattle.records.specs.declared.Rule.{Rule}
 

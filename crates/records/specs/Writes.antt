@@ -86,12 +86,6 @@ word-once n m e = sym (word-of-write n) ∙ (ap writeWord e ∙ word-of-write m)
 pub write-once : (x y : Write) → SlotsBelow 65534 x → SlotsBelow 65534 y → writeWord x ≡ writeWord y → x ≡ y
 write-once x y a b e = sym (write-of-word x a) ∙ (ap writeOf e ∙ write-of-word y b)
 
--- a write's word has 32 bits
-pub write-word-small : (x : Write) → SlotsBelow 65536 x → writeWord x < 4294967296
-write-word-small (copy from to) h = omega arith
-write-word-small (put to) h = omega arith
-write-word-small (clear to) h = omega arith
-
 -- the slots of every write are below n
 abbrev pub WritesBelow : ℕ → List Write → Type 0
 WritesBelow n xs = (k : ℕ) → k < length xs → SlotsBelow n (getD xs k (clear 0))
@@ -262,11 +256,6 @@ module _ (n : ℕ) (small : n ≤ 65534) (xs : List Write) (below : WritesBelow 
       ap writeOf (getD-map-within writeWord xs k (clear 0) 0 h)
       ∙ write-of-word (getD xs k (clear 0)) (slots-below-more small (getD xs k (clear 0)) (below k h))
 
-  pub words-small : (k : ℕ) → k < length xs → getD (map writeWord xs) k 0 < 4294967296
-  words-small k h =
-      rw (getD-map-within writeWord xs k (clear 0) 0 h)
-      (write-word-small (getD xs k (clear 0)) (slots-below-more (omega arith) (getD xs k (clear 0)) (below k h)))
-
   pub words-below : WordsBelow n (map writeWord xs)
   words-below k h =
       let l : k < length xs = omega (arith, length-map xs writeWord) in
@@ -294,9 +283,3 @@ module _
       rw (take-map writeWord k xs)
       (apply-plan w t r small (take k xs)
       (λ j h. let l = length-take k xs in rw (getD-take k xs j (clear 0) (omega arith)) (plan-below j (omega arith))))
-
-  -- and the next word fits
-  pub plan-fits : (k : ℕ) → k < length xs → fitsWord w (applyWords w t r (take k (map writeWord xs))) (getD (map writeWord xs) k 0) ≡ true
-  plan-fits k h =
-      rw (word-at (slots w t) small xs plan-below k h)
-      (fits-write-law w (applyWords w t r (take k (map writeWord xs))) (getD xs k (clear 0)) .1 (rw (plan-entries k) (turn k h)))

@@ -3,7 +3,7 @@
 use mathlib.Core.Path.{_≡_, refl, sym, ap, ap₂, _∙_}
 use mathlib.Core.Bool.{Bool, true, false, not, cond}
 use mathlib.Core.List.{List, _++_, reverse}
-use Prim.Native.Nat.{ℕ, suc, _-_, _≤_, _<_, min}
+use Prim.Native.Nat.{ℕ, suc, _-_, _<_, min}
 use native.Mathlib.Omega.{arith}
 use lib.Dec.{eqb}
 use lib.ListN.{length, getD, length-reverse, List·getD-append}
@@ -18,7 +18,7 @@ use Rattle.planner.specs.Costs.{costOf, positionCost, SolvedFrom}
 use Rattle.planner.specs.Walked.{Ends}
 use Rattle.records.specs.Record.{slotWords, empty, listed}
 use Rattle.records.specs.Rules.{length-listed, word-listed}
-use Rattle.records.specs.Order.{slots, misordered}
+use Rattle.records.specs.Order.{slots}
 use Rattle.records.specs.Entries.{vacant, entries, entryOccupied, entryMisordered, entries-length, occupied-at, misordered-at}
 use Rattle.neighbours.specs.Windows.{misplacedAt, windowEndAt, endAt}
 

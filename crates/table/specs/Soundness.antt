@@ -1,27 +1,25 @@
 -- Tables in the middle of an insert's plan pass checks 1 and 2, so that lookup answers on each of them, and the last one passes 1 to 4.
 -- A delete leaves a table that passes 1 to 4 too.
-use mathlib.Core.Path.{_≡_, refl, sym, ap, ap₂, _∙_}
-use mathlib.Core.Bool.{Bool, true, false, not, _&&_, true≢false}
+use mathlib.Core.Path.{_≡_, refl, sym, ap, _∙_}
+use mathlib.Core.Bool.{true, false, not, true≢false}
 use mathlib.Core.Logic.{_↔_, _⊎_, ⊎-elim}
 use mathlib.Core.Logic._⊎_.{inl, inr}
 use mathlib.Core.List.{List}
 use Prim.Native.Nat.{ℕ, _<_, _≤_}
 use native.Mathlib.Omega.{arith}
-use lib.Dec.{eqb, leb}
 use lib.ListN.{length, getD, take}
 use lib.Seq.{getD-take, take-all}
 use borrow.Table.Elements.{length-take-le}
 use Rattle.search.specs.Search.{decided}
-use Rattle.ternary.specs.Pattern.{Words, within-cong}
 use Rattle.layout.specs.Order.{in-order-emptied}
 use Rattle.layout.specs.Held.{Held, emptied, unique-emptied, held-removed}
 use Rattle.layout.specs.Write.{clear}
-use Rattle.records.specs.Record.{word, slotWords, value, mask, ident, rank, empty, sound, soundParts}
+use Rattle.records.specs.Record.{word, slotWords, empty, sound}
 use Rattle.records.specs.Order.{slots}
-use Rattle.records.specs.Checks.{shaped, checkShape, checkRecords, checkTwice, checkOrder, slotChecks, tableChecks}
+use Rattle.records.specs.Checks.{checkShape, checkRecords, checkTwice, checkOrder, slotChecks, tableChecks}
 use Rattle.records.specs.Rules.{record-sound}
-use Rattle.records.specs.Laws.{slot-checks-law, table-checks-law, records-law}
-use Rattle.records.specs.Entries.{vacant, entries, entryOccupied, EntriesUnique, SameRecord, value-cong, mask-cong, ident-cong, rank-cong, entries-length, entry-same, entry-laws, occupied-at, order-entries, unique-entries}
+use Rattle.records.specs.Laws.{slot-checks-law, table-checks-law, shape-same, records-law}
+use Rattle.records.specs.Entries.{sound-same, vacant, entries, entryOccupied, EntriesUnique, entries-length, entry-same, entry-laws, occupied-at, order-entries, unique-entries}
 use Rattle.records.specs.Writes.{WordsBelow, applyWords, apply-length, apply-entries, apply-words-length, turn-below}
 use Rattle.records.specs.ClassWords.{class-words-law}
 use Rattle.records.specs.declared.Rule.{Rule}
@@ -30,13 +28,6 @@ use Rattle.table.specs.Deletes.{slotOfId, deleteChecks, deleteWords, Del
 use Rattle.table.specs.Insertable.{Insertable}
 use Rattle.table.specs.Inserts.{insertWords, insertAnswer, insertPlan}
 use Rattle.table.specs.Demand3.{ShortestPlan, shortest-words}
-
--- records of the same words are sound alike
-sound-same : (w : ℕ) (x y : Words) → SameRecord w x y → sound w x ≡ sound w y
-unfolding soundParts
-sound-same w x y s =
-    ap₂ (λ (i p : ℕ). soundParts w i p (value x) (mask w x)) (ident-cong w s) (rank-cong w s)
-    ∙ ap (λ (b : Bool). not (eqb (ident w y) 0) && leb (rank w y) 65535 && b) (within-cong w (value-cong w s) (mask-cong w s))
 
 -- check 2 passes exactly when every rule held is sound
 pub records-entries : (w : ℕ) (t : List ℕ)
@@ -65,11 +56,6 @@ records-entries w t = (forth, λ f. records-law w t .1 (back f))
             inr
             (sym (sound-same w _ _ (entry-same w t i h))
             ∙ f (getD (entries w t) i (vacant w)) (occupied-at w t i h ∙ ap not e, (i, (let n = entries-length w t in omega arith), refl)))
-
--- check 1 reads the number of words alone
-shape-same : (w : ℕ) (t u : List ℕ) → length u ≡ length t → checkShape w u ≡ checkShape w t
-unfolding checkShape shaped
-shape-same w t u e = rw e
 
 -- the plan of an insert
 module _ (w : ℕ) (t : List ℕ) (rule : Rule) (small : rule .action < 4294967296) (insertable : Insertable w t rule) where
