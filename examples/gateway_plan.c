@@ -1,9 +1,11 @@
 /* The gateway's table while it is in use: a rule is put in, by a plan that first moves others out of its way, and a rule
- * is taken out. The library plans and makes one write per call, and frames are looked up between any two writes.
+ * is taken out. The library plans and makes one write per call, and frames are looked up between any two writes. Then
+ * the table is saved, and loaded again.
  * Key: destination address in the upper 32 bits of the key, port in the 16 bits below. Build and run: examples/run */
 #include <inttypes.h>
 #include <stdio.h>
 #include <stdlib.h>
+#include <string.h>
 #include "tcam.h"
 
 /* an address and a port, as a value, a mask or a key */
@@ -103,6 +105,35 @@ static void carry_out_plan(const uint32_t *plan, uint32_t count, const uint64_t 
         stop("carrying out", tcam_carry_number(result), tcam_carry_spot(result));
 }
 
+/* The table is saved, lost, and loaded again. */
+static void restart(void)
+{
+    static uint8_t image[TCAM_IMAGE_BYTES(SLOTS)];
+    struct reply before[FRAMES];
+    uint32_t bytes, spot;
+    for (size_t frame = 0; frame < FRAMES; frame++)
+        before[frame] = look_up(frames[frame].key);
+
+    uint32_t result = tcam_save(table, WORDS, image, sizeof image, &bytes, &spot);
+    if (result != TCAM_OK)
+        stop("save", result, spot);
+    printf("saved, %" PRIu32 " bytes\n", bytes);
+    memset(table, 0, sizeof table);
+    result = tcam_load(image, bytes, table, WORDS, &spot);
+    if (result != TCAM_OK)
+        stop("load", result, spot);
+
+    int changes = 0;
+    for (size_t frame = 0; frame < FRAMES; frame++) {
+        struct reply now = look_up(frames[frame].key);
+        changes += now.id != before[frame].id || now.action != before[frame].action;
+    }
+    printf("loaded, %d replies changed\n", changes);
+
+    result = tcam_load(image, bytes - 1, table, WORDS, &spot);
+    printf("a byte short: %s at byte %" PRIu32 "\n", tcam_cause_name(result), spot);
+}
+
 int main(void)
 {
     uint32_t plan[SLOTS], count, spot; /* as many words as slots always do */
@@ -127,5 +158,6 @@ int main(void)
         stop("delete", result, spot);
     printf("delete rule 15, %" PRIu32 " write\n", count);
     carry_out_plan(plan, count, console); /* no rule is put in, so that any will do */
+    restart();
     return 0;
 }

@@ -15,12 +15,6 @@
 
 /* ---- What is lent: a table, a plan, a rule as numbers and a progress record ---- */
 
-struct rule {
-    uint32_t id, priority;
-    uint64_t value[2], mask[2];
-    uint32_t action;
-};
-
 #define MOST_ROOM (TCAM_MAX_SLOTS + 4)
 
 static uint64_t table[SLOTS(MOST_SLOTS)];
@@ -30,30 +24,15 @@ static uint32_t room;
 static struct rule rule;
 static tcam_progress progress;
 
-static void set_record(uint64_t *record, const struct rule *from)
+/* A rule whose action tells its id. */
+static struct rule made_rule(uint32_t id, uint32_t priority, const char *pattern)
 {
-    memcpy(record, from->value, sizeof from->value);
-    memcpy(record + 2, from->mask, sizeof from->mask);
-    record[4] = TCAM_ID_ACTION(from->id, from->action);
-    record[5] = from->priority;
-}
-
-/* A rule of one pattern of 0, 1 and *, highest bit first, the rest uncared for. */
-static struct rule rule_of(uint32_t id, uint32_t priority, const char *pattern)
-{
-    struct rule made = {id, priority, {0, 0}, {0, 0}, id + 100};
-    for (size_t index = 0; pattern[index] != 0; index++) {
-        if (pattern[index] == '1')
-            made.value[0] |= TOP >> index;
-        if (pattern[index] != '*')
-            made.mask[0] |= TOP >> index;
-    }
-    return made;
+    return rule_of(id, priority, pattern, id + 100);
 }
 
 static void hold(uint32_t slot, uint32_t id, uint32_t priority, const char *pattern)
 {
-    struct rule made = rule_of(id, priority, pattern);
+    struct rule made = made_rule(id, priority, pattern);
     set_record(table + SLOTS(slot), &made);
 }
 
@@ -64,16 +43,6 @@ static void empty_table(uint32_t slots)
 }
 
 /* ---- The reference: document 01, "Carrying out", in its order ---- */
-
-static int is_empty(const uint64_t *record)
-{
-    return (record[0] | record[1] | record[2] | record[3] | record[4] | record[5]) == 0;
-}
-
-static int is_sound(const uint64_t *record)
-{
-    return record[4] >> 32 != 0 && record[5] <= 65535 && (record[0] & ~record[2]) == 0 && (record[1] & ~record[3]) == 0;
-}
 
 /* Slot `to` exists and is empty, or its id stands in another slot too. */
 static int ref_free(uint32_t slots, uint32_t to)
@@ -206,7 +175,7 @@ static void six_slots(void)
     hold(1, 2, 40, "1");
     hold(3, 3, 30, "0");
     hold(4, 2, 40, "1");
-    rule = rule_of(9, 45, "10");
+    rule = made_rule(9, 45, "10");
 }
 
 /* A plan of this one write is next, with some writes done before it and one behind it. */
@@ -522,14 +491,14 @@ static void five_slots(void)
     uint32_t count;
     HERE;
     empty_table(5);
-    held[0] = rule_of(1, 40, "00*");
-    held[1] = rule_of(2, 10, "01");
-    held[2] = rule_of(3, 30, "*01");
-    held[3] = rule_of(4, 20, "1*1");
+    held[0] = made_rule(1, 40, "00*");
+    held[1] = made_rule(2, 10, "01");
+    held[2] = made_rule(3, 30, "*01");
+    held[3] = made_rule(4, 20, "1*1");
     held_count = 4;
     for (uint32_t slot = 0; slot < 4; slot++)
         set_record(table + SLOTS(slot), &held[slot]);
-    rule = rule_of(5, 50, "000");
+    rule = made_rule(5, 50, "000");
     CHECK(insert(&count) == TCAM_OK);
     CHECK(count == 3 && memcmp(plan, want, sizeof want) == 0);
     CHECK(tcam_record_id(table) == 5 && tcam_record_id(table + SLOTS(1)) == 1 && tcam_record_id(table + SLOTS(4)) == 2);
@@ -544,8 +513,28 @@ static void five_slots(void)
     progress = (tcam_progress){0, 3};
     leaves(REFUSED(TCAM_WRITE, 0));
     progress.done = 2; /* and its last would go over a rule that has no other copy */
-    rule = rule_of(6, 60, "000");
+    rule = made_rule(6, 60, "000");
     leaves(REFUSED(TCAM_WRITE, 2));
+}
+
+/* In the middle of a plan, a rule standing in two slots, no planning call takes the table. */
+static void plans_in_the_middle(void)
+{
+    uint32_t count = 77, spot = 77, other[5] = {1, 2, 3, 4, 5};
+    HERE;
+    empty_table(3);
+    hold(0, 1, 40, "0");
+    hold(1, 2, 30, "0");
+    words = SLOTS(3);
+    plan[0] = COPY(1, 2);
+    plan[1] = COPY(0, 1);
+    room = 2;
+    progress = (tcam_progress){0, 2};
+    CHECK(tcam_carry_out(table, words, plan, room, 9, 50, 0, 0, TOP, 0, 5, &progress) == TCAM_WROTE && progress.done == 1);
+    CHECK(tcam_plan_insert(table, words, 9, 50, 0, 0, TOP, 0, 5, other, 5, &count, &spot) == TCAM_TWICE && spot == 2);
+    spot = 77;
+    CHECK(tcam_plan_delete(table, words, 1, other, 5, &count, &spot) == TCAM_TWICE && spot == 2);
+    CHECK(count == 77 && other[0] == 1 && other[4] == 5);
 }
 
 /* 1,024 slots, every rule depending on all before it: a plan of 1,024 writes. */
@@ -583,7 +572,7 @@ static void random_plans(void)
             uint32_t count, cared = below(5);
             for (uint32_t bit = 0; bit < cared; bit++)
                 pattern[below(4)] = below(2) ? '1' : '0';
-            rule = rule_of(round, below(200), pattern);
+            rule = made_rule(round, below(200), pattern);
             if (insert(&count) == TCAM_OK) {
                 inserted++;
                 writes_of[count < 3 ? count : 3]++;
@@ -617,7 +606,7 @@ static void random_calls(unsigned long most)
             table[SLOTS(below(slots)) + below(6)] ^= random_word() >> below(64);
         if (below(20) == 0)
             words = below(40);
-        rule = rule_of(below(8), below(10) == 0 ? 65535 + below(2) : 7, "01");
+        rule = made_rule(below(8), below(10) == 0 ? 65535 + below(2) : 7, "01");
         if (below(10) == 0)
             rule.value[below(2)] |= 1;
         room = below(4);
@@ -673,6 +662,7 @@ int main(int count, char **arguments)
     unsound_rules();
     unfit_writes();
     five_slots();
+    plans_in_the_middle();
     long_plan();
     random_plans();
     random_calls(most);

@@ -27,31 +27,10 @@ static int bit_of(const uint64_t *two, int index)
     return (int)(two[index / 64] >> (63 - index % 64) & 1);
 }
 
-static int ref_empty(const uint64_t *record)
-{
-    for (int word = 0; word < 6; word++)
-        if (record[word] != 0)
-            return 0;
-    return 1;
-}
-
 static int ref_value_sound(const uint64_t *record)
 {
     for (int index = 0; index < 128; index++)
         if (bit_of(record + 2, index) == 0 && bit_of(record, index) == 1)
-            return 0;
-    return 1;
-}
-
-static int ref_sound(const uint64_t *record)
-{
-    return record[4] / 4294967296u != 0 && record[5] <= 65535 && ref_value_sound(record);
-}
-
-static int ref_overlap(const uint64_t *record, const uint64_t *other)
-{
-    for (int index = 0; index < 128; index++)
-        if (bit_of(record + 2, index) == 1 && bit_of(other + 2, index) == 1 && bit_of(record, index) != bit_of(other, index))
             return 0;
     return 1;
 }
@@ -62,13 +41,13 @@ static struct told ref_pairs(const uint64_t *table, uint32_t slots)
     for (uint32_t slot = 1; slot < slots; slot++)
         for (uint32_t earlier = 0; earlier < slot; earlier++) {
             const uint64_t *a = table + 6 * earlier, *b = table + 6 * slot;
-            if (!ref_empty(a) && !ref_empty(b) && a[4] / 4294967296u == b[4] / 4294967296u)
+            if (!is_empty(a) && !is_empty(b) && a[4] / 4294967296u == b[4] / 4294967296u)
                 return REFUSED(3, slot);
         }
     for (uint32_t slot = 1; slot < slots; slot++)
         for (uint32_t earlier = 0; earlier < slot; earlier++) {
             const uint64_t *a = table + 6 * earlier, *b = table + 6 * slot;
-            if (!ref_empty(a) && !ref_empty(b) && a[5] <= b[5] && ref_overlap(a, b))
+            if (!is_empty(a) && !is_empty(b) && a[5] <= b[5] && overlap(a, b))
                 return REFUSED(4, slot);
         }
     return LOADED;
@@ -87,7 +66,7 @@ static struct told ref_checks(const uint64_t *table, size_t words)
     if (slots == 0)
         return REFUSED(1, 0);
     for (uint32_t slot = 0; slot < slots; slot++)
-        if (!ref_empty(table + 6 * slot) && !ref_sound(table + 6 * slot))
+        if (!is_empty(table + 6 * slot) && !is_sound(table + 6 * slot))
             return REFUSED(2, slot);
     return ref_pairs(table, slots);
 }
@@ -112,16 +91,16 @@ static uint32_t ref_image(const uint64_t *table, uint32_t slots, uint8_t *image)
 {
     uint32_t rules = 0, body = 0;
     for (uint32_t slot = 0; slot < slots; slot++)
-        rules += !ref_empty(table + 6 * slot);
+        rules += !is_empty(table + 6 * slot);
     uint8_t *at = ref_put(ref_put(image, 2, slots), 2, rules);
     for (uint32_t slot = 0; slot < slots; slot++)
-        if (!ref_empty(table + 6 * slot)) {
+        if (!is_empty(table + 6 * slot)) {
             at = ref_put(at, 4, table[6 * slot + 4] / 4294967296u);
             at = ref_put(at, 2, slot);
             at = ref_put(at, 4, 4 + 10 * rules + 40 * body++);
         }
     for (uint32_t slot = 0; slot < slots; slot++)
-        if (!ref_empty(table + 6 * slot)) {
+        if (!is_empty(table + 6 * slot)) {
             for (int word = 0; word < 4; word++)
                 at = ref_put(at, 8, table[6 * slot + word]);
             at = ref_put(at, 4, table[6 * slot + 5]);

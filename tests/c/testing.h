@@ -1,6 +1,6 @@
 /*
- * What the test programs over the library share: counted checks, random numbers, and lent tables between pages that
- * cannot be touched. A program defines _DEFAULT_SOURCE before it includes this, for mmap without a file.
+ * What the test programs over the library share: counted checks, rules and records, random numbers, and lent tables
+ * between pages that cannot be touched. A program defines _DEFAULT_SOURCE before it includes this, for mmap without a file.
  */
 #ifndef TESTING_H
 #define TESTING_H
@@ -52,6 +52,81 @@ static inline int verdict(const char *program)
     }
     printf("%s: %lu checks passed\n", program, checks);
     return 0;
+}
+
+/* ---- Rules and records, bit by bit, in the words of the rules ---- */
+
+struct rule {
+    uint32_t id, priority;
+    uint64_t value[2], mask[2];
+    uint32_t action;
+};
+
+static inline void set_record(uint64_t *record, const struct rule *rule)
+{
+    record[0] = rule->value[0];
+    record[1] = rule->value[1];
+    record[2] = rule->mask[0];
+    record[3] = rule->mask[1];
+    record[4] = TCAM_ID_ACTION(rule->id, rule->action);
+    record[5] = rule->priority;
+}
+
+/* A rule from a pattern of 0, 1 and *, highest bit first, the rest uncared for. */
+static inline struct rule rule_of(uint32_t id, uint32_t priority, const char *pattern, uint32_t action)
+{
+    struct rule rule = {id, priority, {0, 0}, {0, 0}, action};
+    for (size_t index = 0; pattern[index] != 0; index++) {
+        uint64_t one = TOP >> index % 64;
+        if (pattern[index] == '1')
+            rule.value[index / 64] |= one;
+        if (pattern[index] != '*')
+            rule.mask[index / 64] |= one;
+    }
+    return rule;
+}
+
+static inline uint32_t id_of(const uint64_t *record)
+{
+    return (uint32_t)(record[4] / 4294967296u);
+}
+
+static inline int is_empty(const uint64_t *record)
+{
+    for (int word = 5; word >= 0; word--)
+        if (record[word] != 0)
+            return 0;
+    return 1;
+}
+
+static inline int is_sound(const uint64_t *record)
+{
+    if (id_of(record) == 0 || record[5] > 65535)
+        return 0;
+    for (int word = 0; word < 2; word++) {
+        uint64_t value = record[word], mask = record[word + 2];
+        for (; value != 0; value /= 2, mask /= 2)
+            if (value % 2 == 1 && mask % 2 == 0)
+                return 0;
+    }
+    return 1;
+}
+
+/* Bit by bit, until one of the masks has no bits left: no position is cared for by both with different values. */
+static inline int overlap(const uint64_t *a, const uint64_t *b)
+{
+    for (int word = 0; word < 2; word++) {
+        uint64_t value_a = a[word], mask_a = a[word + 2], value_b = b[word], mask_b = b[word + 2];
+        while (mask_a != 0 && mask_b != 0) {
+            if ((mask_a & 1) == 1 && (mask_b & 1) == 1 && (value_a & 1) != (value_b & 1))
+                return 0;
+            mask_a >>= 1;
+            mask_b >>= 1;
+            value_a >>= 1;
+            value_b >>= 1;
+        }
+    }
+    return 1;
 }
 
 /* ---- Random numbers ---- */
