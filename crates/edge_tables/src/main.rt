@@ -11,12 +11,12 @@ use records::rules::record_of;
 use records::rules::rule_of;
 use records::rules::rule_sound;
 use records::slot::put_record;
-use table::LookupAnswer;
-use table::PlanAnswer;
-use table::deletes::plan_delete;
+use lookups::LookupAnswer;
+use plans::PlanAnswer;
+use plans::deletes::plan_delete;
 use table::inserts::plan_insert;
-use table::lookup::lookup;
-use table::lookup::slot_record;
+use lookups::lookup::lookup;
+use lookups::lookup::slot_record;
 
 fn number(value: u64) {
     io::write_all(1, b" ");

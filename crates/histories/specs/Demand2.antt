@@ -27,12 +27,12 @@ use Rattle.records.specs.ClassWords.{class-words-law}
 use Rattle.records.specs.declared.Rule.{Rule}
 use Rattle.records.specs.declared.Check.the-variants.{Pass}
 use Rattle.neighbours.specs.Neighbours.{insertChecks}
-use Rattle.table.specs.Lookup.{reply}
-use Rattle.table.specs.Plans.{plan-accepted}
+use Rattle.lookups.specs.Lookup.{reply}
+use Rattle.plans.specs.Plans.{plan-accepted}
 use Rattle.table.specs.Inserts.{insertWords, insertAnswer, insertPlan}
 use Rattle.table.specs.Insertable.{Insertable, insertable-law}
 use Rattle.table.specs.Demand3.{ShortestPlan, shortest-words}
-use Rattle.table.specs.Deletes.{hasId, slotOfId, deleteChecks, deleteWords, deleteAnswer, deletePlan, DeletePlanned, delete-planned}
+use Rattle.plans.specs.Deletes.{hasId, slotOfId, deleteChecks, deleteWords, deleteAnswer, deletePlan, DeletePlanned, delete-planned}
 use Rattle.table.specs.Replies.{insert-keeps-reply}
 use Rattle.table.specs.Soundness.{insert-between-checks, insert-after-checks, delete-after-checks}
 use Rattle.carrying.specs.Carrying.{putSound}

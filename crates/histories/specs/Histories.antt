@@ -17,7 +17,7 @@ use Rattle.records.specs.Entries.{vacant, entries, entryOccupied, entries-lengt
 use Rattle.records.specs.declared.Rule.{Rule}
 use Rattle.records.specs.declared.Check.the-variants.{Pass}
 use Rattle.table.specs.Inserts.{insertAnswer, insertPlan}
-use Rattle.table.specs.Deletes.{deleteAnswer, deletePlan}
+use Rattle.plans.specs.Deletes.{deleteAnswer, deletePlan}
 use Rattle.histories.specs.RuleSet.{Change, insert, delete, ruleSet, setReply}
 use Rattle.histories.specs.Holding.{Replies, Holding, holding-reply, holding-lookup}
 use Rattle.carrying.specs.Calls.{State, afterCalls, callAnswer}

@@ -24,8 +24,8 @@ use Rattle.records.specs.Laws.{table-checks-law, misordered-law, same-id-law}
 use Rattle.records.specs.Entries.{vacant, entries, entryOccupied, entrySame, entryMisordered, entry-laws, order-entries, unique-entries}
 use Rattle.records.specs.declared.Rule.{Rule}
 use Rattle.records.specs.declared.Check.the-variants.{Pass}
-use Rattle.table.specs.Lookup.{lookupAnswer, matchTold, lookupTold, hitAt, reply}
-use Rattle.table.specs.declared.LookupAnswer.the-variants.{Found, Miss}
+use Rattle.lookups.specs.Lookup.{lookupAnswer, matchTold, lookupTold, hitAt, reply}
+use Rattle.lookups.specs.declared.LookupAnswer.the-variants.{Found, Miss}
 use Rattle.table.specs.Replies.{entryMatches, entryTold, entries-conflict, optionTold, reply-entries}
 use Rattle.histories.specs.RuleSet.{ruleMatches, highestMatch, highest-law, ruleReply, setReply, Member, IsHighest}
 

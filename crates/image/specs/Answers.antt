@@ -8,7 +8,7 @@ use lib.ListN.{length, getD}
 use lib.Dec.{eqb}
 use Rattle.records.specs.Laws.{cause-number-once, cause-not-zero}
 use Rattle.records.specs.Checks.{Told, success, refusal, unless, passes, tableChecks}
-use Rattle.table.specs.Plans.{planAnswer, planBuffer}
+use Rattle.plans.specs.Plans.{planAnswer, planBuffer}
 use Rattle.image.specs.Format.{imageBytes, tableRules, imageOf}
 use Rattle.image.specs.Checks.{meant, loadChecks}
 use Rattle.image.specs.declared.SaveAnswer.{SaveAnswer}

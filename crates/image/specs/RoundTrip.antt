@@ -17,7 +17,7 @@ use Rattle.records.specs.Entries.{shaped-slots}
 use Rattle.records.specs.declared.Cause.the-variants.{Short}
 use Rattle.records.specs.declared.Check.{Check}
 use Rattle.records.specs.declared.Check.the-variants.{Pass, Fail}
-use Rattle.table.specs.Plans.{checkRoom, planAnswer, plan-written}
+use Rattle.plans.specs.Plans.{checkRoom, planAnswer, plan-written}
 use Rattle.image.specs.ByteLaws.{Bytes}
 use Rattle.image.specs.Format.{imageBytes, tableRules, imageOf, slotsIn}
 use Rattle.image.specs.Checks.{imageChecks, meant, loadChecks}

@@ -14,7 +14,7 @@ use Rattle.records.specs.Checks.{orElse, checkShape, checkRecords, checkTwice, 
 use Rattle.records.specs.Laws.{or-else-pass}
 use Rattle.records.specs.Entries.{shaped-slots}
 use Rattle.records.specs.declared.Check.the-variants.{Pass}
-use Rattle.table.specs.Plans.{planAnswer}
+use Rattle.plans.specs.Plans.{planAnswer}
 use Rattle.image.specs.Answers.{saveAnswer}
 use Rattle.image.specs.Bytes.{bytesOf, store, pieces}
 use Rattle.image.specs.ByteLaws.{length-bytes, pieces-length, store-none, store-length, store-next, store-then, store-swap}

@@ -17,7 +17,7 @@ use Rattle.records.specs.ClassWords.{InClassWords}
 use Rattle.records.specs.Inserts.{ValidPlan, insertChoiceOf, plan-words-count, plan-words-class, plan-words-between, plan-words-placed, plan-words-least}
 use Rattle.records.specs.declared.Rule.{Rule}
 use Rattle.records.specs.declared.Check.the-variants.{Pass}
-use Rattle.table.specs.Plans.{plan-written}
+use Rattle.plans.specs.Plans.{plan-written}
 use Rattle.neighbours.specs.Neighbours.{insertChecks}
 use Rattle.table.specs.Insertable.{Insertable, insertable-law}
 use Rattle.table.specs.Inserts.{insertWords, insertAnswer, insertPlan, insert-least}

@@ -1,9 +1,6 @@
--- What the calls of the table library answer, as functions of the words handed in; demand 3, and demand 2 within a plan.
--- Lookup and a slot's record; checks, neighbours, windows and plans of inserts and deletes; document 01's marked tables.
-pub mod Lookup
+-- Planning an insert: its words, its answer and the buffer afterwards; demand 3; what its writes do to replies and soundness.
+-- Insertable: when its checks pass, in plain terms. Demand3: the theorem. Tables: document 01's marked tables.
 pub mod Joined
-pub mod Plans
-pub mod Deletes
 pub mod Inserts
 pub mod Insertable
 pub mod Demand3

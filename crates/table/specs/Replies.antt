@@ -25,8 +25,8 @@ use Rattle.records.specs.Laws.{table-checks-law, same-id-law, misordered-law}
 use Rattle.records.specs.Entries.{vacant, entries, entryOccupied, entrySame, entryMisordered, entries-length, entry-same, entry-laws, matches-at, ident-cong, action-cong, order-entries, unique-entries}
 use Rattle.records.specs.Writes.{applyWords}
 use Rattle.records.specs.declared.Rule.{Rule}
-use Rattle.table.specs.Lookup.{lookupTold, hitAt, matchTold, reply}
-use Rattle.table.specs.declared.LookupAnswer.the-variants.{Found, Miss}
+use Rattle.lookups.specs.Lookup.{lookupTold, hitAt, matchTold, reply}
+use Rattle.lookups.specs.declared.LookupAnswer.the-variants.{Found, Miss}
 use Rattle.table.specs.Insertable.{Insertable}
 use Rattle.table.specs.Inserts.{insertWords}
 use Rattle.table.specs.Demand3.{shortest-words}

@@ -24,7 +24,7 @@ use Rattle.records.specs.Writes.{WordsBelow, applyWords, apply-length, apply-en
 use Rattle.records.specs.ClassWords.{class-words-law}
 use Rattle.records.specs.declared.Rule.{Rule}
 use Rattle.records.specs.declared.Check.the-variants.{Pass}
-use Rattle.table.specs.Deletes.{slotOfId, deleteChecks, deleteWords, DeletePlanned, delete-planned}
+use Rattle.plans.specs.Deletes.{slotOfId, deleteChecks, deleteWords, DeletePlanned, delete-planned}
 use Rattle.table.specs.Insertable.{Insertable}
 use Rattle.table.specs.Inserts.{insertWords, insertAnswer, insertPlan}
 use Rattle.table.specs.Demand3.{ShortestPlan, shortest-words}

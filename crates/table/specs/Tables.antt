@@ -28,10 +28,10 @@ use Rattle.records.specs.Writes.{writeOf, applyWords}
 use Rattle.records.specs.declared.Rule.{Rule}
 use Rattle.records.specs.declared.Cause.the-variants.{Known, Tie, Full, Short, Unknown}
 use Rattle.records.specs.declared.Check.the-variants.{Pass, Fail}
-use Rattle.table.specs.Plans.{checkRoom, planAnswer, planBuffer, plan-refused, plan-short, plan-written}
+use Rattle.plans.specs.Plans.{checkRoom, planAnswer, planBuffer, plan-refused, plan-short, plan-written}
 use Rattle.neighbours.specs.Neighbours.{checkRule, checkKnown, checkTie, checkFull, afterA, slotB, checkCrossed, newChecks, ruleWords, insertChecks}
 use Rattle.neighbours.specs.Neighbours.{after-a-high, crossed-no, rule-accepted, room-none}
-use Rattle.table.specs.Deletes.{hasId, slotOfId, checkId, checkUnknown, deleteChecks, deleteWords, deleteAnswer, deletePlan, id-accepted, id-absent}
+use Rattle.plans.specs.Deletes.{hasId, slotOfId, checkId, checkUnknown, deleteChecks, deleteWords, deleteAnswer, deletePlan, id-accepted, id-absent}
 use Rattle.table.specs.Inserts.{insertWords, insertAnswer, insertPlan}
 use Rattle.table.specs.Insertable.{rule-words}
 

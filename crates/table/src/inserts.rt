@@ -1,7 +1,7 @@
 // Planning an insert: costs in both directions, the choice between them, and the words of its chain.
 // The table is never changed, and a call that declines leaves the plan buffer as it was.
-use crate::PlanAnswer;
-use crate::PlanInfo;
+use plans::PlanAnswer;
+use plans::PlanInfo;
 use neighbours::checks::after_a;
 use neighbours::checks::check_insert;
 use neighbours::checks::slot_b;
@@ -25,7 +25,7 @@ ghost use Rattle.planner.specs.Choice.{choiceOf, planWords};
 ghost use Rattle.records.specs.Record.{slotWords};
 ghost use Rattle.records.specs.declared.Check.the-variants.{Pass};
 ghost use Rattle.table.specs.Joined.{Costed};
-ghost use Rattle.table.specs.Plans.{planTold, planAnswer, planBuffer};
+ghost use Rattle.plans.specs.Plans.{planTold, planAnswer, planBuffer};
 ghost use Rattle.neighbours.specs.Neighbours.{afterA, slotB, insertChecks};
 ghost use Rattle.table.specs.Insertable.{Insertable};
 ghost use Rattle.table.specs.Demand3.{Demand3};

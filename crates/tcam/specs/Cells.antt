@@ -11,9 +11,9 @@ use Rattle.records.specs.Checks.{Told, causeNumber, success, refusal}
 use Rattle.records.specs.Laws.{cause-not-zero}
 use Rattle.records.specs.declared.Cause.{Cause}
 use Rattle.records.specs.declared.Rule.{Rule}
-use Rattle.table.specs.Lookup.{lookupAnswer}
+use Rattle.lookups.specs.Lookup.{lookupAnswer}
 use Rattle.table.specs.Inserts.{insertAnswer, insertPlan}
-use Rattle.table.specs.Deletes.{deleteAnswer, deletePlan}
+use Rattle.plans.specs.Deletes.{deleteAnswer, deletePlan}
 use Rattle.table.specs.Insertable.{Insertable}
 use Rattle.table.specs.Demand3.{Demand3}
 

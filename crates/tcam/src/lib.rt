@@ -4,17 +4,17 @@ pub mod carry;
 pub mod images;
 
 ghost use mathlib.Core.Path.{_≡_};
-ghost use Rattle.table.specs.Lookup.{partStart, partLength};
-ghost use Rattle.table.specs.Plans.{planTold};
+ghost use Rattle.lookups.specs.Lookup.{partStart, partLength};
+ghost use Rattle.plans.specs.Plans.{planTold};
 ghost use Rattle.tcam.specs.Cells.{keyAnswer, dataCell, spotCell, ruleFrom, InsertLeft, DeleteLeft};
 use records::Rule;
 use records::cause_number;
-use table::LookupAnswer;
-use table::PlanAnswer;
-use table::deletes::plan_delete;
+use lookups::LookupAnswer;
+use plans::PlanAnswer;
+use plans::deletes::plan_delete;
 use table::inserts::plan_insert;
-use table::lookup::lookup;
-use table::lookup::slot_record;
+use lookups::lookup::lookup;
+use lookups::lookup::slot_record;
 
 // Slot, id and action of the lowest-numbered slot that matches a key; all 0 for a miss.
 #[no_mangle]

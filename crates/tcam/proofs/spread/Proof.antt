@@ -4,7 +4,7 @@ use mathlib.Core.Path.{sym, ap, _∙_}
 use denote.Ref.{now}
 use borrow.Author.Needs.{needs}
 use Rattle.records.specs.Checks.{Told}
-use Rattle.table.specs.Plans.{planTold}
+use Rattle.plans.specs.Plans.{planTold}
 use Rattle.tcam.specs.Cells.{dataCell, spotCell, refusal-kept, refusal-put}
 use Rattle.tcam.proofs.spread.Statement.{statement}
 use Rattle.tcam.proofs.spread.Tie as tie

@@ -4,7 +4,7 @@ use mathlib.Core.Path.{sym, ap, _∙_}
 use mathlib.Core.List.{[]}
 use denote.Ref.{now}
 use borrow.Author.Needs.{needs}
-use Rattle.table.specs.Lookup.{lookupTold}
+use Rattle.lookups.specs.Lookup.{lookupTold}
 use Rattle.tcam.specs.Cells.{success-cells, refusal-cells}
 use Rattle.tcam.proofs.tcam_lookup.Statement.{statement}
 use Rattle.tcam.proofs.tcam_lookup.Tie as tie

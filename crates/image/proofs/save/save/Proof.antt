@@ -10,7 +10,7 @@ use Rattle.records.specs.Laws.{table-checks-length}
 use Rattle.records.specs.declared.Check.the-variants.{Pass}
 use Rattle.records.specs.declared.Check.{Check}
 use Rattle.records.specs.declared.Cause.the-variants.{Short}
-use Rattle.table.specs.Plans.{plan-refused, plan-short, plan-written}
+use Rattle.plans.specs.Plans.{plan-refused, plan-short, plan-written}
 use Rattle.image.specs.Format.{imageBytes, tableRules, imageOf}
 use Rattle.image.specs.SaveLaws.{image-length, save-answer, rules-small}
 use borrow.Author.Needs.{needs}

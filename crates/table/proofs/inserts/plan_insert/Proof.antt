@@ -6,7 +6,7 @@ use lib.ListN.{length}
 use denote.Ref.{now}
 use borrow.Author.Needs.{needs}
 use Rattle.records.specs.declared.Check.{Check}
-use Rattle.table.specs.Plans.{planAnswer, planBuffer, plan-refused}
+use Rattle.plans.specs.Plans.{planAnswer, planBuffer, plan-refused}
 use Rattle.table.specs.Inserts.{insertWords}
 use Rattle.table.specs.Demand3.{demand-3-call}
 use Rattle.table.proofs.inserts.plan_insert.Statement.{statement}

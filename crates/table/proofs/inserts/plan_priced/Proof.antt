@@ -13,7 +13,7 @@ use Rattle.records.specs.Record.{slotWords}
 use Rattle.records.specs.Rules.{record-length}
 use Rattle.records.specs.declared.Check.the-variants.{Pass}
 use Rattle.neighbours.specs.Neighbours.{afterA, slotB}
-use Rattle.table.specs.Plans.{planAnswer, planBuffer}
+use Rattle.plans.specs.Plans.{planAnswer, planBuffer}
 use Rattle.table.specs.Inserts.{Joined, choice-joined, insert-length}
 use Rattle.table.proofs.inserts.plan_priced.Statement.{statement}
 use Rattle.table.proofs.inserts.plan_priced.Tie as tie

@@ -1,12 +1,12 @@
--- `table::lookup::lookup` meets its contract.
+-- `lookups::lookup::lookup` meets its contract.
 -- A refusal where a check fails; else the answer for the first match, which reads the key's two words.
 use mathlib.Core.Path.{sym, ap, _∙_}
 use borrow.Author.Needs.{needs}
 use Rattle.records.specs.Rules.{two-words}
 use Rattle.records.specs.Laws.{refused, answered, slot-checks-length, first-match-cong}
-use Rattle.table.specs.Lookup.{lookupAnswer, matchTold}
-use Rattle.table.proofs.lookup.lookup.Statement.{statement}
-use Rattle.table.proofs.lookup.lookup.Tie as tie
+use Rattle.lookups.specs.Lookup.{lookupAnswer, matchTold}
+use Rattle.lookups.proofs.lookup.lookup.Statement.{statement}
+use Rattle.lookups.proofs.lookup.lookup.Tie as tie
 
 check-slots-requires : tie.Need-check-slots-requires
 check-slots-requires c κs = search needs

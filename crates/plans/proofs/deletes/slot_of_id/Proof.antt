@@ -1,12 +1,12 @@
--- `table::deletes::slot_of_id` meets its contract.
+-- `plans::deletes::slot_of_id` meets its contract.
 -- No slot below the loop's has the id.
 use Prim.Native.Nat.{ℕ, _-_}
 use mathlib.Core.Path.{sym, _∙_}
 use native.Mathlib.Omega.{arith}
 use Rattle.search.specs.Search.{NoneBelow, none-start, none-more, least-at, least-none}
-use Rattle.table.specs.Deletes.{hasId, slotOfId}
-use Rattle.table.proofs.deletes.slot_of_id.Statement.{statement}
-use Rattle.table.proofs.deletes.slot_of_id.Tie as tie
+use Rattle.plans.specs.Deletes.{hasId, slotOfId}
+use Rattle.plans.proofs.deletes.slot_of_id.Statement.{statement}
+use Rattle.plans.proofs.deletes.slot_of_id.Tie as tie
 
 abbrev Inv-loop : tie.InvT-loop
 Inv-loop table id slots slot₀ slot = NoneBelow (hasId 2 table id) slots slot

@@ -19,7 +19,7 @@ use Rattle.records.specs.declared.Rule.{Rule}
 use Rattle.records.specs.declared.Cause.the-variants.{Rule as RuleCause, Unknown}
 use Rattle.records.specs.declared.Check.{Check}
 use Rattle.records.specs.declared.Check.the-variants.{Pass, Fail}
-use Rattle.table.specs.Plans.{planAnswer, planBuffer}
+use Rattle.plans.specs.Plans.{planAnswer, planBuffer}
 
 -- slot i holds the rule with this id
 unfoldable pub hasId : ℕ → List ℕ → ℕ → ℕ → Bool

@@ -1,10 +1,10 @@
--- `table::deletes::check_delete` meets its contract.
+-- `plans::deletes::check_delete` meets its contract.
 -- Each check is made where those before it pass.
 use borrow.Author.Needs.{needs}
 use Rattle.records.specs.Laws.{failed, passed}
-use Rattle.table.specs.Deletes.{deleteChecks, id-refused, id-accepted, id-found, id-absent}
-use Rattle.table.proofs.deletes.check_delete.Statement.{statement}
-use Rattle.table.proofs.deletes.check_delete.Tie as tie
+use Rattle.plans.specs.Deletes.{deleteChecks, id-refused, id-accepted, id-found, id-absent}
+use Rattle.plans.proofs.deletes.check_delete.Statement.{statement}
+use Rattle.plans.proofs.deletes.check_delete.Tie as tie
 
 check-table-requires : tie.Need-check-table-requires
 check-table-requires c κs = search needs

@@ -1,9 +1,9 @@
--- `table::lookup::hit_at` meets its contract.
+-- `lookups::lookup::hit_at` meets its contract.
 -- Slot, id and action of the word that holds both.
 use borrow.Author.Needs.{needs}
-use Rattle.table.specs.Lookup.{hitAt}
-use Rattle.table.proofs.lookup.hit_at.Statement.{statement}
-use Rattle.table.proofs.lookup.hit_at.Tie as tie
+use Rattle.lookups.specs.Lookup.{hitAt}
+use Rattle.lookups.proofs.lookup.hit_at.Statement.{statement}
+use Rattle.lookups.proofs.lookup.hit_at.Tie as tie
 
 slot-word-requires : tie.Need-slot-word-requires
 slot-word-requires c κs = search needs

@@ -10,8 +10,8 @@ use records::slot::slot_id;
 ghost use mathlib.Core.Path.{_≡_};
 ghost use Prim.Native.Nat.{_<_, _/_};
 ghost use lib.ListN.{length};
-ghost use Rattle.table.specs.Plans.{planTold};
-ghost use Rattle.table.specs.Deletes.{hasId, slotOfId, deleteChecks, deleteAnswer, deletePlan};
+ghost use Rattle.plans.specs.Plans.{planTold};
+ghost use Rattle.plans.specs.Deletes.{hasId, slotOfId, deleteChecks, deleteAnswer, deletePlan};
 
 // Whether a slot holds the rule with this id.
 fn has_id(table: &[u64], slot: usize, id: u64) -> bool

@@ -1,4 +1,4 @@
--- `table::deletes::plan_delete` meets its contract.
+-- `plans::deletes::plan_delete` meets its contract.
 -- One emptying word, where the checks pass and the buffer has a word.
 use mathlib.Core.Path.{sym, ap, _∙_}
 use mathlib.Core.List.{_∷_}
@@ -8,10 +8,10 @@ use lib.ListN.{drop}
 use lib.Seq.{set-split}
 use denote.Ref.{now}
 use borrow.Author.Needs.{needs}
-use Rattle.table.specs.Plans.{plan-refused, plan-short, plan-written}
-use Rattle.table.specs.Deletes.{deleteWords, delete-small}
-use Rattle.table.proofs.deletes.plan_delete.Statement.{statement}
-use Rattle.table.proofs.deletes.plan_delete.Tie as tie
+use Rattle.plans.specs.Plans.{plan-refused, plan-short, plan-written}
+use Rattle.plans.specs.Deletes.{deleteWords, delete-small}
+use Rattle.plans.proofs.deletes.plan_delete.Statement.{statement}
+use Rattle.plans.proofs.deletes.plan_delete.Tie as tie
 
 check-delete-requires : tie.Need-check-delete-requires
 check-delete-requires c κs = search needs

@@ -1,13 +1,13 @@
--- `table::lookup::match_answer` meets its contract.
+-- `lookups::lookup::match_answer` meets its contract.
 -- A hit where there is such a slot, else a miss.
 use mathlib.Core.Path.{ap}
 use borrow.Author.Tests.{lt-ltb, le-ltb}
 use borrow.Author.Needs.{needs}
-use Rattle.table.specs.declared.LookupAnswer.the-variants.{Found}
-use Rattle.table.specs.declared.Hit.{Hit}
-use Rattle.table.specs.Lookup.{lookupTold, matchTold}
-use Rattle.table.proofs.lookup.match_answer.Statement.{statement}
-use Rattle.table.proofs.lookup.match_answer.Tie as tie
+use Rattle.lookups.specs.declared.LookupAnswer.the-variants.{Found}
+use Rattle.lookups.specs.declared.Hit.{Hit}
+use Rattle.lookups.specs.Lookup.{lookupTold, matchTold}
+use Rattle.lookups.proofs.lookup.match_answer.Statement.{statement}
+use Rattle.lookups.proofs.lookup.match_answer.Tie as tie
 
 hit-at-requires : tie.Need-hit-at-requires
 hit-at-requires c κs = search needs

@@ -13,7 +13,7 @@ ghost use mathlib.Core.Path.{_≡_};
 ghost use Prim.Native.Nat.{_+_, _*_, _<_, _≤_, _/_};
 ghost use lib.ListN.{length};
 ghost use Rattle.records.specs.Record.{word};
-ghost use Rattle.table.specs.Lookup.{lookupTold, hitAt, matchTold, lookupAnswer, shown, partStart, recordPart};
+ghost use Rattle.lookups.specs.Lookup.{lookupTold, hitAt, matchTold, lookupAnswer, shown, partStart, recordPart};
 
 // Slot, id and action of the rule in a slot.
 fn hit_at(table: &[u64], slot: usize) -> Hit

@@ -1,4 +1,4 @@
--- `table::lookup::slot_record` meets its contract.
+-- `lookups::lookup::slot_record` meets its contract.
 -- A slot that is shown lies within the table; its part begins where the definition says.
 use mathlib.Core.Path.{_≡_, refl, sym, ap, ap₂, _∙_}
 use Prim.Native.Nat.{ℕ, _+_, _-_, _*_, _/_, _<_}
@@ -6,9 +6,9 @@ use native.Mathlib.Omega.{arith}
 use lib.ListN.{length, take, drop}
 use denote.Ref.{now}
 use borrow.Author.Needs.{needs}
-use Rattle.table.specs.Lookup.{shown-law, part-shown, part-hidden}
-use Rattle.table.proofs.lookup.slot_record.Statement.{statement}
-use Rattle.table.proofs.lookup.slot_record.Tie as tie
+use Rattle.lookups.specs.Lookup.{shown-law, part-shown, part-hidden}
+use Rattle.lookups.proofs.lookup.slot_record.Statement.{statement}
+use Rattle.lookups.proofs.lookup.slot_record.Tie as tie
 
 -- a slot that is shown is inside the table
 inside : (c : tie.Then1) → c .before .before .before .args .slot < length (now (c .before .before .before .args .table)) / 6

@@ -1,4 +1,4 @@
--- `table::lookup::slot_shown` meets its contract.
+-- `lookups::lookup::slot_shown` meets its contract.
 -- The checks pass, the slot is present, and it is occupied.
 use mathlib.Core.Bool.{not}
 use mathlib.Core.Path.{refl, ap}
@@ -6,9 +6,9 @@ use borrow.Author.Tests.{lt-ltb, le-ltb}
 use borrow.Author.Needs.{needs}
 use Rattle.search.specs.Search.{and-more, and-stop}
 use Rattle.records.specs.Checks.{passes}
-use Rattle.table.specs.Lookup.{shown}
-use Rattle.table.proofs.lookup.slot_shown.Statement.{statement}
-use Rattle.table.proofs.lookup.slot_shown.Tie as tie
+use Rattle.lookups.specs.Lookup.{shown}
+use Rattle.lookups.proofs.lookup.slot_shown.Statement.{statement}
+use Rattle.lookups.proofs.lookup.slot_shown.Tie as tie
 
 check-slots-requires : tie.Need-check-slots-requires
 check-slots-requires c κs = search needs

@@ -15,8 +15,8 @@ use Rattle.records.specs.declared.Cause.{Cause}
 use Rattle.records.specs.declared.Cause.the-variants.{Short}
 use Rattle.records.specs.declared.Check.{Check}
 use Rattle.records.specs.declared.Check.the-variants.{Pass, Fail}
-use Rattle.table.specs.declared.PlanAnswer.{PlanAnswer}
-use Rattle.table.specs.declared.PlanAnswer.the-variants.{Planned, Refused}
+use Rattle.plans.specs.declared.PlanAnswer.{PlanAnswer}
+use Rattle.plans.specs.declared.PlanAnswer.the-variants.{Planned, Refused}
 
 -- document 01's number and values for each case of a planning call's answer
 abbrev pub planTold : PlanAnswer → Told

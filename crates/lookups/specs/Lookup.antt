@@ -20,9 +20,9 @@ use Rattle.records.specs.Laws.{cause-number-once, slot-within, first-match-law,
 use Rattle.records.specs.declared.Cause.{Cause}
 use Rattle.records.specs.declared.Check.{Check}
 use Rattle.records.specs.declared.Check.the-variants.{Pass, Fail}
-use Rattle.table.specs.declared.Hit.{Hit}
-use Rattle.table.specs.declared.LookupAnswer.{LookupAnswer}
-use Rattle.table.specs.declared.LookupAnswer.the-variants.{Found, Miss, Refused}
+use Rattle.lookups.specs.declared.Hit.{Hit}
+use Rattle.lookups.specs.declared.LookupAnswer.{LookupAnswer}
+use Rattle.lookups.specs.declared.LookupAnswer.the-variants.{Found, Miss, Refused}
 
 -- document 01's number and values for each case of the answer
 abbrev pub lookupTold : LookupAnswer → Told

@@ -1,9 +1,9 @@
--- `table::deletes::has_id` meets its contract.
+-- `plans::deletes::has_id` meets its contract.
 -- The id and the emptiness read are the slot's.
 use borrow.Author.Needs.{needs}
-use Rattle.table.specs.Deletes.{hasId}
-use Rattle.table.proofs.deletes.has_id.Statement.{statement}
-use Rattle.table.proofs.deletes.has_id.Tie as tie
+use Rattle.plans.specs.Deletes.{hasId}
+use Rattle.plans.proofs.deletes.has_id.Statement.{statement}
+use Rattle.plans.proofs.deletes.has_id.Tie as tie
 
 slot-id-requires : tie.Need-slot-id-requires
 slot-id-requires c κs = search needs
