@@ -11,7 +11,8 @@ use native.Mathlib.Numerals.{add-one}
 use lib.Dec.{eqb}
 use lib.ListN.{length, getD, take, drop}
 use lib.Seq.{drop-cons}
-use borrow.Author.Tests.{eq-eqb, ne-eqb, eqb-true, eqb-false}
+use borrow.Author.Tests.{eq-eqb, ne-eqb, eqb-true}
+use Rattle.search.specs.Search.{decided}
 
 -- the bytes before the first separator, or all where there is none
 unfoldable pub firstPart : ℕ → List ℕ → List ℕ
@@ -38,10 +39,6 @@ unfoldable pub joined : ℕ → List (List ℕ) → List ℕ
 joined s [] = []
 joined s (p ∷ []) = p
 joined s (p ∷ q ∷ ps) = p ++ s ∷ joined s (q ∷ ps)
-
-decided : (b : Bool) → (b ≡ true) ⊎ (b ≡ false)
-decided true = inl refl
-decided false = inr refl
 
 -- Where the first part ends there is the text's end or a separator.
 module _ (s : ℕ) where
