@@ -1,5 +1,5 @@
 // Lines out of blocks of bytes, however the input is cut into blocks: one line is held at a time, and each has its number.
-// A line's buffer has one byte more than a line may have, so that a longer line is known by the bytes held.
+// The program lends a buffer with one byte more than a line may have, so that a longer line is known by the bytes held.
 ghost use mathlib.Core.Path.{_≡_};
 ghost use mathlib.Core.Bool.{not};
 ghost use Prim.Native.Nat.{ℕ, _+_, _-_, _≤_, min};
@@ -19,21 +19,21 @@ pub struct Taken {
 }
 
 // How many bytes of a piece there is still room for.
-fn room_for(held: usize, count: usize) -> usize
-    ensures { λ r. ⌜ r ≡ room held count ⌝ }
+fn room_for(size: usize, held: usize, count: usize) -> usize
+    ensures { λ r. ⌜ r ≡ room size held count ⌝ }
 {
-    if 257 <= held {
+    if size <= held {
         return 0;
     }
-    if count < 257 - held { count } else { 257 - held }
+    if count < size - held { count } else { size - held }
 }
 
 // Puts a piece behind the bytes held, as far as there is room.
-fn hold(line: &mut [u8; 257], held: usize, piece: &[u8]) -> usize
-    ensures { λ r. ⌜ r ≡ held + room held (length (now (piece .entry))) ⌝ }
+fn hold(line: &mut [u8], held: usize, piece: &[u8]) -> usize
+    ensures { λ r. ⌜ r ≡ held + room (length (now (line .entry))) held (length (now (piece .entry))) ⌝ }
     ensures { λ _. ⌜ now (line .exit) ≡ heldLine (now (line .entry)) held (now (piece .entry)) ⌝ }
 {
-    let count = room_for(held, piece.len());
+    let count = room_for(line.len(), held, piece.len());
     let mut at = 0;
     while at < count {
         line[held + at] = piece[at];
@@ -43,8 +43,8 @@ fn hold(line: &mut [u8; 257], held: usize, piece: &[u8]) -> usize
 }
 
 // Takes the bytes of a line out of a block, from a place on: up to the newline, which is passed over, or to the block's end.
-pub fn take_bytes(line: &mut [u8; 257], held: usize, block: &[u8], from: usize) -> Taken
-    ensures { λ r. ⌜ r ≡ takenOf held (drop from (now (block .entry))) from ⌝ }
+pub fn take_bytes(line: &mut [u8], held: usize, block: &[u8], from: usize) -> Taken
+    ensures { λ r. ⌜ r ≡ takenOf (length (now (line .entry))) held (drop from (now (block .entry))) from ⌝ }
     ensures { λ _. ⌜ now (line .exit) ≡ heldLine (now (line .entry)) held (firstPart 10 (drop from (now (block .entry)))) ⌝ }
 {
     if block.len() <= from {
