@@ -2,3 +2,4 @@
 -- Blocks has the theorem, over any handler of lines.
 pub mod Lines
 pub mod Held
+pub mod Blocks

@@ -4,15 +4,15 @@ use mathlib.Core.Path.{_≡_, refl, sym, ap, ap₂, _∙_}
 use mathlib.Core.Bool.{Bool, true, false, not, cond, _&&_, true≢false, false≢true}
 use mathlib.Core.Logic.{_⊎_, ⊎-elim}
 use mathlib.Core.Logic._⊎_.{inl, inr}
-use mathlib.Core.List.{List, [], _∷_, _++_}
+use mathlib.Core.List.{List, [], _∷_, _++_, append-nil}
 use Prim.Native.Nat.{ℕ, zero, suc, _+_, _-_, _≤_, _<_}
 use native.Mathlib.Omega.{arith}
 use native.Mathlib.Numerals.{add-one}
 use lib.Dec.{eqb}
 use lib.ListN.{length, getD, take, drop}
-use lib.Seq.{drop-cons}
+use lib.Seq.{drop-cons, take-all}
 use borrow.Author.Tests.{eq-eqb, ne-eqb, eqb-true}
-use Rattle.search.specs.Search.{decided}
+use Rattle.search.specs.Search.{decided, and-both, and-left, and-right}
 
 -- the bytes before the first separator, or all where there is none
 unfoldable pub firstPart : ℕ → List ℕ → List ℕ
@@ -161,3 +161,28 @@ module _ (s : ℕ) where
       by (inl t) (suc k) r h = rw t (h k)
       by (inr f) zero r h = rw (f, r .2, f) (rw (r .2) at (h 0))
       by (inr f) (suc k) r h = rw (f, r .2) (rw (r .2) at (h (suc k)))
+
+  -- bytes after a separator do not change the first part
+  pub first-in : (x y : List ℕ) → length (firstPart s x) < length x → firstPart s (x ++ y) ≡ firstPart s x
+  unfolding firstPart
+  first-in [] y h = absurd (omega arith)
+  first-in (b ∷ rest) y h = by (decided (eqb b s)) h (first-in rest y)
+    where
+      by : (eqb b s ≡ true) ⊎ (eqb b s ≡ false) → length (cond (eqb b s) [] (b ∷ firstPart s rest)) < suc (length rest)
+          → (length (firstPart s rest) < length rest → firstPart s (rest ++ y) ≡ firstPart s rest)
+          → cond (eqb b s) [] (b ∷ firstPart s (rest ++ y)) ≡ cond (eqb b s) [] (b ∷ firstPart s rest)
+      by (inl t) h r = rw t
+      by (inr f) h r = let g = rw f at h in rw (f, r (omega arith))
+
+  -- a text that is its own first part has no separator, and the other way round
+  pub first-all : (x : List ℕ) → length x ≤ length (firstPart s x) → firstPart s x ≡ x
+  first-all x h = first-take x ∙ take-all (length (firstPart s x)) x h
+
+  pub unparted-first : (x : List ℕ) → unparted s x ≡ true → firstPart s x ≡ x
+  unfolding firstPart
+  unparted-first x h = rw append-nil at (first-append x [] h)
+
+  pub unparted-append : (x y : List ℕ) → unparted s x ≡ true → unparted s y ≡ true → unparted s (x ++ y) ≡ true
+  unfolding unparted
+  unparted-append [] y h g = g
+  unparted-append (b ∷ x) y h g = and-both (not (eqb b s)) _ (and-left _ _ h) (unparted-append x y (and-right (not (eqb b s)) _ h) g)
