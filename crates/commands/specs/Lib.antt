@@ -1,0 +1,5 @@
+-- Script lines: what a field means (Fields) and what a line means (Commands), in document 01's words.
+-- Laws says what the two rule out and that only a line's first 257 bytes count.
+pub mod Fields
+pub mod FieldLaws
+pub mod Commands
