@@ -96,11 +96,21 @@ module _ (field : List ℕ) where
   unfolding numberIn
   number-not e = rw e
 
-  pub fits-number : numberIn field < 4294967296 → isNumber field ≡ true
-  fits-number h = ⊎-elim (λ e. e) (λ e. absurd (let n = number-not e in omega arith)) (decided (isNumber field))
+-- what the code's number tells: it fits exactly where the field is a number, and then it is that number
+pub number-told : (field : List ℕ) (n : ℕ) → n ≡ numberIn field → n < 4294967296 → (isNumber field ≡ true) × (n ≡ decimal field)
+number-told field n e h =
+    ⊎-elim (λ t. (t, e ∙ number-is field t .0)) (λ f. absurd (let g = number-not field f in omega arith)) (decided (isNumber field))
 
-  pub unfit-number : 4294967296 ≤ numberIn field → isNumber field ≡ false
-  unfit-number h = ⊎-elim (λ e. absurd (let n = number-is e in omega (arith, n .1))) (λ e. e) (decided (isNumber field))
+pub number-untold : (field : List ℕ) (n : ℕ) → n ≡ numberIn field → 4294967296 ≤ n → isNumber field ≡ false
+number-untold field n e h =
+    ⊎-elim (λ t. absurd (let g = number-is field t in omega (arith, g .1))) (λ f. f) (decided (isNumber field))
+
+pub number-test : (field : List ℕ) (n : ℕ) → n ≡ numberIn field → ltb n 4294967296 ≡ isNumber field
+number-test field n e =
+    ⊎-elim
+    (λ t. lt-ltb n 4294967296 (let g = number-is field t in omega (arith, g .1)) ∙ sym t)
+    (λ f. le-ltb n 4294967296 (let g = number-not field f in omega arith) ∙ sym f)
+    (decided (isNumber field))
 
 -- past the field's end there is no symbol, and no bit
 pub bit-past : (zeros : Bool) (field : List ℕ) (at : ℕ) → length field ≤ at → 0 ≡ bit (bitOf zeros (getD field at 0))

@@ -3,3 +3,4 @@
 pub mod Fields
 pub mod FieldLaws
 pub mod Commands
+pub mod LineLaws

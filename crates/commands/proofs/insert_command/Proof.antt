@@ -1,55 +1,72 @@
+-- `commands::insert_command` meets its contract.
+-- The tests are the definition's in another order, and each number that fits is its field's.
+use mathlib.Core.Bool.{true}
+use mathlib.Core.Path.{_≡_}
+use Rattle.commands.specs.LineLaws.{tested, insert-fits, insert-good, insert-bad}
+use native.Mathlib.Omega.{arith}
 use borrow.Author.Needs.{needs}
 use Rattle.commands.proofs.insert_command.Statement.{statement}
 use Rattle.commands.proofs.insert_command.Tie as tie
-use Rattle.commands.proofs.insert_command.Reads as reads
-use Rattle.commands.proofs.insert_command.Lts as lts
-use Rattle.commands.proofs.fields.is_symbol_field.Reads as is-symbol-field-reads
-use Rattle.commands.proofs.fields.number_in.Reads as number-in-reads
-use Rattle.commands.proofs.fields.symbol_words.Reads as symbol-words-reads
 
--- src/lib.rt:123:9
 number-in-requires : tie.Need-number-in-requires
 number-in-requires c κs = search needs
 
--- src/lib.rt:124:9
 number-in-requires-2 : tie.Need-number-in-requires-2
 number-in-requires-2 c κs = search needs
 
--- src/lib.rt:125:9
 number-in-requires-3 : tie.Need-number-in-requires-3
 number-in-requires-3 c κs = search needs
 
--- src/lib.rt:126:9
 is-symbol-field-requires : tie.Need-is-symbol-field-requires
 is-symbol-field-requires c κs = search needs
 
--- src/lib.rt:129:13
 symbol-words-requires : tie.Need-symbol-words-requires
 symbol-words-requires c κs = search needs
 
--- src/lib.rt:130:13
 symbol-words-requires-2 : tie.Need-symbol-words-requires-2
 symbol-words-requires-2 c κs = search needs
 
--- src/lib.rt:132:17
 cast-t16 : tie.Need-cast-t16
-cast-t16 c = ?
+cast-t16 c =
+    let args = c .before .before .before .before .before .before .before .before .before .before .before .args in
+    let n1 = c .before .before .before .before .before .before .number-in in
+    let n2 = c .before .before .before .before .before .number-in2 in
+    let n3 = c .before .before .before .before .number-in3 in
+    let good = c .before .before .before .is-symbol-field in
+    omega (arith, insert-fits (args .id .now) (args .priority .now) (args .pattern .now) (args .action .now) _ _ _ _ (n1 .ensures) (n2 .ensures) (n3 .ensures) (good .ensures) (c .before .before .if1 .taken) .0)
 
--- src/lib.rt:133:23
 cast-t17 : tie.Need-cast-t17
-cast-t17 c = ?
+cast-t17 c =
+    let args = c .before .before .before .before .before .before .before .before .before .before .before .args in
+    let n1 = c .before .before .before .before .before .before .number-in in
+    let n2 = c .before .before .before .before .before .number-in2 in
+    let n3 = c .before .before .before .before .number-in3 in
+    let good = c .before .before .before .is-symbol-field in
+    omega (arith, insert-fits (args .id .now) (args .priority .now) (args .pattern .now) (args .action .now) _ _ _ _ (n1 .ensures) (n2 .ensures) (n3 .ensures) (good .ensures) (c .before .before .if1 .taken) .1)
 
--- src/lib.rt:136:21
 cast-t18 : tie.Need-cast-t18
-cast-t18 c = ?
+cast-t18 c =
+    let args = c .before .before .before .before .before .before .before .before .before .before .before .args in
+    let n1 = c .before .before .before .before .before .before .number-in in
+    let n2 = c .before .before .before .before .before .number-in2 in
+    let n3 = c .before .before .before .before .number-in3 in
+    let good = c .before .before .before .is-symbol-field in
+    omega (arith, insert-fits (args .id .now) (args .priority .now) (args .pattern .now) (args .action .now) _ _ _ _ (n1 .ensures) (n2 .ensures) (n3 .ensures) (good .ensures) (c .before .before .if1 .taken) .2)
 
--- src/lib.rt:131:9
 returns : tie.Need-returns
-returns c = ?
+returns c =
+    let args = c .before .before .before .before .before .before .before .before .before .before .before .args in
+    let n1 = c .before .before .before .before .before .before .number-in in
+    let n2 = c .before .before .before .before .before .number-in2 in
+    let n3 = c .before .before .before .before .number-in3 in
+    let good = c .before .before .before .is-symbol-field in
+    insert-good (args .id .now) (args .priority .now) (args .pattern .now) (args .action .now) _ _ _ _ (n1 .ensures) (n2 .ensures) (n3 .ensures) (good .ensures) _ _ (c .before .symbol-words .ensures) (c .symbol-words2 .ensures) (c .before .before .if1 .taken)
 
--- src/lib.rt:120:1
 returns-2 : tie.Need-returns-2
-returns-2 c = ?
+returns-2 c =
+    let args = c .before .before .before .before .before .before .before .before .before .args in
+    insert-bad (args .id .now) (args .priority .now) (args .pattern .now) (args .action .now) _ _ _ _
+    (c .before .before .before .before .number-in .ensures) (c .before .before .before .number-in2 .ensures) (c .before .before .number-in3 .ensures) (c .before .is-symbol-field .ensures) (c .if1 .left)
 
 pub insert-command-spec : {M : Type 1} → statement M
 insert-command-spec =

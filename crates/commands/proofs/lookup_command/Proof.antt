@@ -1,26 +1,25 @@
+-- `commands::lookup_command` meets its contract.
+-- The test and the words are the definition's.
+use mathlib.Core.Path.{_≡_, sym, _∙_}
+use Rattle.commands.specs.Commands.{lookupCommand}
+use Rattle.commands.specs.declared.Command.the-variants.{Lookup}
 use borrow.Author.Needs.{needs}
 use Rattle.commands.proofs.lookup_command.Statement.{statement}
 use Rattle.commands.proofs.lookup_command.Tie as tie
-use Rattle.commands.proofs.lookup_command.Reads as reads
-use Rattle.commands.proofs.lookup_command.Lts as lts
-use Rattle.commands.proofs.fields.is_symbol_field.Reads as is-symbol-field-reads
-use Rattle.commands.proofs.fields.symbol_words.Reads as symbol-words-reads
 
--- src/lib.rt:112:9
 is-symbol-field-requires : tie.Need-is-symbol-field-requires
 is-symbol-field-requires c κs = search needs
 
--- src/lib.rt:114:13
 symbol-words-requires : tie.Need-symbol-words-requires
 symbol-words-requires c κs = search needs
 
--- src/lib.rt:115:9
 returns : tie.Need-returns
-returns c = ?
+unfolding lookupCommand
+returns c =     rw (sym (c .before .before .is-symbol-field .ensures) ∙ c .before .if1 .taken) (λ i. Lookup (record { key = c .symbol-words .ensures i }))
 
--- src/lib.rt:109:1
 returns-2 : tie.Need-returns-2
-returns-2 c = ?
+unfolding lookupCommand
+returns-2 c = rw (sym (c .before .is-symbol-field .ensures) ∙ c .if1 .left)
 
 pub lookup-command-spec : {M : Type 1} → statement M
 lookup-command-spec =

@@ -1,39 +1,35 @@
+-- `commands::short_command` meets its contract.
+-- The letter decides, in the definition's order.
+use borrow.Author.Tests.{eq-eqb, ne-eqb}
+use Rattle.commands.specs.Commands.{shortCommand}
 use borrow.Author.Needs.{needs}
 use Rattle.commands.proofs.short_command.Statement.{statement}
 use Rattle.commands.proofs.short_command.Tie as tie
-use Rattle.commands.proofs.short_command.Reads as reads
-use Rattle.commands.proofs.short_command.Lts as lts
-use Rattle.commands.proofs.delete_command.Reads as delete-command-reads
-use Rattle.commands.proofs.lookup_command.Reads as lookup-command-reads
-use Rattle.commands.proofs.table_command.Reads as table-command-reads
 
--- src/lib.rt:147:9
 table-command-requires : tie.Need-table-command-requires
 table-command-requires c κs = search needs
 
--- src/lib.rt:147:9
 returns : tie.Need-returns
-returns c = ?
+unfolding shortCommand
+returns c = rw (eq-eqb _ _ (c .before .if1 .taken)) (c .table-command .ensures)
 
--- src/lib.rt:150:9
 delete-command-requires : tie.Need-delete-command-requires
 delete-command-requires c κs = search needs
 
--- src/lib.rt:150:9
 returns-2 : tie.Need-returns-2
-returns-2 c = ?
+unfolding shortCommand
+returns-2 c = rw (ne-eqb _ _ (c .before .before .if1 .left), eq-eqb _ _ (c .before .if2 .taken)) (c .delete-command .ensures)
 
--- src/lib.rt:153:9
 lookup-command-requires : tie.Need-lookup-command-requires
 lookup-command-requires c κs = search needs
 
--- src/lib.rt:153:9
 returns-3 : tie.Need-returns-3
-returns-3 c = ?
+unfolding shortCommand
+returns-3 c =     rw (ne-eqb _ _ (c .before .before .before .if1 .left), ne-eqb _ _ (c .before .before .if2 .left), eq-eqb _ _ (c .before .if3 .taken)) (c .lookup-command .ensures)
 
--- src/lib.rt:143:1
 returns-4 : tie.Need-returns-4
-returns-4 c = ?
+unfolding shortCommand
+returns-4 c = rw (ne-eqb _ _ (c .before .before .if1 .left), ne-eqb _ _ (c .before .if2 .left), ne-eqb _ _ (c .if3 .left))
 
 pub short-command-spec : {M : Type 1} → statement M
 short-command-spec =

@@ -1,25 +1,28 @@
+-- `commands::table_command` meets its contract.
+-- A number that fits is the field's number.
+use mathlib.Core.Path.{_≡_}
+use Rattle.commands.specs.Commands.{tableCommand}
+use Rattle.commands.specs.FieldLaws.{number-told, number-untold}
+use Rattle.commands.specs.declared.Command.the-variants.{Table}
 use borrow.Author.Needs.{needs}
 use Rattle.commands.proofs.table_command.Statement.{statement}
 use Rattle.commands.proofs.table_command.Tie as tie
-use Rattle.commands.proofs.table_command.Reads as reads
-use Rattle.commands.proofs.table_command.Lts as lts
-use Rattle.commands.proofs.fields.number_in.Reads as number-in-reads
 
--- src/lib.rt:90:9
 number-in-requires : tie.Need-number-in-requires
 number-in-requires c κs = search needs
 
--- src/lib.rt:93:20
 cast-t4 : tie.Need-cast-t4
 cast-t4 c = search needs
 
--- src/lib.rt:92:9
 returns : tie.Need-returns
-returns c = ?
+unfolding tableCommand
+returns c =
+    let told = number-told (c .before .before .before .args .slots .now) (c .before .number-in .result) (c .before .number-in .ensures) (c .if1 .taken) in
+    rw (told .0) (λ i. Table (record { slots = told .1 i }))
 
--- src/lib.rt:87:1
 returns-2 : tie.Need-returns-2
-returns-2 c = ?
+unfolding tableCommand
+returns-2 c =     rw (number-untold (c .before .before .before .args .slots .now) (c .before .number-in .result) (c .before .number-in .ensures) (c .if1 .left))
 
 pub table-command-spec : {M : Type 1} → statement M
 table-command-spec = tie.close (tie.spec number-in-requires cast-t4 returns returns-2)

@@ -1,38 +1,43 @@
+-- `commands::fields::number_in` meets its contract.
+-- Each return is one of the cases of the definition.
+use native.Mathlib.Omega.{arith}
+use mathlib.Core.Path.{_≡_, sym, _∙_}
+use borrow.Author.Tests.{not-true, not-false}
+use Rattle.commands.specs.FieldLaws.{number-none, number-long, number-other, number-fits, number-large}
 use borrow.Author.Needs.{needs}
 use Rattle.commands.proofs.fields.number_in.Statement.{statement}
 use Rattle.commands.proofs.fields.number_in.Tie as tie
-use Rattle.commands.proofs.fields.number_in.Reads as reads
-use Rattle.commands.proofs.fields.number_in.Lts as lts
-use Rattle.commands.proofs.fields.all_symbols.Reads as all-symbols-reads
-use Rattle.commands.proofs.fields.decimal_of.Reads as decimal-of-reads
 
--- src/fields.rt:61:9
 returns : tie.Need-returns
-returns c = ?
+returns c = number-none (c .before .before .args .field .now) (c .if1 .taken)
 
--- src/fields.rt:64:9
 returns-2 : tie.Need-returns-2
-returns-2 c = ?
+returns-2 c = number-long (c .before .before .before .args .field .now) (c .if2 .taken)
 
--- src/fields.rt:66:9
 all-symbols-requires : tie.Need-all-symbols-requires
 all-symbols-requires c κs = search needs
 
--- src/fields.rt:68:9
 returns-3 : tie.Need-returns-3
-returns-3 c = ?
+returns-3 c =
+    let field = c .before .before .before .before .before .args .field .now in
+    number-other field (omega arith) (omega arith) (sym (c .before .all-symbols .ensures) ∙ not-true _ (c .if3 .taken))
 
--- src/fields.rt:70:9
 decimal-of-requires : tie.Need-decimal-of-requires
-decimal-of-requires c κs = ?
+decimal-of-requires c κs = (omega arith, sym (c .before .all-symbols .ensures) ∙ not-false _ (c .if3 .left))
 
--- src/fields.rt:72:9
 returns-4 : tie.Need-returns-4
-returns-4 c = ?
+returns-4 c =
+    let field = c .before .before .before .before .before .before .before .args .field .now in
+    let digits = sym (c .before .before .before .all-symbols .ensures) ∙ not-false _ (c .before .before .if3 .left) in
+    let value = c .before .decimal-of .ensures in
+    value ∙ number-fits field (omega arith) (omega arith) digits (omega arith)
 
--- src/fields.rt:57:1
 returns-5 : tie.Need-returns-5
-returns-5 c = ?
+returns-5 c =
+    let field = c .before .before .before .before .before .before .before .args .field .now in
+    let digits = sym (c .before .before .before .all-symbols .ensures) ∙ not-false _ (c .before .before .if3 .left) in
+    let value = c .before .decimal-of .ensures in
+    number-large field (omega arith) (omega arith) digits (omega arith)
 
 pub number-in-spec : {M : Type 1} → statement M
 number-in-spec =
