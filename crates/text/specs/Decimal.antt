@@ -147,3 +147,7 @@ decimal-below n (d ∷ ds) h =
     let more : (n * 10 + (d - 48) + 1) * 10 ^ length ds ≤ (n + 1) * 10 * 10 ^ length ds = mul-le-mul-right (10 ^ length ds) (omega arith) in
     let power : (n + 1) * 10 * 10 ^ length ds ≡ (n + 1) * 10 ^ suc (length ds) = mul-assoc (n + 1) 10 _ ∙ ap (λ (k : ℕ). (n + 1) * k) (sym (pow-succ' 10 (length ds))) in
     omega (arith, rest, more, power)
+
+-- one digit more than its tenth
+pub digits-longer : (n : ℕ) → 10 ≤ n → length (digitsOf n) ≡ length (digitsOf (n / 10)) + 1
+digits-longer n h = ap length (digits-more n h) ∙ length-append (digitsOf (n / 10)) ((48 + n % 10) ∷ [])

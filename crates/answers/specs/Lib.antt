@@ -1,0 +1,4 @@
+-- Printed answers: writing bytes at a place of a buffer (Printing), and the lines of document 01 (Lines).
+-- Room says how long a line can get, and with it how large the buffer is.
+pub mod Printing
+pub mod Lines
