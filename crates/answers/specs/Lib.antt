@@ -2,3 +2,4 @@
 -- Room says how long a line can get, and with it how large the buffer is.
 pub mod Printing
 pub mod Lines
+pub mod Room

@@ -35,10 +35,14 @@ missBytes = printed 77 []
 abbrev pub refusalBytes : ℕ → ℕ → List ℕ
 refusalBytes number spot = printed 82 (number ∷ spot ∷ [])
 
+-- the dash that stands for the new rule, after a space
+abbrev pub dash : List ℕ
+dash = 32 ∷ 45 ∷ []
+
 -- `W from to` per copy, `W - to` for the new rule, `E slot` for emptying
 abbrev pub printedWrite : Write → List ℕ
 printedWrite (copy from to) = printed 87 (from ∷ to ∷ [])
-printedWrite (put to) = 87 ∷ 32 ∷ 45 ∷ fields (to ∷ [])
+printedWrite (put to) = 87 ∷ (dash ++ fields (to ∷ []))
 printedWrite (clear slot) = printed 69 (slot ∷ [])
 
 unfoldable pub printedWrites : List ℕ → List ℕ

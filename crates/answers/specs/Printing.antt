@@ -66,3 +66,14 @@ module _ {out : List ℕ} {at : ℕ} {x : List ℕ} {m : ℕ} {mid : List ℕ} (
           ∙ (drop-append-add head (drop (at + length x) out) (length y)
           ∙ (drop-drop (length y) (at + length x) out
           ∙ ap (λ (n : ℕ). drop n out) (let e : at + length x + length y ≡ at + length (x ++ y) = omega (arith, length-append x y) in e)))
+
+-- room for two texts is room for the first, and then for the second
+module _ (out : List ℕ) (at : ℕ) (x y : List ℕ) (room : at + length (x ++ y) ≤ length out) where
+  pub room-first : at + length x ≤ length out
+  room-first = omega (arith, length-append x y)
+
+  pub room-next : {m : ℕ} {mid : List ℕ} → Printed out at x m mid → length mid ≡ length out → m + length y ≤ length mid
+  room-next p e = omega (arith, length-append x y, p .place)
+
+  pub both : {m next : ℕ} {mid after : List ℕ} → Printed out at x m mid → Printed mid m y next after → Printed out at (x ++ y) next after
+  both p q = printed-then p (omega arith) q

@@ -1,26 +1,32 @@
+-- `answers::line_of_one` meets its contract.
+-- The letter, and then its field.
+use native.Mathlib.Omega.{arith}
+use mathlib.Core.Path.{_∙_}
+use mathlib.Core.List.{[], _∷_}
+use Rattle.answers.specs.Printing.{room-first, room-next, both}
+use Rattle.answers.specs.Lines.{fields}
 use borrow.Author.Needs.{needs}
 use Rattle.answers.proofs.line_of_one.Statement.{statement}
 use Rattle.answers.proofs.line_of_one.Tie as tie
-use Rattle.answers.proofs.line_of_one.Reads as reads
-use Rattle.answers.proofs.line_of_one.Lts as lts
-use Rattle.answers.proofs.last_field.Reads as last-field-reads
-use Rattle.answers.proofs.put_byte.Reads as put-byte-reads
 
--- src/lib.rt:63:9
 put-byte-requires : tie.Need-put-byte-requires
-put-byte-requires c κs = search needs
+put-byte-requires c κs =
+    let start = c .before .before in
+    omega (arith, room-first (start .args .out .now) (start .args .at) (start .args .letter ∷ []) (fields (start .args .number ∷ [])) (start .pre))
 
--- src/lib.rt:64:5
 last-field-requires : tie.Need-last-field-requires
-last-field-requires c κs = search needs
+last-field-requires c κs =
+    let start = c .before .before .before .before .before .before in
+    let first = c .before .before .before .put-byte in
+    room-next (start .args .out .now) (start .args .at) (start .args .letter ∷ []) (fields (start .args .number ∷ [])) (start .pre) (first .ensures) (first .kept .0)
 
--- src/lib.rt:59:1
 same-length : tie.Need-same-length
-same-length c = search needs
+same-length c = c .before .before .last-field .kept .0 ∙ c .before .before .before .before .before .before .put-byte .kept .0
 
--- src/lib.rt:59:1
 returns : tie.Need-returns
-returns c = ?
+returns c =
+    let start = c .before .before .before .before .before .before .before .before .before in
+    both (start .args .out .now) (start .args .at) (start .args .letter ∷ []) (fields (start .args .number ∷ [])) (start .pre) (c .before .before .before .before .before .before .put-byte .ensures) (c .before .before .last-field .ensures)
 
 pub line-of-one-spec : {M : Type 1} → statement M
 line-of-one-spec = tie.close (tie.spec put-byte-requires last-field-requires same-length returns)
