@@ -6,7 +6,7 @@ use Prim.Native.Nat.{ℕ, suc, _+_, _≤_, _<_}
 use native.Mathlib.Omega.{arith}
 use native.Mathlib.Numerals.{add-one}
 use lib.ListN.{length, take, drop, set, length-append, length-drop, length-take}
-use lib.Seq.{set-split, append-snoc, length-take-le, take-at, drop-append-add, drop-drop}
+use lib.Seq.{set-split, append-snoc, paste-zero, length-take-le, take-at, drop-append-add, drop-drop}
 
 -- the buffer with these bytes from a place on
 abbrev pub written : List ℕ → ℕ → List ℕ → List ℕ
@@ -35,8 +35,8 @@ printed-one out at b h = record {
 }
 
 -- no byte
-pub printed-none : (out : List ℕ) → Printed out 0 [] 0 out
-printed-none out = record { place = omega arith; bytes = let e : 0 + 0 ≡ 0 = omega arith in ap (λ (n : ℕ). drop n out) (sym e) }
+pub printed-none : (out : List ℕ) (at : ℕ) → Printed out at [] at out
+printed-none out at = record { place = omega arith; bytes = paste-zero out at [] }
 
 -- one text after the other
 module _ {out : List ℕ} {at : ℕ} {x : List ℕ} {m : ℕ} {mid : List ℕ} (first : Printed out at x m mid) where

@@ -8,10 +8,11 @@ use native.Mathlib.Numerals.{add-one}
 use native.Mathlib.Decide.{ℕ-discrete}
 use lib.ListN.{length, getD, take, length-append}
 use lib.Seq.{take-suc, take-all}
+use borrow.Author.Tests.{lt-leb, le-leb}
 use Rattle.text.specs.Decimal.{digitsOf, digits-few}
 use Rattle.layout.specs.Write.{copy, put, clear}
 use Rattle.records.specs.Writes.{writeOf, word-puts, word-clears, word-copies}
-use Rattle.answers.specs.Lines.{field, fields, printed, printedWrite, printedWrites}
+use Rattle.answers.specs.Lines.{printed, printedWrite, printedWrites, planBytes}
 
 -- digits of numbers of 16, 32 and 64 bits
 pub digits-5 : (n : ℕ) → n < 65536 → length (digitsOf n) ≤ 5
@@ -52,6 +53,18 @@ write-short word h = by (ℕ-discrete (word / 65536) 65535) (ℕ-discrete (word 
     by (yes e) d = rw (word-puts word e) (put-short (word % 65536) (omega arith))
     by (no e) (yes f) = rw (word-clears word f) (clear-short (word % 65536) (omega arith))
     by (no e) (no f) = rw (word-copies word e f) (copy-short (word / 65536) (word % 65536) (omega arith) (omega arith))
+
+pub count-short : (count : ℕ) → count ≤ 1024 → length (printed 80 (count ∷ [])) ≤ 7
+count-short count h = omega (arith, length-one 80 count, digits-few 3 count (omega arith))
+
+-- a plan's bytes
+pub plan-long : (words : List ℕ) → 1024 < length words → [] ≡ planBytes words
+unfolding planBytes
+plan-long words h = rw (lt-leb (length words) 1024 h)
+
+pub plan-fits : (words : List ℕ) → length words ≤ 1024 → printed 80 (length words ∷ []) ++ printedWrites words ≡ planBytes words
+unfolding planBytes
+plan-fits words h = rw (le-leb (length words) 1024 h)
 
 -- the lines of one word more
 writes-append : (x : List ℕ) (w : ℕ) → printedWrites (x ++ w ∷ []) ≡ printedWrites x ++ printedWrite (writeOf w)
