@@ -84,7 +84,14 @@ fn last_three(out: &mut [u8], at: usize, first: u64, second: u64, third: u64) ->
 }
 
 // A line of a letter and three numbers.
-pub fn line_of_three(out: &mut [u8], at: usize, letter: u8, first: u64, second: u64, third: u64) -> usize
+pub fn line_of_three(
+    out: &mut [u8],
+    at: usize,
+    letter: u8,
+    first: u64,
+    second: u64,
+    third: u64,
+) -> usize
     requires { ⌜ at + length (printed letter (first ∷ second ∷ third ∷ [])) ≤ length (now out) ⌝ }
     ensures { λ r. ⌜ Printed (now (out .entry)) at (printed letter (first ∷ second ∷ third ∷ [])) r (now (out .exit)) ⌝ }
 {

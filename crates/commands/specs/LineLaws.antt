@@ -44,16 +44,19 @@ module _ (x : List ℕ) (end : ℕ) (at-end : EndOf x 0 end) where
   last-field last e h g =
       more-fields h
       ∙ ap (λ (ps : List (List ℕ)). take end x ∷ ps)
-        (parts-last 32 (tail x end) (rw (tail-drop x end) (omega (arith, length-drop (end + 1) x))))
+      (parts-last 32 (tail x end) (rw (tail-drop x end) (omega (arith, length-drop (end + 1) x))))
 
   pub field-more : (last : ℕ) → EndOf x (end + 1) last → end < length x → last < length x
       → (p : List ℕ) × (q : List ℕ) × (ps : List (List ℕ)) × (parts 32 x ≡ take end x ∷ p ∷ q ∷ ps)
   field-more last e h g =
       let y = drop (end + 1) x in
       let rest = parts-more 32 y (omega (arith, length-drop (end + 1) x)) in
-      let some = parts-some 32 (drop (suc (length (firstPart 32 y))) y) in
-      (firstPart 32 y, some .0, some .1,
-        more-fields h ∙ ap (λ (ps : List (List ℕ)). take end x ∷ ps) (ap (parts 32) (tail-drop x end) ∙ (rest ∙ ap (λ (ps : List (List ℕ)). firstPart 32 y ∷ ps) (some .2))))
+      let some = parts-some 32 (drop (suc (length (firstPart 32 y))) y) in (
+        firstPart 32 y,
+        some .0,
+        some .1,
+        more-fields h ∙ ap (λ (ps : List (List ℕ)). take end x ∷ ps) (ap (parts 32) (tail-drop x end) ∙ (rest ∙ ap (λ (ps : List (List ℕ)). firstPart 32 y ∷ ps) (some .2))),
+      )
 
 -- the code tests the fields of an insert in another order
 pub regrouped : (i p q a : Bool) → q && ((i && p) && a) ≡ i && (p && (q && a))

@@ -124,7 +124,9 @@ fn insert_command(id: &[u8], priority: &[u8], pattern: &[u8], action: &[u8]) -> 
     let priority_number = number_in(priority);
     let action_number = number_in(action);
     let good = is_symbol_field(pattern, true);
-    let fits = (id_number < 4294967296) & (priority_number < 4294967296) & (action_number < 4294967296);
+    let fits = (id_number < 4294967296)
+        & (priority_number < 4294967296)
+        & (action_number < 4294967296);
     if good & fits {
         let value = symbol_words(pattern, false);
         let mask = symbol_words(pattern, true);

@@ -165,13 +165,13 @@ module _ {S : Type 0} (run : S → ℕ → List ℕ → Outcome S) (short : (tab
       → linesOf ((begun ++ rest) ++ more) ≡ (begun ++ firstPart 10 rest) ∷ linesOf (drop (suc (length (firstPart 10 rest))) rest ++ more)
   line-first begun rest more u h =
       let first : firstPart 10 ((begun ++ rest) ++ more) ≡ begun ++ firstPart 10 rest =
-          ap (firstPart 10) (append-assoc begun rest more) ∙ (first-append 10 begun (rest ++ more) u ∙ ap (λ (x : List ℕ). begun ++ x) (first-in 10 rest more h)) in
+      ap (firstPart 10) (append-assoc begun rest more) ∙ (first-append 10 begun (rest ++ more) u ∙ ap (λ (x : List ℕ). begun ++ x) (first-in 10 rest more h)) in
       let size : length (firstPart 10 ((begun ++ rest) ++ more)) ≡ length begun + length (firstPart 10 rest) = ap length first ∙ length-append begun (firstPart 10 rest) in
       let whole : length ((begun ++ rest) ++ more) ≡ length begun + length rest + length more = simp length-append in
       let count : suc (length begun + length (firstPart 10 rest)) ≡ length begun + suc (length (firstPart 10 rest)) = omega arith in
       let after : drop (suc (length (firstPart 10 ((begun ++ rest) ++ more)))) ((begun ++ rest) ++ more) ≡ drop (suc (length (firstPart 10 rest))) rest ++ more =
-          ap₂ drop (ap suc size ∙ count) (append-assoc begun rest more)
-          ∙ (drop-append-add begun (rest ++ more) (suc (length (firstPart 10 rest))) ∙ drop-append-le (suc (length (firstPart 10 rest))) rest more h) in
+      ap₂ drop (ap suc size ∙ count) (append-assoc begun rest more)
+      ∙ (drop-append-add begun (rest ++ more) (suc (length (firstPart 10 rest))) ∙ drop-append-le (suc (length (firstPart 10 rest))) rest more h) in
       lines-more ((begun ++ rest) ++ more) (omega arith) ∙ ap₂ (λ (l : List ℕ) (x : List ℕ). l ∷ linesOf x) first after
 
   -- the turns of a block
@@ -213,7 +213,7 @@ module _ {S : Type 0} (run : S → ℕ → List ℕ → Outcome S) (short : (tab
       by (yes l) (yes g) next =
           let there = next (handedOut run after) block (at + length piece + 1) [] (omega arith) (begun-none (handedOut run after) (held .size) refl) in
           let rest : drop (suc (length piece)) (drop at block) ≡ drop (at + length piece + 1) block =
-              drop-drop (suc (length piece)) at block ∙ ap (λ (n : ℕ). drop n block) (let e : at + suc (length piece) ≡ at + length piece + 1 = omega arith in e) in
+          drop-drop (suc (length piece)) at block ∙ ap (λ (n : ℕ). drop n block) (let e : at + suc (length piece) ≡ at + length piece + 1 = omega arith in e) in
           subst (λ (x : Reading S). Goes r x (begun ++ drop at block)) (sym (turns-line k r block at l g))
           (record {
             left = there .left;

@@ -25,7 +25,11 @@ fn room_for(size: usize, held: usize, count: usize) -> usize
     if size <= held {
         return 0;
     }
-    if count < size - held { count } else { size - held }
+    if count < size - held {
+        count
+    } else {
+        size - held
+    }
 }
 
 // Puts a piece behind the bytes held, as far as there is room.

@@ -51,7 +51,7 @@ turns-enough (suc k) (suc l) n h g = by (decLt n 10) (turns-enough k l (n / 10))
   where
     by : Dec (n < 10) → (n / 10 < k → n / 10 < l → digitsIn k (n / 10) ≡ digitsIn l (n / 10))
         → cond (ltb n 10) ((48 + n) ∷ []) (digitsIn k (n / 10) ++ (48 + n % 10) ∷ [])
-            ≡ cond (ltb n 10) ((48 + n) ∷ []) (digitsIn l (n / 10) ++ (48 + n % 10) ∷ [])
+        ≡ cond (ltb n 10) ((48 + n) ∷ []) (digitsIn l (n / 10) ++ (48 + n % 10) ∷ [])
     by (yes s) r = rw (lt-ltb n 10 s)
     by (no s) r = rw (le-ltb n 10 (omega arith), r (omega arith) (omega arith))
 

@@ -115,7 +115,7 @@ module _ (s : ℕ) where
       by : (eqb b s ≡ true) ⊎ (eqb b s ≡ false) → length (cond (eqb b s) [] (b ∷ firstPart s rest)) < suc (length rest)
           → (length (firstPart s rest) < length rest → parts s rest ≡ firstPart s rest ∷ parts s (drop (suc (length (firstPart s rest))) rest))
           → cond (eqb b s) ([] ∷ parts s rest) (extended b (parts s rest))
-              ≡ cond (eqb b s) [] (b ∷ firstPart s rest) ∷ parts s (drop (suc (length (cond (eqb b s) [] (b ∷ firstPart s rest)))) (b ∷ rest))
+          ≡ cond (eqb b s) [] (b ∷ firstPart s rest) ∷ parts s (drop (suc (length (cond (eqb b s) [] (b ∷ firstPart s rest)))) (b ∷ rest))
       by (inl t) h r = rw t
       by (inr f) h r = let g = rw f at h in rw (f, r (omega arith))
 

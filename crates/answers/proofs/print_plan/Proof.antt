@@ -1,17 +1,20 @@
+-- `answers::print_plan` meets its contract.
+-- The buffer has room for the longest plan.
+use mathlib.Core.List.{[], _∷_}
+use Rattle.answers.specs.Lines.{planBytes}
+use Rattle.answers.specs.Printing.{shown}
+use Prim.Native.Nat.{ℕ}
 use borrow.Author.Needs.{needs}
 use Rattle.answers.proofs.print_plan.Statement.{statement}
 use Rattle.answers.proofs.print_plan.Tie as tie
-use Rattle.answers.proofs.print_plan.Reads as reads
-use Rattle.answers.proofs.print_plan.Lts as lts
-use Rattle.answers.proofs.lines.put_plan.Reads as put-plan-reads
 
--- src/lib.rt:24:5
 put-plan-requires : tie.Need-put-plan-requires
 put-plan-requires c κs = search needs
 
--- src/lib.rt:21:1
 returns : tie.Need-returns
-returns c = ?
+returns c =
+    let args = c .before .before .before .args in
+    shown (args .out .now) (planBytes (args .words .now)) (c .put-plan .result) (c .put-plan .last .0) (c .put-plan .ensures)
 
 pub print-plan-spec : {M : Type 1} → statement M
 print-plan-spec = tie.close (tie.spec put-plan-requires returns)

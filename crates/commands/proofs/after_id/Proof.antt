@@ -20,7 +20,7 @@ returns c =
     sym (ap (λ (fs : List (List ℕ)). afterLetter (args .letter) (args .id .now ∷ fs)) (one-field (args .rest .now) (c .before .part-end .result) (c .before .part-end .ensures) (c .if1 .taken)))
 
 slice-aggregate-after-priority : tie.Need-slice-aggregate-after-priority
-slice-aggregate-after-priority c =     sym (length-take-le (c .before .before .part-end .result) (c .before .before .before .before .before .args .rest .now) (omega (arith, c .before .if1 .left)))
+slice-aggregate-after-priority c = sym (length-take-le (c .before .before .part-end .result) (c .before .before .before .before .before .args .rest .now) (omega (arith, c .before .if1 .left)))
 
 add-after-priority : tie.Need-add-after-priority
 add-after-priority c = search needs

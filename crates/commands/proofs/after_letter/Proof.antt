@@ -22,7 +22,7 @@ returns c =
     c .short-command .ensures ∙ sym (ap (afterLetter (args .letter)) (one-field (args .rest .now) (end .result) (end .ensures) (c .before .if1 .taken)))
 
 slice-aggregate-after-id : tie.Need-slice-aggregate-after-id
-slice-aggregate-after-id c =     sym (length-take-le (c .before .before .part-end .result) (c .before .before .before .before .args .rest .now) (omega (arith, c .before .if1 .left)))
+slice-aggregate-after-id c = sym (length-take-le (c .before .before .part-end .result) (c .before .before .before .before .args .rest .now) (omega (arith, c .before .if1 .left)))
 
 add-after-id : tie.Need-add-after-id
 add-after-id c = search needs

@@ -34,7 +34,7 @@ returns-2 c =
     sym (ap (λ (fs : List (List ℕ)). afterLetter (args .letter) (args .id .now ∷ args .priority .now ∷ fs)) (more .3))
 
 slice-aggregate-insert-command : tie.Need-slice-aggregate-insert-command
-slice-aggregate-insert-command c =     sym (length-take-le (c .before .before .before .before .before .part-end .result) (c .before .before .before .before .before .before .before .before .before .args .rest .now) (omega (arith, c .before .before .before .before .if1 .left)))
+slice-aggregate-insert-command c = sym (length-take-le (c .before .before .before .before .before .part-end .result) (c .before .before .before .before .before .before .before .before .before .args .rest .now) (omega (arith, c .before .before .before .before .if1 .left)))
 
 add-insert-command : tie.Need-add-insert-command
 add-insert-command c = search needs

@@ -15,7 +15,7 @@ symbol-words-requires c κs = search needs
 
 returns : tie.Need-returns
 unfolding lookupCommand
-returns c =     rw (sym (c .before .before .is-symbol-field .ensures) ∙ c .before .if1 .taken) (λ i. Lookup (record { key = c .symbol-words .ensures i }))
+returns c = rw (sym (c .before .before .is-symbol-field .ensures) ∙ c .before .if1 .taken) (λ i. Lookup (record { key = c .symbol-words .ensures i }))
 
 returns-2 : tie.Need-returns-2
 unfolding lookupCommand

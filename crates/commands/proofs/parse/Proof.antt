@@ -15,10 +15,10 @@ part-end-requires : tie.Need-part-end-requires
 part-end-requires c κs = search needs
 
 returns-2 : tie.Need-returns-2
-returns-2 c =     line-one (c .before .before .before .before .args .line .now) (c .before .part-end .result) (c .before .part-end .ensures) (c .before .before .if1 .left) (c .if2 .taken)
+returns-2 c = line-one (c .before .before .before .before .args .line .now) (c .before .part-end .result) (c .before .part-end .ensures) (c .before .before .if1 .left) (c .if2 .taken)
 
 slice-aggregate-letter-of : tie.Need-slice-aggregate-letter-of
-slice-aggregate-letter-of c =     sym (length-take-le (c .before .before .part-end .result) (c .before .before .before .before .before .args .line .now) (omega (arith, c .before .if2 .left)))
+slice-aggregate-letter-of c = sym (length-take-le (c .before .before .part-end .result) (c .before .before .before .before .before .args .line .now) (omega (arith, c .before .if2 .left)))
 
 letter-of-requires : tie.Need-letter-of-requires
 letter-of-requires c κs = search needs

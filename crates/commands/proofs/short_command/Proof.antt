@@ -25,7 +25,7 @@ lookup-command-requires c κs = search needs
 
 returns-3 : tie.Need-returns-3
 unfolding shortCommand
-returns-3 c =     rw (ne-eqb _ _ (c .before .before .before .if1 .left), ne-eqb _ _ (c .before .before .if2 .left), eq-eqb _ _ (c .before .if3 .taken)) (c .lookup-command .ensures)
+returns-3 c = rw (ne-eqb _ _ (c .before .before .before .if1 .left), ne-eqb _ _ (c .before .before .if2 .left), eq-eqb _ _ (c .before .if3 .taken)) (c .lookup-command .ensures)
 
 returns-4 : tie.Need-returns-4
 unfolding shortCommand

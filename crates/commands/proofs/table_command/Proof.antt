@@ -22,7 +22,7 @@ returns c =
 
 returns-2 : tie.Need-returns-2
 unfolding tableCommand
-returns-2 c =     rw (number-untold (c .before .before .before .args .slots .now) (c .before .number-in .result) (c .before .number-in .ensures) (c .if1 .left))
+returns-2 c = rw (number-untold (c .before .before .before .args .slots .now) (c .before .number-in .result) (c .before .number-in .ensures) (c .if1 .left))
 
 pub table-command-spec : {M : Type 1} → statement M
 table-command-spec = tie.close (tie.spec number-in-requires cast-t4 returns returns-2)

@@ -48,7 +48,7 @@ loop-again c =
       turn .inv .1,
       simp length-set (turn .inv .2),
       ap (λ (l : List ℕ). set l (args .held + turn .at) (getD (args .piece .now) (turn .at) 0)) (turn .inv .3)
-      ∙ step ∙ ap (λ (n : ℕ). paste (args .line .now) (args .held) (args .piece .now) n) (sym (add-one (turn .at))),
+          ∙ step ∙ ap (λ (n : ℕ). paste (args .line .now) (args .held) (args .piece .now) n) (sym (add-one (turn .at))),
     )
 
 add-result : tie.Need-add-result Inv-loop μ-loop

@@ -48,7 +48,7 @@ loop-again c =
       omega (arith, line .ensures .place, write-short (getD words (turn .done) 0) (omega (arith, c .before .before .before .shared-slice-known2 .given (turn .done)))),
       line .kept .0 ∙ turn .inv .2,
       subst (λ (text : List ℕ). Printed (start .args .out .now) (start .args .at) text (line .result) (line .last .0)) (writes-on words (turn .done) test)
-      (printed-then (turn .inv .3) (omega (arith, start .pre)) (line .ensures)),
+          (printed-then (turn .inv .3) (omega (arith, start .pre)) (line .ensures)),
     )
 
 same-length : tie.Need-same-length Inv-loop μ-loop
