@@ -15,7 +15,7 @@ use lib.Seq.{drop-cons}
 use borrow.Author.Tests.{lt-ltb, le-ltb, le-leb, lt-leb, ltb-true}
 use Rattle.search.specs.Search.{decided, and-left, and-right}
 use Rattle.text.specs.Decimal.{every, digit, decimalOn, decimal, decimal-grows, decimal-below}
-use Rattle.commands.specs.Fields.{sized, isNumber, numberIn, bit, bitOf, binary}
+use Rattle.commands.specs.Fields.{sized, isNumber, numberIn, oneIf, bitOf, binary}
 
 module _ (p : ℕ → Bool) (x : List ℕ) where
   pub every-on : (at : ℕ) → at < length x → p (getD x at 0) ≡ true → every p (drop at x) ≡ every p (drop (at + 1) x)
@@ -50,14 +50,14 @@ decimal-small x h e =
     let power : 10 ^ length x ≤ 10 ^ 10 = pow-le-pow-right {n = 10} (omega arith) h in
     omega (arith, decimal-below 0 x e, power)
 
-pub bit-small : (b : Bool) → bit b ≤ 1
-bit-small true = omega arith
-bit-small false = omega arith
+pub one-if-small : (b : Bool) → oneIf b ≤ 1
+one-if-small true = omega arith
+one-if-small false = omega arith
 
 pub binary-below : (p : ℕ → Bool) (n : ℕ) → binary p n < 2 ^ n
 unfolding binary
 binary-below p zero = omega arith
-binary-below p (suc n) = omega (arith, binary-below p n, bit-small (p n), pow-suc 2 n)
+binary-below p (suc n) = omega (arith, binary-below p n, one-if-small (p n), pow-suc 2 n)
 
 pub binary-half : (p : ℕ → Bool) (n : ℕ) → n < 64 → binary p n < 9223372036854775808
 binary-half p n h = let power : 2 ^ n ≤ 2 ^ 63 = pow-mono {i = n} {j = 63} (omega arith) in omega (arith, binary-below p n)
@@ -113,6 +113,6 @@ number-test field n e =
     (decided (isNumber field))
 
 -- past the field's end there is no symbol, and no bit
-pub bit-past : (zeros : Bool) (field : List ℕ) (at : ℕ) → length field ≤ at → 0 ≡ bit (bitOf zeros (getD field at 0))
+pub bit-past : (zeros : Bool) (field : List ℕ) (at : ℕ) → length field ≤ at → 0 ≡ oneIf (bitOf zeros (getD field at 0))
 bit-past true field at h = rw (List·getD-eq-default field 0 {n = at} h)
 bit-past false field at h = rw (List·getD-eq-default field 0 {n = at} h)

@@ -35,14 +35,15 @@ isPattern field = symbolField true field
 abbrev pub isKey : List ℕ → Bool
 isKey field = symbolField false field
 
-abbrev pub bit : Bool → ℕ
-bit true = 1
-bit false = 0
+-- 1 where a test holds, else 0
+abbrev pub oneIf : Bool → ℕ
+oneIf true = 1
+oneIf false = 0
 
 -- the number whose first n bits, highest first, a test gives
 unfoldable pub binary : (ℕ → Bool) → ℕ → ℕ
 binary p zero = 0
-binary p (suc n) = binary p n * 2 + bit (p n)
+binary p (suc n) = binary p n * 2 + oneIf (p n)
 
 -- a symbol's value bit is 1 at 1; its mask bit is 1 at 0 and at 1, which are cared for. A star, and what stands past the field's end, has neither
 abbrev pub bitOf : Bool → ℕ → Bool

@@ -2,5 +2,7 @@
 -- Laws says what the two rule out and that only a line's first 257 bytes count.
 pub mod Fields
 pub mod FieldLaws
+pub mod PatternLaws
 pub mod Commands
 pub mod LineLaws
+pub mod Laws

@@ -6,7 +6,7 @@ ghost use mathlib.Core.Bool.{true};
 ghost use Prim.Native.Nat.{ℕ, _+_, _≤_};
 ghost use lib.ListN.{length, getD};
 ghost use Rattle.text.specs.Decimal.{every, digit, decimal};
-ghost use Rattle.commands.specs.Fields.{symbol, numberIn, symbolField, bit, bitOf, symbolWord, symbolWords};
+ghost use Rattle.commands.specs.Fields.{symbol, numberIn, symbolField, oneIf, bitOf, symbolWord, symbolWords};
 
 // Whether a byte is a digit from 0 to the last one given, or a star where stars are allowed.
 fn is_symbol(byte: u8, last: u8, star: bool) -> bool
@@ -89,7 +89,7 @@ pub fn is_symbol_field(field: &[u8], star: bool) -> bool
 
 // The bit of the symbol at a place: 1 at 1, and at 0 where zeros count; 0 past the field's end.
 fn bit_at(field: &[u8], at: usize, zeros: bool) -> u64
-    ensures { λ r. ⌜ r ≡ bit (bitOf zeros (getD (now (field .entry)) at 0)) ⌝ }
+    ensures { λ r. ⌜ r ≡ oneIf (bitOf zeros (getD (now (field .entry)) at 0)) ⌝ }
 {
     if field.len() <= at {
         return 0;

@@ -8,8 +8,8 @@ use mathlib.Core.List.{List}
 use Prim.Native.Nat.{ℕ, suc, _+_, _*_, _-_, _≤_}
 use native.Mathlib.Numerals.{add-one}
 use lib.ListN.{getD}
-use Rattle.commands.specs.Fields.{bit, bitOf, binary, symbolWord}
-use Rattle.commands.specs.FieldLaws.{binary-half, bit-small}
+use Rattle.commands.specs.Fields.{oneIf, bitOf, binary, symbolWord}
+use Rattle.commands.specs.FieldLaws.{binary-half, one-if-small}
 use Rattle.commands.proofs.fields.symbol_word.Statement.{statement}
 use Rattle.commands.proofs.fields.symbol_word.Tie as tie
 
@@ -39,7 +39,7 @@ add-word : tie.Need-add-word Inv-loop μ-loop
 add-word c =
     let args = c .before .before .before .before .args in
     let turn = c .before .before .loop in
-    omega (arith, turn .inv .1, binary-half (λ (j : ℕ). bitOf (args .zeros) (getD (args .field .now) (args .from + j) 0)) (turn .at) (c .before .loop-test .taken), c .bit-at .ensures, bit-small (bitOf (args .zeros) (getD (args .field .now) (args .from + turn .at) 0)))
+    omega (arith, turn .inv .1, binary-half (λ (j : ℕ). bitOf (args .zeros) (getD (args .field .now) (args .from + j) 0)) (turn .at) (c .before .loop-test .taken), c .bit-at .ensures, one-if-small (bitOf (args .zeros) (getD (args .field .now) (args .from + turn .at) 0)))
 
 add-at : tie.Need-add-at Inv-loop μ-loop
 add-at c = omega arith
