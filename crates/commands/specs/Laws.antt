@@ -1,22 +1,20 @@
--- What lines mean, said again: only the first 257 bytes of a line count, and a printed number is read back.
--- Worked lines, good ones and malformed ones.
-use mathlib.Core.Path.{_≡_, refl, sym, ap, _∙_}
-use mathlib.Core.Bool.{true, cond, _&&_}
-use mathlib.Core.List.{List, [], _∷_}
+-- What lines mean, said again: only the first 257 bytes of a line count, so that the program need not hold more.
+-- A number, printed, is read back.
+use mathlib.Core.Path.{_≡_, sym, ap, _∙_}
+use mathlib.Core.Bool.{true}
+use mathlib.Core.List.{List}
 use Prim.Native.Nat.{ℕ, _≤_, _<_}
 use native.Mathlib.Omega.{arith}
 use native.Mathlib.Decide.{decLe}
-use lib.Dec.{leb, ltb}
+use lib.Dec.{leb}
 use lib.ListN.{length, take}
 use lib.Seq.{take-all, length-take-le}
 use borrow.Author.Tests.{le-leb, lt-leb, lt-ltb}
 use Rattle.search.specs.Search.{and-both}
-use Rattle.text.specs.Parts.{parts}
-use Rattle.text.specs.Decimal.{every, digit, decimal, decimalOn, digitsOf, digits-read, digits-digits, digits-some, digits-few}
-use Rattle.commands.specs.Fields.{isNumber, sized, symbolWord, binary}
-use Rattle.commands.specs.Commands.{commandOf, letterOf, tableCommand, insertCommand, deleteCommand, lookupCommand, shortCommand, longCommand}
+use Rattle.text.specs.Decimal.{every, digit, decimal, digitsOf, digits-read, digits-digits, digits-some, digits-few}
+use Rattle.commands.specs.Fields.{isNumber, sized}
+use Rattle.commands.specs.Commands.{commandOf}
 use Rattle.commands.specs.LineLaws.{line-long}
-use Rattle.commands.specs.declared.Command.the-variants.{Table, Insert, Delete, Lookup, Malformed}
 
 -- a longer line is malformed, whatever follows: the program need not hold more than 257 bytes
 pub command-short : (line : List ℕ) → commandOf (take 257 line) ≡ commandOf line
