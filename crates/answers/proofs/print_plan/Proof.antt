@@ -1,0 +1,20 @@
+-- `answers::print_plan` meets its contract.
+-- The buffer has room for the longest plan.
+use mathlib.Core.List.{[], _∷_}
+use Rattle.answers.specs.Lines.{planBytes}
+use Rattle.answers.specs.Printing.{shown}
+use Prim.Native.Nat.{ℕ}
+use borrow.Author.Needs.{needs}
+use Rattle.answers.proofs.print_plan.Statement.{statement}
+use Rattle.answers.proofs.print_plan.Tie as tie
+
+put-plan-requires : tie.Need-put-plan-requires
+put-plan-requires c κs = search needs
+
+returns : tie.Need-returns
+returns c =
+    let args = c .before .before .before .args in
+    shown (args .out .now) (planBytes (args .words .now)) (c .put-plan .result) (c .put-plan .last .0) (c .put-plan .ensures)
+
+pub print-plan-spec : {M : Type 1} → statement M
+print-plan-spec = tie.close (tie.spec put-plan-requires returns)
