@@ -1,0 +1,4 @@
+-- What a script line does to the table and prints.
+-- Script: the definitions. Laws: how the code meets them.
+pub mod Script
+
