@@ -148,6 +148,10 @@ module _ (w : ℕ) (t : List ℕ) (rule : Rule) (small : rule .action < 42949672
       demand-2 w t rule words plan (insert-turn plan rest e) (λ k h key. insert-keeps-reply w t rule small insertable key k h)
       (λ rules. rule ∷ rules) insert-leaves
 
+  insert-made-by : (plan rest : List ℕ) → plan ≡ words ++ rest
+      → afterCalls w t plan rule (length words) (length words) .table ≡ applyWords w t rule words
+  insert-made-by plan rest e = calls-rest w t rule words plan (insert-turn plan rest e) (length words) (omega arith) .0
+
 -- demand 2 of an insert: the rule is added
 pub demand-2-insert : (w : ℕ) (t : List ℕ) (rule : Rule) (plan : List ℕ) (count : ℕ) → rule .action < 4294967296
     → insertAnswer w t rule (length plan) ≡ success (count ∷ []) → Demand2 w t (insertPlan w t rule plan) rule count (λ rules. rule ∷ rules)
@@ -156,6 +160,16 @@ demand-2-insert w t rule plan count small e =
     let a = plan-accepted (insertChecks w t rule) (insertWords w t rule) plan count e in
     subst (λ (n : ℕ). Demand2 w t (insertPlan w t rule plan) rule n (λ rules. rule ∷ rules)) (sym (a .1))
     (insert-carries w t rule small (insertable-law w t rule .0 (a .0)) (insertPlan w t rule plan) (drop (length (insertWords w t rule)) plan) (a .2))
+
+-- an accepted insert carried out in full makes every write of its plan
+pub insert-made : (w : ℕ) (t : List ℕ) (rule : Rule) (plan : List ℕ) (count : ℕ) → rule .action < 4294967296
+    → insertAnswer w t rule (length plan) ≡ success (count ∷ [])
+    → afterCalls w t (insertPlan w t rule plan) rule count count .table ≡ applyWords w t rule (insertWords w t rule)
+unfolding words
+insert-made w t rule plan count small e =
+    let a = plan-accepted (insertChecks w t rule) (insertWords w t rule) plan count e in
+    ap (λ (n : ℕ). afterCalls w t (insertPlan w t rule plan) rule n n .table) (a .1)
+    ∙ insert-made-by w t rule small (insertable-law w t rule .0 (a .0)) (insertPlan w t rule plan) (drop (length (insertWords w t rule)) plan) (a .2)
 
 -- the one write of an accepted delete
 module _ (w : ℕ) (t : List ℕ) (id : ℕ) (checks : deleteChecks w t id ≡ Pass) (rule : Rule) where
@@ -254,3 +268,11 @@ demand-2-delete w t id plan count rule e =
     let a = plan-accepted (deleteChecks w t id) (deleteWords w t id) plan count e in
     subst (λ (n : ℕ). Demand2 w t (deletePlan w t id plan) rule n (without id)) (sym (a .1))
     (delete-carries w t id (a .0) rule (deletePlan w t id plan) (drop 1 plan) (a .2))
+
+pub delete-made : (w : ℕ) (t : List ℕ) (id : ℕ) (plan : List ℕ) (count : ℕ) (rule : Rule)
+    → deleteAnswer w t id (length plan) ≡ success (count ∷ [])
+    → afterCalls w t (deletePlan w t id plan) rule count count .table ≡ applyWords w t rule (deleteWords w t id)
+delete-made w t id plan count rule e =
+    let a = plan-accepted (deleteChecks w t id) (deleteWords w t id) plan count e in
+    ap (λ (n : ℕ). afterCalls w t (deletePlan w t id plan) rule n n .table) (a .1)
+    ∙ calls-rest w t rule (deleteWords w t id) (deletePlan w t id plan) (delete-turn w t id (a .0) rule (deletePlan w t id plan) (drop 1 plan) (a .2)) 1 (omega arith) .0
