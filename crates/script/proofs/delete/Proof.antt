@@ -1,30 +1,26 @@
+-- `script::delete` meets its contract.
+-- The planning call, carried out and printed, is the line's outcome.
+use native.Mathlib.Omega.{arith}
+use denote.Ref.{now}
+use Rattle.script.specs.Laws.{delete-is, changed-is}
 use borrow.Author.Needs.{needs}
 use Rattle.script.proofs.delete.Statement.{statement}
 use Rattle.script.proofs.delete.Tie as tie
-use Rattle.script.proofs.delete.Reads as reads
-use Rattle.script.proofs.delete.Lts as lts
-use Rattle.script.proofs.carry_and_print.Reads as carry-and-print-reads
-use Rattle.table.proofs.deletes.plan_delete.Reads as plan-delete-reads
 
--- src/lib.rt:84:9
 plan-delete-requires : tie.Need-plan-delete-requires
 plan-delete-requires c κs = search needs
 
--- src/lib.rt:92:5
 carry-and-print-requires : tie.Need-carry-and-print-requires
-carry-and-print-requires c κs = ?
+carry-and-print-requires c κs = delete-is (now (c .before .before .before .before .before .before .before .before .before .before .args .table)) (c .before .before .before .before .before .before .before .before .before .before .args .id) (now (c .before .before .before .before .before .before .before .before .before .before .args .plan)) (c .before .before .before .before .before .plan-delete .last .1 .1 .0) _ (c .before .before .before .before .before .before .before .before .before .before .pre) (c .before .before .before .before .before .plan-delete .ensures .0) (c .before .before .before .before .before .plan-delete .ensures .1) .0
 
--- src/lib.rt:80:1
 same-length : tie.Need-same-length
 same-length c = search needs
 
--- src/lib.rt:80:1
 same-length-2 : tie.Need-same-length-2
 same-length-2 c = search needs
 
--- src/lib.rt:80:1
 returns : tie.Need-returns
-returns c = ?
+returns c = changed-is (delete-is (now (c .before .before .before .before .before .before .before .before .before .before .before .before .before .args .table)) (c .before .before .before .before .before .before .before .before .before .before .before .before .before .args .id) (now (c .before .before .before .before .before .before .before .before .before .before .before .before .before .args .plan)) (c .before .before .before .before .before .before .before .before .plan-delete .last .1 .1 .0) _ (c .before .before .before .before .before .before .before .before .before .before .before .before .before .pre) (c .before .before .before .before .before .before .before .before .plan-delete .ensures .0) (c .before .before .before .before .before .before .before .before .plan-delete .ensures .1) .1) (c .before .before .carry-and-print .ensures)
 
 pub delete-spec : {M : Type 1} → statement M
 delete-spec =
