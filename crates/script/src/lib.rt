@@ -18,6 +18,8 @@ use table::PlanAnswer;
 use table::deletes::plan_delete;
 use table::inserts::plan_insert;
 use table::lookup::lookup;
+pub mod reading;
+
 ghost use mathlib.Core.Path.{_≡_};
 ghost use Prim.Native.Nat.{_≤_, min};
 ghost use lib.ListN.{length, replicate};
