@@ -4,3 +4,4 @@ pub mod Script
 pub mod Laws
 pub mod Reading
 pub mod ReadingLaws
+pub mod Whole
