@@ -5,3 +5,4 @@ pub mod Laws
 pub mod Reading
 pub mod ReadingLaws
 pub mod Whole
+pub mod Changes

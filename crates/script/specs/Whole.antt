@@ -9,7 +9,7 @@ use Prim.Native.Nat.{ℕ, zero, suc, _+_, _-_, _≤_, _<_, min}
 use native.Mathlib.Decide.{decLt}
 use native.Mathlib.Omega.{arith}
 use lib.Dec.{ltb}
-use lib.ListN.{length, take, drop, length-drop}
+use lib.ListN.{length, take, drop, length-append, length-drop}
 use lib.Seq.{take-append-seam}
 use borrow.Author.Tests.{lt-ltb, le-ltb}
 use Rattle.search.specs.Search.{decided}
@@ -94,6 +94,11 @@ finish-before bytes r = pick (decided (standing (r .held)))
 -- the bytes that a call shows stand at the start of the output
 shown-bytes : {out text : List ℕ} {count : ℕ} {out′ : List ℕ} → Shown out text count out′ → take count out′ ≡ text
 shown-bytes {out} {text} s = ap₂ take (s .counted) (s .bytes) ∙ take-append-seam text (drop (length text) out)
+
+-- and lie within it
+pub shown-within : {out text : List ℕ} {count : ℕ} {out′ : List ℕ} → Shown out text count out′ → count ≤ length out′
+shown-within {out} {text} s =
+    let size = ap length (s .bytes) ∙ length-append text (drop (length text) out) in omega (arith, s .counted, size)
 
 -- What a call leaves, where the reading stands: the reading after it stands where the program then does, and it has printed the bytes at the
 -- output's start more.

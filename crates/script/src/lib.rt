@@ -18,6 +18,7 @@ use table::PlanAnswer;
 use table::deletes::plan_delete;
 use table::inserts::plan_insert;
 use table::lookup::lookup;
+
 pub mod reading;
 
 ghost use mathlib.Core.Path.{_≡_};
@@ -57,7 +58,13 @@ fn look_up(table: &[u64], key: [u64; 2], out: &mut [u8; 14343]) -> usize
 }
 
 // A plan carried out in full and printed, or the refusal of the planning call.
-fn carry_and_print(answer: PlanAnswer, table: &mut [u64], plan: &[u32], rule: Rule, out: &mut [u8; 14343]) -> usize
+fn carry_and_print(
+    answer: PlanAnswer,
+    table: &mut [u64],
+    plan: &[u32],
+    rule: Rule,
+    out: &mut [u8; 14343],
+) -> usize
     requires { ⌜ Within (planTold answer) (length (now plan)) ⌝ }
     ensures { λ r. ⌜ Changed (planOutcome (planTold answer) (now (table .entry)) (now (plan .entry)) rule) r (now (table .exit)) (now (out .entry)) (now (out .exit)) ⌝ }
 {
@@ -185,7 +192,13 @@ fn malformed(present: usize, number: u64, out: &mut [u8; 14343]) -> Ran
     }
 }
 
-fn run_command(memory: &mut [u64], present: usize, number: u64, command: Command, out: &mut [u8; 14343]) -> Ran
+fn run_command(
+    memory: &mut [u64],
+    present: usize,
+    number: u64,
+    command: Command,
+    out: &mut [u8; 14343],
+) -> Ran
     requires { ⌜ (length (now memory) ≡ 6144) × (present ≤ 1024) ⌝ }
     ensures { λ r. ⌜ Left (commandOutcome (tableIn (now (memory .entry)) present) number command) r (now (memory .entry)) (now (memory .exit)) (now (out .entry)) (now (out .exit)) ⌝ }
 {

@@ -87,12 +87,7 @@ pub fn take_turn(
 }
 
 // At the end of the input: the last line, where it lacks its newline.
-pub fn last_turn(
-    memory: &mut [u64; 6144],
-    line: &[u8],
-    place: Place,
-    out: &mut [u8; 14343],
-) -> Turn
+pub fn last_turn(memory: &mut [u64; 6144], line: &[u8], place: Place, out: &mut [u8; 14343]) -> Turn
     ensures { λ r. ⌜ Turned (finished lineOutcome (readingOf (now (memory .entry)) (now (line .entry)) place)) 0 r (now (memory .exit)) (now (line .entry)) (now (out .entry)) (now (out .exit)) ⌝ }
 {
     if line_stands(place.held) {

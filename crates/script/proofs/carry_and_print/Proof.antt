@@ -22,7 +22,7 @@ cast-print-plan : tie.Need-cast-print-plan
 cast-print-plan c = search needs
 
 slice-aggregate-print-plan : tie.Need-slice-aggregate-print-plan
-slice-aggregate-print-plan c = 
+slice-aggregate-print-plan c =
     let a = c .before .before .before .before .before .before .before .before .before .before .before .before in
     sym (length-take-le _ (a .args .plan .now) (subst (λ (x : Told). Within x (length (a .args .plan .now))) (ap planTold (c .before .before .before .before .before .before .before .before .answer .given .1)) (a .pre) refl))
 
@@ -39,12 +39,12 @@ same-length : tie.Need-same-length
 same-length c = search needs
 
 returns : tie.Need-returns
-returns c = 
+returns c =
     let a = c .before .before .before .before .before .before .before .before .before .before .before .before .before .args in
     changed-planned (now (a .table)) (now (a .plan)) (a .rule) (c .before .before .before .before .before .before .before .before .before .answer .given .0 .0 .count) (ap planTold (c .before .before .before .before .before .before .before .before .before .answer .given .1)) (c .before .before .before .before .before .before .carry-whole .ensures .1) (c .print-plan .ensures)
 
 returns-2 : tie.Need-returns-2
-returns-2 c = 
+returns-2 c =
     let a = c .before .before .before .before .before .before .before .args in
     changed-refused (now (a .table)) (now (a .plan)) (a .rule) (c .before .before .before .answer2 .given .0 .0) (c .before .before .before .answer2 .given .0 .1 .0) (ap planTold (c .before .before .before .answer2 .given .1)) (c .refuse .ensures)
 

@@ -27,7 +27,7 @@ same-length : tie.Need-same-length
 same-length c = search needs
 
 returns : tie.Need-returns
-returns c = 
+returns c =
     let a = c .before .before .before .before .before .before .args in
     let pre = c .before .before .before .before .before .before .pre in
     let kept : length (c .before .before .insert-line .last .0) ≡ length (take (a .present * 6) (now (a .memory))) = search needs in

@@ -30,7 +30,7 @@ same-length : tie.Need-same-length
 same-length c = search needs
 
 returns : tie.Need-returns
-returns c = 
+returns c =
     let s = c .before .before .before .before .before .before .before .before in
     let fit = slots-fit (s .args .memory .now) (s .args .slots) (s .pre .0) (c .before .before .before .before .before .before .if1 .taken) in
     table-made (now (s .args .memory)) (s .args .present) (s .args .slots) (s .pre .0) (s .pre .1) (c .before .before .before .before .before .before .if1 .taken)

@@ -69,7 +69,7 @@ returns-4 : tie.Need-returns-4
 returns-4 c = left-is (ap (lookupOutcome (tableIn (now (c .before .before .before .before .before .before .before .before .args .memory)) (c .before .before .before .before .before .before .before .before .args .present))) (c .before .before .key-of .ensures) ∙ ap (commandOutcome (tableIn (now (c .before .before .before .before .before .before .before .before .args .memory)) (c .before .before .before .before .before .before .before .before .args .present)) (c .before .before .before .before .before .before .before .before .args .number)) (sym (c .before .before .before .before .before .command4 .given .1))) (c .lookup-in .ensures)
 
 returns-5 : tie.Need-returns-5
-returns-5 c = 
+returns-5 c =
     let s = c .before .before .before .before .before in
     left-is (ap (commandOutcome (tableIn (now (s .args .memory)) (s .args .present)) (s .args .number)) (sym (c .before .before .enum-told .given .1)))
     (left-malformed (now (s .args .memory)) (s .args .present) (s .args .number) (s .pre .0) (s .pre .1) (c .malformed .result) (c .malformed .ensures .0) (c .malformed .ensures .1))

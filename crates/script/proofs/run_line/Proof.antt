@@ -22,7 +22,7 @@ run-command-requires : tie.Need-run-command-requires
 run-command-requires c κs = search needs
 
 returns : tie.Need-returns
-returns c = 
+returns c =
     let a = c .before .before .before .before .before .before .args in
     let room : length (now (a .memory)) ≡ 6144 = search needs in
     let table = ap (tableIn (now (a .memory))) (c .before .before .before .before .slots-present .ensures) ∙ table-present (now (a .memory)) (a .slots) room in

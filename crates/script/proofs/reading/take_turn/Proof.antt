@@ -16,7 +16,7 @@ same-length : tie.Need-same-length
 same-length c = search needs
 
 returns : tie.Need-returns
-returns c = 
+returns c =
     let a = c .before .before .before .before .before .before .before .before .before .before .before .args in
     let t = c .before .before .before .before .before .before .before .take-bytes in
     turned-complete (now (a .memory)) (now (a .line)) (now (a .block)) (a .place) (a .from) (t .result) (t .last .0) (t .ensures .0) (t .ensures .1) (c .before .before .before .before .if1 .taken) (c .run-held .ensures)
@@ -25,7 +25,7 @@ same-length-2 : tie.Need-same-length-2
 same-length-2 c = search needs
 
 returns-2 : tie.Need-returns-2
-returns-2 c = 
+returns-2 c =
     let a = c .before .before .before .before .before .before .before .args in
     let t = c .before .before .before .take-bytes in
     turned-begun (now (a .memory)) (now (a .line)) (now (a .block)) (a .place) (a .from) (t .result) (t .last .0) (t .ensures .0) (t .ensures .1) (now (a .out)) (c .if1 .left)

@@ -1,0 +1,167 @@
+-- Demand 2 of scripts: every table of a script is one without slots, before a good T, or one reached by the changes accepted since the last
+-- good T; so an L line prints id and action of the highest-priority match among the rules inserted and not since deleted, or a miss.
+use mathlib.Core.Path.{_≡_, refl, sym, ap, ap₂, _∙_, subst}
+use mathlib.Core.Bool.{Bool, true, false, cond, _&&_, true≢false}
+use mathlib.Core.Logic.{_⊎_}
+use mathlib.Core.Logic._⊎_.{inl, inr}
+use mathlib.Core.Option.{Option, none, some}
+use mathlib.Core.List.{List, [], _∷_}
+use Prim.Native.Nat.{ℕ, _≤_, _<_}
+use native.Mathlib.Omega.{arith}
+use lib.Dec.{eqb, leb}
+use lib.ListN.{length, getD, drop}
+use borrow.Author.Tests.{leb-true}
+use Rattle.search.specs.Search.{decided, and-left, and-right}
+use Rattle.text.specs.Parts.{parts}
+use Rattle.text.specs.Decimal.{decimal}
+use Rattle.ternary.specs.Pattern.{Words}
+use Rattle.records.specs.Record.{word, slotWords, ident, action}
+use Rattle.records.specs.Order.{slots}
+use Rattle.records.specs.Checks.{Told, success, passes, checkShape, shaped, slotChecks, tableChecks}
+use Rattle.records.specs.Laws.{cause-not-zero}
+use Rattle.records.specs.Writes.{applyWords}
+use Rattle.records.specs.declared.Rule.{Rule}
+use Rattle.records.specs.declared.Check.{Check}
+use Rattle.records.specs.declared.Check.the-variants.{Pass, Fail}
+use Rattle.neighbours.specs.Neighbours.{insertChecks}
+use Rattle.table.specs.Lookup.{lookupAnswer, lookupTold, hitAt, Case, refusedBy, hit, miss, lookup-cases, lookup-hit, lookup-miss, lookup-refused}
+use Rattle.table.specs.Plans.{plan-written}
+use Rattle.table.specs.Inserts.{insertWords}
+use Rattle.table.specs.Deletes.{deleteChecks, deleteWords}
+use Rattle.histories.specs.RuleSet.{Change, insert, delete, ruleSet, highestMatch, ruleReply}
+use Rattle.histories.specs.Demand2.{demand-2-insert, demand-2-delete, insert-made, delete-made}
+use Rattle.histories.specs.Histories.{Reached, reached-lookup}
+use Rattle.lines.specs.Lines.{nextNumber}
+use Rattle.lines.specs.Blocks.{Outcome, answered}
+use Rattle.commands.specs.Fields.{isNumber, isPattern, isKey, symbolWords, valueBit, maskBit}
+use Rattle.commands.specs.FieldLaws.{number-is}
+use Rattle.commands.specs.Commands.{commandOf, ruleOf, keyOf, tableCommand, insertCommand, deleteCommand, lookupCommand, shortCommand, longCommand, letterOf, ofFields}
+use Rattle.commands.specs.declared.Command.{Command}
+use Rattle.commands.specs.declared.Command.the-variants.{Table, Insert, Delete, Lookup, Malformed}
+use Rattle.answers.specs.Lines.{hitBytes, missBytes}
+use Rattle.script.specs.Script.{refused, lookupBytes, tableOutcome, insertOutcome, deleteOutcome, commandOutcome, lineOutcome, noRule}
+
+-- an insert that a line tells has an action of 32 bits
+abbrev Small : Command → Type 0
+Small (Table new) = Unit {0}
+Small (Insert insertion) = insertion .action < 4294967296
+Small (Delete deletion) = Unit {0}
+Small (Lookup query) = Unit {0}
+Small Malformed = Unit {0}
+
+small-if : (b : Bool) (c d : Command) → (b ≡ true → Small c) → Small d → Small (cond b c d)
+small-if true c d f s = f refl
+small-if false c d f s = s
+
+insert-small : (id priority pattern number : List ℕ) → Small (insertCommand id priority pattern number)
+unfolding insertCommand
+insert-small id priority pattern number =
+    small-if (isNumber id && (isNumber priority && (isPattern pattern && isNumber number)))
+    (Insert (record { id = decimal id; priority = decimal priority; value = symbolWords valueBit pattern; mask = symbolWords maskBit pattern; action = decimal number }))
+    Malformed (λ e.
+    let rest = and-right (isNumber id) (isNumber priority && (isPattern pattern && isNumber number)) e in
+    let last = and-right (isNumber priority) (isPattern pattern && isNumber number) rest in
+    let n = number-is number (and-right (isPattern pattern) (isNumber number) last) in
+    omega (arith, n .0, n .1)) tt
+
+short-small : (letter : ℕ) (field : List ℕ) → Small (shortCommand letter field)
+unfolding shortCommand tableCommand deleteCommand lookupCommand
+short-small letter field =
+    small-if (eqb letter 84) (tableCommand field) others (λ e. small-if (isNumber field) (Table (record { slots = decimal field })) Malformed (λ g. tt) tt)
+    (small-if (eqb letter 68) (deleteCommand field) last (λ e. small-if (isNumber field) (Delete (record { id = decimal field })) Malformed (λ g. tt) tt)
+    (small-if (eqb letter 76) (lookupCommand field) Malformed
+    (λ e. small-if (isKey field) (Lookup (record { key = symbolWords valueBit field })) Malformed (λ g. tt) tt) tt))
+  where
+    last : Command
+    last = cond (eqb letter 76) (lookupCommand field) Malformed
+
+    others : Command
+    others = cond (eqb letter 68) (deleteCommand field) last
+
+fields-small : (fields : List (List ℕ)) → Small (ofFields fields)
+unfolding longCommand
+fields-small [] = tt
+fields-small (l ∷ []) = tt
+fields-small (l ∷ field ∷ []) = short-small (letterOf l) field
+fields-small (l ∷ a ∷ b ∷ []) = tt
+fields-small (l ∷ a ∷ b ∷ c ∷ []) = tt
+fields-small (l ∷ id ∷ priority ∷ pattern ∷ number ∷ []) =
+    small-if (eqb (letterOf l) 73) (insertCommand id priority pattern number) Malformed (λ e. insert-small id priority pattern number) tt
+fields-small (l ∷ a ∷ b ∷ c ∷ d ∷ e ∷ more) = tt
+
+line-small : (line : List ℕ) → Small (commandOf line)
+unfolding commandOf
+line-small line = small-if (leb (length line) 256) (ofFields (parts 32 line)) Malformed (λ e. fields-small (parts 32 line)) tt
+
+-- the changes accepted since the last good T, the latest first, after one command more: a good T starts anew, an accepted insert and an
+-- accepted delete are changes, anything else keeps them
+abbrev pub historyAfter : List ℕ → List Change → Command → List Change
+historyAfter t history (Table new) = cond (leb 1 (new .slots) && leb (new .slots) 1024) [] history
+historyAfter t history (Insert insertion) = cond (passes (insertChecks 2 t (ruleOf insertion))) (insert (ruleOf insertion) ∷ history) history
+historyAfter t history (Delete deletion) = cond (passes (deleteChecks 2 t (deletion .id))) (delete (deletion .id) ∷ history) history
+historyAfter t history (Lookup query) = history
+historyAfter t history Malformed = history
+
+-- the same after lines, the first with this number
+unfoldable pub historyOf : List ℕ → ℕ → List Change → List (List ℕ) → List Change
+historyOf t number history [] = history
+historyOf t number history (line ∷ lines) =
+    historyOf (lineOutcome t number line .table) (nextNumber number) (historyAfter t history (commandOf line)) lines
+
+-- the table has no slots, and nothing was accepted; or it is reached by the changes
+abbrev pub Since : List Change → List ℕ → Type 0
+Since history t = ((t ≡ []) × (history ≡ [])) ⊎ Reached 2 history t
+
+-- a table without slots refuses every change
+none-inserts : (rule : Rule) → passes (insertChecks 2 [] rule) ≡ false
+unfolding insertChecks tableChecks slotChecks checkShape shaped
+none-inserts rule = refl
+
+none-deletes : (id : ℕ) → passes (deleteChecks 2 [] id) ≡ false
+unfolding deleteChecks tableChecks slotChecks checkShape shaped
+none-deletes id = refl
+
+-- one command more
+module _ (history : List Change) (t : List ℕ) (reached : Reached 2 history t) where
+  table-reached : (slots : ℕ) (b : Bool) → leb 1 slots && leb slots 1024 ≡ b
+      → Reached 2 (cond (leb 1 slots && leb slots 1024) [] history) (tableOutcome t slots .table)
+  unfolding tableOutcome
+  table-reached slots true e =
+      rw e
+      (Reached.start slots (leb-true 1 slots (and-left (leb 1 slots) (leb slots 1024) e)) (leb-true slots 1024 (and-right (leb 1 slots) (leb slots 1024) e)))
+  table-reached slots false e = rw e reached
+
+  -- the plan's own words are buffer enough, and as many calls as it has carry it out
+  insert-reached : (rule : Rule) → rule .action < 4294967296 → (x : Check) → insertChecks 2 t rule ≡ x
+      → Reached 2 (cond (passes (insertChecks 2 t rule)) (insert rule ∷ history) history) (insertOutcome t rule .table)
+  unfolding insertOutcome
+  insert-reached rule small (Fail cause spot) e = rw e reached
+  insert-reached rule small Pass e =
+      let words = insertWords 2 t rule in
+      let count = length words in
+      let accepted = sym (plan-written words words refl e (omega arith) .0) in
+      let carried = demand-2-insert 2 t rule words count small accepted in
+      let after = Reached.inserted history t reached rule small words count accepted count (carried .finished count (omega arith)) in
+      let made = insert-made 2 t rule words count small accepted in
+      let there : Reached 2 (insert rule ∷ history) (applyWords 2 t rule words) = subst (Reached 2 (insert rule ∷ history)) made after in
+      rw e there
+
+  delete-reached : (id : ℕ) (x : Check) → deleteChecks 2 t id ≡ x
+      → Reached 2 (cond (passes (deleteChecks 2 t id)) (delete id ∷ history) history) (deleteOutcome t id .table)
+  unfolding deleteOutcome
+  delete-reached id (Fail cause spot) e = rw e reached
+  delete-reached id Pass e =
+      let words = deleteWords 2 t id in
+      let accepted = sym (plan-written words words refl e (omega arith) .0) in
+      let carried = demand-2-delete 2 t id words 1 noRule accepted in
+      let after = Reached.deleted history t reached id words 1 accepted noRule 1 (carried .finished 1 (omega arith)) in
+      let made = delete-made 2 t id words 1 noRule accepted in
+      let there : Reached 2 (delete id ∷ history) (applyWords 2 t noRule words) = subst (Reached 2 (delete id ∷ history)) made after in
+      rw e there
+
+  command-reached : (number : ℕ) (c : Command) → Small c → Reached 2 (historyAfter t history c) (commandOutcome t number c .table)
+  command-reached number (Table new) s = table-reached (new .slots) _ refl
+  command-reached number (Insert insertion) s = insert-reached (ruleOf insertion) s _ refl
+  command-reached number (Delete deletion) s = delete-reached (deletion .id) _ refl
+  command-reached number (Lookup query) s = reached
+  command-reached number Malformed s = reached
