@@ -21,6 +21,7 @@ use Rattle.records.specs.Checks.{Told, success, passes, checkShape, shaped, slo
 use Rattle.records.specs.Laws.{cause-not-zero}
 use Rattle.records.specs.Writes.{applyWords}
 use Rattle.records.specs.declared.Rule.{Rule}
+use Rattle.records.specs.declared.Cause.the-variants.{Shape}
 use Rattle.records.specs.declared.Check.{Check}
 use Rattle.records.specs.declared.Check.the-variants.{Pass, Fail}
 use Rattle.neighbours.specs.Neighbours.{insertChecks}
@@ -36,9 +37,10 @@ use Rattle.lines.specs.Blocks.{Outcome, answered}
 use Rattle.commands.specs.Fields.{isNumber, isPattern, isKey, symbolWords, valueBit, maskBit}
 use Rattle.commands.specs.FieldLaws.{number-is}
 use Rattle.commands.specs.Commands.{commandOf, ruleOf, keyOf, tableCommand, insertCommand, deleteCommand, lookupCommand, shortCommand, longCommand, letterOf, ofFields}
+use Rattle.commands.specs.declared.Query.{Query}
 use Rattle.commands.specs.declared.Command.{Command}
 use Rattle.commands.specs.declared.Command.the-variants.{Table, Insert, Delete, Lookup, Malformed}
-use Rattle.answers.specs.Lines.{hitBytes, missBytes}
+use Rattle.answers.specs.Lines.{hitBytes, missBytes, refusalBytes}
 use Rattle.script.specs.Script.{refused, lookupBytes, tableOutcome, insertOutcome, deleteOutcome, commandOutcome, lineOutcome, noRule}
 
 -- an insert that a line tells has an action of 32 bits
@@ -112,25 +114,25 @@ historyOf t number history (line ∷ lines) =
 abbrev pub Since : List Change → List ℕ → Type 0
 Since history t = ((t ≡ []) × (history ≡ [])) ⊎ Reached 2 history t
 
--- a table without slots refuses every change
-none-inserts : (rule : Rule) → passes (insertChecks 2 [] rule) ≡ false
+-- a table without slots refuses every change with 1
+none-inserts : (rule : Rule) → insertChecks 2 [] rule ≡ Fail Shape 0
 unfolding insertChecks tableChecks slotChecks checkShape shaped
 none-inserts rule = refl
 
-none-deletes : (id : ℕ) → passes (deleteChecks 2 [] id) ≡ false
+none-deletes : (id : ℕ) → deleteChecks 2 [] id ≡ Fail Shape 0
 unfolding deleteChecks tableChecks slotChecks checkShape shaped
 none-deletes id = refl
 
--- one command more
-module _ (history : List Change) (t : List ℕ) (reached : Reached 2 history t) where
-  table-reached : (slots : ℕ) (b : Bool) → leb 1 slots && leb slots 1024 ≡ b
-      → Reached 2 (cond (leb 1 slots && leb slots 1024) [] history) (tableOutcome t slots .table)
-  unfolding tableOutcome
-  table-reached slots true e =
-      rw e
-      (Reached.start slots (leb-true 1 slots (and-left (leb 1 slots) (leb slots 1024) e)) (leb-true slots 1024 (and-right (leb 1 slots) (leb slots 1024) e)))
-  table-reached slots false e = rw e reached
+insert-none : (rule : Rule) → insertOutcome [] rule ≡ refused [] 1 0
+unfolding insertOutcome
+insert-none rule = rw (none-inserts rule)
 
+delete-none : (id : ℕ) → deleteOutcome [] id ≡ refused [] 1 0
+unfolding deleteOutcome
+delete-none id = rw (none-deletes id)
+
+-- one accepted change more
+module _ (history : List Change) (t : List ℕ) (reached : Reached 2 history t) where
   -- the plan's own words are buffer enough, and as many calls as it has carry it out
   insert-reached : (rule : Rule) → rule .action < 4294967296 → (x : Check) → insertChecks 2 t rule ≡ x
       → Reached 2 (cond (passes (insertChecks 2 t rule)) (insert rule ∷ history) history) (insertOutcome t rule .table)
@@ -159,9 +161,111 @@ module _ (history : List Change) (t : List ℕ) (reached : Reached 2 history t) 
       let there : Reached 2 (delete id ∷ history) (applyWords 2 t noRule words) = subst (Reached 2 (delete id ∷ history)) made after in
       rw e there
 
-  command-reached : (number : ℕ) (c : Command) → Small c → Reached 2 (historyAfter t history c) (commandOutcome t number c .table)
-  command-reached number (Table new) s = table-reached (new .slots) _ refl
-  command-reached number (Insert insertion) s = insert-reached (ruleOf insertion) s _ refl
-  command-reached number (Delete deletion) s = delete-reached (deletion .id) _ refl
-  command-reached number (Lookup query) s = reached
-  command-reached number Malformed s = reached
+table-since : (history : List Change) (t : List ℕ) → Since history t → (slots : ℕ) (b : Bool) → leb 1 slots && leb slots 1024 ≡ b
+    → Since (cond (leb 1 slots && leb slots 1024) [] history) (tableOutcome t slots .table)
+unfolding tableOutcome
+table-since history t since slots true e =
+    rw e
+    (inr (Reached.start slots (leb-true 1 slots (and-left (leb 1 slots) (leb slots 1024) e)) (leb-true slots 1024 (and-right (leb 1 slots) (leb slots 1024) e))))
+table-since history t since slots false e = rw e since
+
+insert-since : (history : List Change) (t : List ℕ) → Since history t → (rule : Rule) → rule .action < 4294967296
+    → Since (cond (passes (insertChecks 2 t rule)) (insert rule ∷ history) history) (insertOutcome t rule .table)
+insert-since history t (inl (e, f)) rule small =
+    subst (λ (u : List ℕ). Since (cond (passes (insertChecks 2 u rule)) (insert rule ∷ history) history) (insertOutcome u rule .table)) (sym e)
+    (rw (none-inserts rule) (inl (ap (λ (x : Outcome (List ℕ)). x .table) (insert-none rule), f)))
+insert-since history t (inr reached) rule small = inr (insert-reached history t reached rule small (insertChecks 2 t rule) refl)
+
+delete-since : (history : List Change) (t : List ℕ) → Since history t → (id : ℕ)
+    → Since (cond (passes (deleteChecks 2 t id)) (delete id ∷ history) history) (deleteOutcome t id .table)
+delete-since history t (inl (e, f)) id =
+    subst (λ (u : List ℕ). Since (cond (passes (deleteChecks 2 u id)) (delete id ∷ history) history) (deleteOutcome u id .table)) (sym e)
+    (rw (none-deletes id) (inl (ap (λ (x : Outcome (List ℕ)). x .table) (delete-none id), f)))
+delete-since history t (inr reached) id = inr (delete-reached history t reached id (deleteChecks 2 t id) refl)
+
+command-since : (history : List Change) (t : List ℕ) → Since history t → (number : ℕ) (c : Command) → Small c
+    → Since (historyAfter t history c) (commandOutcome t number c .table)
+command-since history t since number (Table new) s = table-since history t since (new .slots) (leb 1 (new .slots) && leb (new .slots) 1024) refl
+command-since history t since number (Insert insertion) s = insert-since history t since (ruleOf insertion) s
+command-since history t since number (Delete deletion) s = delete-since history t since (deletion .id)
+command-since history t since number (Lookup query) s = since
+command-since history t since number Malformed s = since
+
+-- a line keeps it
+pub line-since : (history : List Change) (t : List ℕ) (number : ℕ) (line : List ℕ) → Since history t
+    → Since (historyAfter t history (commandOf line)) (lineOutcome t number line .table)
+line-since history t number line since = command-since history t since number (commandOf line) (line-small line)
+
+-- and so do lines
+pub lines-since : (lines : List (List ℕ)) (history : List Change) (t : List ℕ) (number : ℕ) → Since history t
+    → Since (historyOf t number history lines) (answered lineOutcome t number lines .table)
+unfolding historyOf answered
+lines-since [] history t number since = since
+lines-since (line ∷ lines) history t number since =
+    lines-since lines (historyAfter t history (commandOf line)) (lineOutcome t number line .table) (nextNumber number) (line-since history t number line since)
+
+-- Every table of a script, after any of its first lines: without slots, or reached by the changes accepted since the last good T.
+pub script-since : (lines : List (List ℕ)) → Since (historyOf [] 1 [] lines) (answered lineOutcome [] 1 lines .table)
+script-since lines = lines-since lines [] [] 1 (inl (refl, refl))
+
+-- what an L line prints by the highest-priority match among the rules: `A slot id action` with some slot, or `M`
+abbrev pub AnswerOf : Option Rule → List ℕ → Type 0
+AnswerOf none bytes = bytes ≡ missBytes
+AnswerOf (some rule) bytes = (slot : ℕ) × (bytes ≡ hitBytes slot (rule .id) (rule .action))
+
+answer-found : (o : Option Rule) (slot id number : ℕ) → id ∷ number ∷ [] ≡ ruleReply o → AnswerOf o (hitBytes slot id number)
+answer-found none slot id number e = let n : _≡_ {A = ℕ} 2 0 = ap length e in absurd (omega arith)
+answer-found (some rule) slot id number e =
+    (slot, ap₂ (hitBytes slot) (ap (λ (l : List ℕ). getD l 0 0) e) (ap (λ (l : List ℕ). getD l 1 0) e))
+
+answer-missed : (o : Option Rule) → [] ≡ ruleReply o → AnswerOf o missBytes
+answer-missed none e = refl
+answer-missed (some rule) e = let n : _≡_ {A = ℕ} 0 2 = ap length e in absurd (omega arith)
+
+-- Demand 2 of scripts: on a table reached by changes an L line keeps the table and prints id and action of the highest-priority match among
+-- the rules inserted and not since deleted, or a miss.
+pub lookup-answered : (history : List Change) (t : List ℕ) → Reached 2 history t → (key : List ℕ)
+    → AnswerOf (highestMatch 2 (word key) (ruleSet history)) (lookupBytes (lookupAnswer 2 t (word key)))
+unfolding hitAt
+lookup-answered history t reached key = pick (lookup-cases 2 t (word key)) (reached-lookup reached (word key))
+  where
+    o : Option Rule
+    o = highestMatch 2 (word key) (ruleSet history)
+
+    pick : Case 2 t (word key) → (lookupAnswer 2 t (word key) .number ≡ 0) × (drop 1 (lookupAnswer 2 t (word key) .values) ≡ ruleReply o)
+        → AnswerOf o (lookupBytes (lookupAnswer 2 t (word key)))
+    pick (refusedBy cause spot e) (n, r) =
+        absurd (true≢false (ap (λ (k : ℕ). eqb k 0) (sym n ∙ ap (λ (told : Told). told .number) (lookup-refused 2 t (word key) cause spot e)) ∙ cause-not-zero cause))
+    pick (hit i e f) (n, r) =
+        let told = lookup-hit 2 t (word key) i e f in
+        subst (λ (x : Told). AnswerOf o (lookupBytes x)) (sym told)
+        (answer-found o i (ident 2 (slotWords 2 t i)) (action 2 (slotWords 2 t i)) (ap (λ (x : Told). drop 1 (x .values)) (sym told) ∙ r))
+    pick (miss e f) (n, r) =
+        let told = lookup-miss 2 t (word key) e f in
+        subst (λ (x : Told). AnswerOf o (lookupBytes x)) (sym told) (answer-missed o (ap (λ (x : Told). drop 1 (x .values)) (sym told) ∙ r))
+
+-- before a good T an L line is refused with 1
+pub lookup-none : (key : List ℕ) → lookupBytes (lookupAnswer 2 [] (word key)) ≡ refusalBytes 1 0
+unfolding lookupAnswer slotChecks checkShape shaped
+lookup-none key = refl
+
+-- an L line after lines of a script
+pub script-lookup : (lines : List (List ℕ)) (number : ℕ) (line : List ℕ) (query : Query) → commandOf line ≡ Lookup query
+    → ((answered lineOutcome [] 1 lines .table ≡ []) × (lineOutcome (answered lineOutcome [] 1 lines .table) number line .printed ≡ refusalBytes 1 0))
+    ⊎ AnswerOf (highestMatch 2 (word (keyOf query)) (ruleSet (historyOf [] 1 [] lines))) (lineOutcome (answered lineOutcome [] 1 lines .table) number line .printed)
+script-lookup lines number line query e = pick (script-since lines)
+  where
+    t : List ℕ
+    t = answered lineOutcome [] 1 lines .table
+
+    same : lineOutcome t number line .printed ≡ lookupBytes (lookupAnswer 2 t (word (keyOf query)))
+    same = ap (λ (c : Command). commandOutcome t number c .printed) e
+
+    pick : Since (historyOf [] 1 [] lines) t
+        → ((t ≡ []) × (lineOutcome t number line .printed ≡ refusalBytes 1 0))
+        ⊎ AnswerOf (highestMatch 2 (word (keyOf query)) (ruleSet (historyOf [] 1 [] lines))) (lineOutcome t number line .printed)
+    pick (inl (f, g)) = inl (f, same ∙ (ap (λ (u : List ℕ). lookupBytes (lookupAnswer 2 u (word (keyOf query)))) f ∙ lookup-none (keyOf query)))
+    pick (inr reached) =
+        inr
+        (subst (AnswerOf (highestMatch 2 (word (keyOf query)) (ruleSet (historyOf [] 1 [] lines)))) (sym same)
+        (lookup-answered (historyOf [] 1 [] lines) t reached (keyOf query)))

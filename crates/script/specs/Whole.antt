@@ -41,6 +41,9 @@ pub record Kept : Type 0 where
   pub line : List ℕ
   pub place : Place
 
+abbrev pub keeping : List ℕ → List ℕ → Place → Kept
+keeping memory line place = record { memory = memory; line = line; place = place }
+
 -- the reading stands where the program does; what it has printed is no part of that
 pub record At (r : Reading (List ℕ)) (kept : Kept) : Type 0 where
   pub table : tableIn (kept .memory) (kept .place .slots) ≡ r .table
@@ -104,7 +107,7 @@ shown-within {out} {text} s =
 -- output's start more.
 module _ {after x : Reading (List ℕ)} {next : ℕ} {turn : Turn} {memory′ line′ out out′ : List ℕ} where
   goes-on : (bytes : List ℕ) → after ≡ printedBefore bytes x → Turned x next turn memory′ line′ out out′
-      → At after (record { memory = memory′; line = line′; place = turn .place }) × (after .printed ≡ bytes ++ take (turn .length) out′)
+      → At after (keeping memory′ line′ (turn .place)) × (after .printed ≡ bytes ++ take (turn .length) out′)
   goes-on bytes e t = (
     record {
       table = t .table ∙ ap (λ (y : Reading (List ℕ)). y .table) (sym e);
@@ -118,7 +121,7 @@ module _ {after x : Reading (List ℕ)} {next : ℕ} {turn : Turn} {memory′ li
 -- a call of take_turn is a turn of the reading
 pub turn-kept : (r : Reading (List ℕ)) (kept : Kept) (block : List ℕ) (from next : ℕ) (turn : Turn) (memory′ line′ out out′ : List ℕ) → At r kept
     → Turned (turnOf (readingOf (kept .memory) (kept .line) (kept .place)) block from) next turn memory′ line′ out out′
-    → At (turnOf r block from) (record { memory = memory′; line = line′; place = turn .place })
+    → At (turnOf r block from) (keeping memory′ line′ (turn .place))
     × (turnOf r block from .printed ≡ r .printed ++ take (turn .length) out′)
 turn-kept r kept block from next turn memory′ line′ out out′ a t =
     goes-on (r .printed)
@@ -127,7 +130,7 @@ turn-kept r kept block from next turn memory′ line′ out out′ a t =
 -- a call of last_turn is the reading's end
 pub last-kept : (r : Reading (List ℕ)) (kept : Kept) (turn : Turn) (memory′ out out′ : List ℕ) → At r kept
     → Turned (finished lineOutcome (readingOf (kept .memory) (kept .line) (kept .place))) 0 turn memory′ (kept .line) out out′
-    → At (finished lineOutcome r) (record { memory = memory′; line = kept .line; place = turn .place })
+    → At (finished lineOutcome r) (keeping memory′ (kept .line) (turn .place))
     × (finished lineOutcome r .printed ≡ r .printed ++ take (turn .length) out′)
 last-kept r kept turn memory′ out out′ a t =
     goes-on (r .printed)
@@ -167,13 +170,17 @@ pub data Called (block : List ℕ) (start : Kept) : List ℕ → Kept → ℕ �
   turned : (bytes : List ℕ) (kept : Kept) (from : ℕ) → Called block start bytes kept from → from < length block
       → (turn : Turn) (memory′ line′ out out′ : List ℕ)
       → Turned (turnOf (readingOf (kept .memory) (kept .line) (kept .place)) block from) (nextOf kept block from) turn memory′ line′ out out′
-      → Called block start (bytes ++ take (turn .length) out′) (record { memory = memory′; line = line′; place = turn .place }) (turn .next)
+      → Called block start (bytes ++ take (turn .length) out′) (keeping memory′ line′ (turn .place)) (turn .next)
+
+-- a block taken until its end
+abbrev pub Through : List ℕ → Kept → List ℕ → Kept → Type 0
+Through block start bytes kept = (from : ℕ) × (length block ≤ from) × Called block start bytes kept from
 
 -- Blocks read one after the other, each until its end; all the answers.
 pub data Read (start : Kept) : List (List ℕ) → List ℕ → Kept → Type 0 where
   nothing : Read start [] [] start
   oneMore : (blocks : List (List ℕ)) (bytes : List ℕ) (kept : Kept) → Read start blocks bytes kept
-      → (next : List ℕ) (more : List ℕ) (kept′ : Kept) (from : ℕ) → Called next kept more kept′ from → length next ≤ from
+      → (next : List ℕ) (more : List ℕ) (kept′ : Kept) → Through next kept more kept′
       → Read start (blocks ++ next ∷ []) (bytes ++ more) kept′
 
 -- after calls the reading stands where the program does, so many turns on
@@ -201,7 +208,7 @@ calls-stand r block start a _ _ _ (Called.turned bytes kept from before h turn m
     on (calls-stand r block start a bytes kept from before)
   where
     on : Stands r block bytes kept from
-        → Stands r block (bytes ++ take (turn .length) out′) (record { memory = memory′; line = line′; place = turn .place }) (turn .next)
+        → Stands r block (bytes ++ take (turn .length) out′) (keeping memory′ line′ (turn .place)) (turn .next)
     on s =
         let go = turn-kept (s .now) kept block from (nextOf kept block from) turn memory′ line′ out out′ (s .at) t in
         let move = next-within (length (kept .line)) (kept .place .held) block from h in
@@ -223,10 +230,9 @@ calls-stand r block start a _ _ _ (Called.turned bytes kept from before h turn m
         }
 
 -- a block taken until its end is a block of the reading
-pub block-kept : (r : Reading (List ℕ)) (block : List ℕ) (start : Kept) → At r start → (bytes : List ℕ) (kept : Kept) (from : ℕ)
-    → Called block start bytes kept from → length block ≤ from
+pub block-kept : (r : Reading (List ℕ)) (block : List ℕ) (start : Kept) → At r start → (bytes : List ℕ) (kept : Kept) → Through block start bytes kept
     → At (turns lineOutcome (length block) r block 0) kept × (turns lineOutcome (length block) r block 0 .printed ≡ r .printed ++ bytes)
-block-kept r block start a bytes kept from called h =
+block-kept r block start a bytes kept (from, h, called) =
     let s = calls-stand r block start a bytes kept from called in
     let few = s .few in
     let within = s .within in
@@ -247,12 +253,12 @@ pub blocks-kept : (r : Reading (List ℕ)) (start : Kept) → At r start → (bl
     → At (blocksRead lineOutcome r blocks) kept × (blocksRead lineOutcome r blocks .printed ≡ r .printed ++ bytes)
 unfolding blocksRead
 blocks-kept r start a _ _ _ Read.nothing = (a, sym (append-nil (r .printed)))
-blocks-kept r start a _ _ _ (Read.oneMore blocks bytes kept before next more kept′ from called h) = on (blocks-kept r start a blocks bytes kept before)
+blocks-kept r start a _ _ _ (Read.oneMore blocks bytes kept before next more kept′ through) = on (blocks-kept r start a blocks bytes kept before)
   where
     on : At (blocksRead lineOutcome r blocks) kept × (blocksRead lineOutcome r blocks .printed ≡ r .printed ++ bytes)
         → At (blocksRead lineOutcome r (blocks ++ next ∷ [])) kept′ × (blocksRead lineOutcome r (blocks ++ next ∷ []) .printed ≡ r .printed ++ (bytes ++ more))
     on (at, printed) =
-        let here = block-kept (blocksRead lineOutcome r blocks) next kept at more kept′ from called h in
+        let here = block-kept (blocksRead lineOutcome r blocks) next kept at more kept′ through in
         let e = blocks-more r blocks next in (
           subst (λ (x : Reading (List ℕ)). At x kept′) (sym e) (here .0),
           ap (λ (x : Reading (List ℕ)). x .printed) e
@@ -261,7 +267,7 @@ blocks-kept r start a _ _ _ (Read.oneMore blocks bytes kept before next more kep
 
 -- where a program starts: no slots, nothing held, line 1; whatever is in the memory, and a line's buffer of 257 bytes
 abbrev pub opening : List ℕ → List ℕ → Kept
-opening memory line = record { memory = memory; line = line; place = record { slots = 0; held = 0; number = 1 } }
+opening memory line = keeping memory line (record { slots = 0; held = 0; number = 1 })
 
 -- The whole script: the answers of all turns and of the last are what the input prints, and the table in the memory is the one it leaves.
 pub script-printed : (memory line : List ℕ) → length line ≡ 257 → (blocks : List (List ℕ)) (bytes : List ℕ) (kept : Kept)

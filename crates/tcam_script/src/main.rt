@@ -5,7 +5,7 @@ ghost use mathlib.Core.Bool.{true};
 ghost use mathlib.Core.List.{List};
 ghost use Prim.Native.Nat.{ℕ, _≤_};
 ghost use lib.ListN.{length};
-ghost use Rattle.script.specs.Whole.{Called, Read, opening};
+ghost use Rattle.script.specs.Whole.{Read, Through, keeping, opening};
 use script::reading::Place;
 use script::reading::last_turn;
 use script::reading::take_turn;
@@ -33,7 +33,7 @@ fn run_block(
     out: &mut [u8; 14343],
 ) -> Went
     ensures { λ r. ⌜ (r .more ≡ true → r .well ≡ true) ⌝ }
-    ensures { λ r. ⌜ (r .well ≡ true → (bytes : List ℕ) × (from : ℕ) × (length (now (block .entry)) ≤ from) × Called (now (block .entry)) (record { memory = now (memory .entry); line = now (line .entry); place = first }) bytes (record { memory = now (memory .exit); line = now (line .exit); place = r .place }) from) ⌝ }
+    ensures { λ r. ⌜ (r .well ≡ true → (bytes : List ℕ) × Through (now (block .entry)) (keeping (now (memory .entry)) (now (line .entry)) first) bytes (keeping (now (memory .exit)) (now (line .exit)) (r .place))) ⌝ }
 {
     let mut place = first;
     let mut from = 0;
@@ -59,7 +59,7 @@ fn read_block(
     out: &mut [u8; 14343],
 ) -> Went
     ensures { λ r. ⌜ (r .more ≡ true → r .well ≡ true) ⌝ }
-    ensures { λ r. ⌜ (r .well ≡ true → (block : List ℕ) × (bytes : List ℕ) × (from : ℕ) × (length block ≤ from) × Called block (record { memory = now (memory .entry); line = now (line .entry); place = place }) bytes (record { memory = now (memory .exit); line = now (line .exit); place = r .place }) from) ⌝ }
+    ensures { λ r. ⌜ (r .well ≡ true → (block : List ℕ) × (bytes : List ℕ) × Through block (keeping (now (memory .entry)) (now (line .entry)) place) bytes (keeping (now (memory .exit)) (now (line .exit)) (r .place))) ⌝ }
 {
     let mut block = io::buffer();
     let got = libc::read(0, &mut block);
@@ -76,7 +76,7 @@ fn read_block(
 
 // Reads all blocks.
 fn read_blocks(memory: &mut [u64; 6144], line: &mut [u8], out: &mut [u8; 14343]) -> Went
-    ensures { λ r. ⌜ (r .well ≡ true → (blocks : List (List ℕ)) × (bytes : List ℕ) × Read (opening (now (memory .entry)) (now (line .entry))) blocks bytes (record { memory = now (memory .exit); line = now (line .exit); place = r .place })) ⌝ }
+    ensures { λ r. ⌜ (r .well ≡ true → (blocks : List (List ℕ)) × (bytes : List ℕ) × Read (opening (now (memory .entry)) (now (line .entry))) blocks bytes (keeping (now (memory .exit)) (now (line .exit)) (r .place))) ⌝ }
 {
     let mut turns = u64::MAX;
     let mut went = Went {

@@ -18,7 +18,7 @@ read-requires : tie.Need-read-requires
 read-requires c κs = search needs
 
 returns : tie.Need-returns
-returns c = (λ m. absurd (false≢true m), λ w. ([], [], 0, omega arith, Called.begin))
+returns c = (λ m. absurd (false≢true m), λ w. ([], [], (0, omega arith, Called.begin)))
 
 slice-aggregate-count : tie.Need-slice-aggregate-count
 slice-aggregate-count c = search needs
@@ -41,7 +41,7 @@ same-length c = search needs
 returns-2 : tie.Need-returns-2
 returns-2 c =
     let r = c .before .before .run-block in
-    (r .ensures .0, λ w. let o = r .ensures .1 w in (_, o .0, o .1, o .2, o .3))
+    (r .ensures .0, λ w. let o = r .ensures .1 w in (_, o .0, o .1))
 
 pub read-block-spec : {M : Type 1} → statement M
 read-block-spec =

@@ -8,14 +8,14 @@ use native.Mathlib.Omega.{arith}
 use lib.ListN.{length}
 use borrow.Author.Tests.{ltb-true}
 use borrow.Author.Needs.{needs}
-use Rattle.script.specs.Whole.{Read, opening}
+use Rattle.script.specs.Whole.{Read, keeping, opening}
 use Rattle.tcam_script.proofs.read_blocks.Statement.{statement}
 use Rattle.tcam_script.proofs.read_blocks.Tie as tie
 
 abbrev Inv-loop : tie.InvT-loop
 Inv-loop memory₀ line₀ out₀ turns₀ went₀ memory line out turns went =
     (length line ≡ length line₀) × (went .more ≡ true → went .well ≡ true)
-    × (went .well ≡ true → (blocks : List (List ℕ)) × (bytes : List ℕ) × Read (opening memory₀ line₀) blocks bytes (record { memory = memory; line = line; place = went .place }))
+    × (went .well ≡ true → (blocks : List (List ℕ)) × (bytes : List ℕ) × Read (opening memory₀ line₀) blocks bytes (keeping memory line (went .place)))
 
 abbrev μ-loop : tie.MeasureT-loop
 μ-loop memory₀ line₀ out₀ turns₀ went₀ memory line out turns went = turns
@@ -39,7 +39,7 @@ loop-again c =
     let before = b .inv .2 (b .inv .1 (c .before .before .before .before .before .before .before .loop-test .taken)) in (
       search needs,
       t .ensures .0,
-      λ w. let o = t .ensures .1 w in (_, _, Read.oneMore (before .0) (before .1) (record { memory = b .memory; line = b .line; place = b .went .place }) (before .2) (o .0) (o .1) _ (o .2) (o .4) (o .3)),
+      λ w. let o = t .ensures .1 w in (_, _, Read.oneMore (before .0) (before .1) (keeping (b .memory) (b .line) (b .went .place)) (before .2) (o .0) (o .1) _ (o .2)),
     )
 
 same-length : tie.Need-same-length Inv-loop μ-loop

@@ -8,7 +8,7 @@ use native.Mathlib.Omega.{arith}
 use lib.ListN.{length}
 use borrow.Author.Tests.{ltb-true, ltb-false}
 use borrow.Author.Needs.{needs}
-use Rattle.script.specs.Whole.{Kept, Called, next-within, shown-within}
+use Rattle.script.specs.Whole.{keeping, Called, next-within, shown-within}
 use Rattle.tcam_script.proofs.run_block.Statement.{statement}
 use Rattle.tcam_script.proofs.run_block.Tie as tie
 use Rattle.tcam_script.proofs.run_block.Reads as reads
@@ -17,7 +17,7 @@ use Rattle.tcam_script.proofs.run_block.Lts as lts
 abbrev Inv-loop : tie.InvT-loop
 Inv-loop memory₀ line₀ block out₀ place₀ from₀ well₀ memory line out place from well =
     (length line ≡ length line₀)
-    × (bytes : List ℕ) × Called block (record { memory = memory₀; line = line₀; place = place₀ }) bytes (record { memory = memory; line = line; place = place }) from
+    × (bytes : List ℕ) × Called block (keeping memory₀ line₀ place₀) bytes (keeping memory line place) from
 
 abbrev μ-loop : tie.MeasureT-loop
 μ-loop memory₀ line₀ block out₀ place₀ from₀ well₀ memory line out place from well = length block - from
@@ -49,7 +49,7 @@ loop-again c =
     let h = ltb-true (b .from) (length (a .block .now)) (c .before .before .before .before .before .before .before .before .before .before .if1 .taken) in (
       search needs,
       _,
-      Called.turned (b .inv .1) (record { memory = b .memory; line = b .line; place = b .place }) (b .from) (b .inv .2) h (t .result) (t .last .0) (t .last .1 .0) (b .out) (t .last .1 .1 .1 .1 .1 .0) (t .ensures),
+      Called.turned (b .inv .1) (keeping (b .memory) (b .line) (b .place)) (b .from) (b .inv .2) h (t .result) (t .last .0) (t .last .1 .0) (b .out) (t .last .1 .1 .1 .1 .1 .0) (t .ensures),
     )
 
 same-length : tie.Need-same-length Inv-loop μ-loop
@@ -58,7 +58,7 @@ same-length c = search needs
 returns : tie.Need-returns Inv-loop μ-loop
 returns c =
     let b = c .before .before .loop in
-    (λ m. m, λ w. (b .inv .1, b .from, ltb-false (b .from) (length (c .before .before .before .before .before .args .block .now)) (c .if1 .left), b .inv .2))
+    (λ m. m, λ w. (b .inv .1, (b .from, ltb-false (b .from) (length (c .before .before .before .before .before .args .block .now)) (c .if1 .left), b .inv .2)))
 
 same-length-2 : tie.Need-same-length-2 Inv-loop μ-loop
 same-length-2 c = search needs
