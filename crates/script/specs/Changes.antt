@@ -6,18 +6,17 @@ use mathlib.Core.Logic.{_⊎_}
 use mathlib.Core.Logic._⊎_.{inl, inr}
 use mathlib.Core.Option.{Option, none, some}
 use mathlib.Core.List.{List, [], _∷_}
-use Prim.Native.Nat.{ℕ, _≤_, _<_}
+use Prim.Native.Nat.{ℕ, _<_}
 use native.Mathlib.Omega.{arith}
 use lib.Dec.{eqb, leb}
 use lib.ListN.{length, getD, drop}
 use borrow.Author.Tests.{leb-true}
-use Rattle.search.specs.Search.{decided, and-left, and-right}
+use Rattle.search.specs.Search.{and-left, and-right}
 use Rattle.text.specs.Parts.{parts}
 use Rattle.text.specs.Decimal.{decimal}
-use Rattle.ternary.specs.Pattern.{Words}
 use Rattle.records.specs.Record.{word, slotWords, ident, action}
 use Rattle.records.specs.Order.{slots}
-use Rattle.records.specs.Checks.{Told, success, passes, checkShape, shaped, slotChecks, tableChecks}
+use Rattle.records.specs.Checks.{Told, passes, checkShape, shaped, slotChecks, tableChecks}
 use Rattle.records.specs.Laws.{cause-not-zero}
 use Rattle.records.specs.Writes.{applyWords}
 use Rattle.records.specs.declared.Rule.{Rule}
@@ -25,7 +24,7 @@ use Rattle.records.specs.declared.Cause.the-variants.{Shape}
 use Rattle.records.specs.declared.Check.{Check}
 use Rattle.records.specs.declared.Check.the-variants.{Pass, Fail}
 use Rattle.neighbours.specs.Neighbours.{insertChecks}
-use Rattle.table.specs.Lookup.{lookupAnswer, lookupTold, hitAt, Case, refusedBy, hit, miss, lookup-cases, lookup-hit, lookup-miss, lookup-refused}
+use Rattle.table.specs.Lookup.{lookupAnswer, hitAt, Case, refusedBy, hit, miss, lookup-cases, lookup-hit, lookup-miss, lookup-refused}
 use Rattle.table.specs.Plans.{plan-written}
 use Rattle.table.specs.Inserts.{insertWords}
 use Rattle.table.specs.Deletes.{deleteChecks, deleteWords}

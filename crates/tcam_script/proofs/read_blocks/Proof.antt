@@ -1,6 +1,6 @@
 -- `tcam_script::read_blocks` meets its contract.
 -- Each turn of the loop reads one block more.
-use mathlib.Core.Path.{_≡_, refl, sym, _∙_}
+use mathlib.Core.Path.{_≡_, refl}
 use mathlib.Core.Bool.{true}
 use mathlib.Core.List.{List, []}
 use Prim.Native.Nat.{ℕ}
