@@ -8,7 +8,7 @@ use lib.Dec.{eqb, leb}
 use lib.ListN.{length, getD}
 use Rattle.text.specs.Parts.{parts}
 use Rattle.text.specs.Decimal.{decimal}
-use Rattle.commands.specs.Fields.{isNumber, isPattern, isKey, symbolWords, valueBit, maskBit}
+use Rattle.fields.specs.Fields.{isNumber, isPattern, isKey, symbolWords, valueBit, maskBit}
 use Rattle.records.specs.declared.Rule.{Rule}
 use Rattle.commands.specs.declared.Insertion.{Insertion}
 use Rattle.commands.specs.declared.Query.{Query}

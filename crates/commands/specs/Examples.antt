@@ -4,7 +4,7 @@ use mathlib.Core.Path.{_≡_, refl}
 use mathlib.Core.List.{[], _∷_}
 use Rattle.text.specs.Parts.{parts}
 use Rattle.text.specs.Decimal.{every, decimalOn}
-use Rattle.commands.specs.Fields.{isNumber, symbolWord, binary}
+use Rattle.fields.specs.Fields.{isNumber, symbolWord, binary}
 use Rattle.commands.specs.Commands.{commandOf, letterOf, tableCommand, insertCommand, deleteCommand, lookupCommand, shortCommand, longCommand}
 use Rattle.commands.specs.declared.Command.the-variants.{Table, Insert, Delete, Lookup, Malformed}
 

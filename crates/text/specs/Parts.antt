@@ -40,6 +40,15 @@ joined s [] = []
 joined s (p ∷ []) = p
 joined s (p ∷ q ∷ ps) = p ++ s ∷ joined s (q ∷ ps)
 
+-- `a  b` has an empty part between its two spaces; a text that ends in a separator ends in an empty part
+example-two-spaces : parts 32 (97 ∷ 32 ∷ 32 ∷ 98 ∷ []) ≡ (97 ∷ []) ∷ [] ∷ (98 ∷ []) ∷ []
+unfolding parts
+example-two-spaces = refl
+
+example-last : parts 32 (97 ∷ 32 ∷ []) ≡ (97 ∷ []) ∷ [] ∷ []
+unfolding parts
+example-last = refl
+
 -- Where the first part ends there is the text's end or a separator.
 module _ (s : ℕ) where
   pub first-le : (x : List ℕ) → length (firstPart s x) ≤ length x

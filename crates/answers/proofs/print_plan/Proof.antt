@@ -1,8 +1,8 @@
 -- `answers::print_plan` meets its contract.
 -- The buffer has room for the longest plan.
 use mathlib.Core.List.{[], _∷_}
-use Rattle.answers.specs.Lines.{planBytes}
-use Rattle.answers.specs.Printing.{shown}
+use Rattle.answers.specs.Answers.{planBytes}
+use Rattle.printing.specs.Printing.{shown}
 use Prim.Native.Nat.{ℕ}
 use borrow.Author.Needs.{needs}
 use Rattle.answers.proofs.print_plan.Statement.{statement}

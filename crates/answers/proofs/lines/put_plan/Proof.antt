@@ -5,8 +5,8 @@ use mathlib.Core.Path.{subst, _∙_}
 use mathlib.Core.List.{List, [], _∷_}
 use Prim.Native.Nat.{ℕ}
 use lib.ListN.{length}
-use Rattle.answers.specs.Lines.{printed}
-use Rattle.answers.specs.Printing.{Printed, printed-none, printed-then}
+use Rattle.printing.specs.Lines.{printed}
+use Rattle.printing.specs.Printing.{Printed, printed-none, printed-then}
 use Rattle.answers.specs.Room.{count-short, plan-long, plan-fits}
 use borrow.Author.Needs.{needs}
 use Rattle.answers.proofs.lines.put_plan.Statement.{statement}

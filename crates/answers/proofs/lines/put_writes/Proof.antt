@@ -5,8 +5,8 @@ use mathlib.Core.Path.{_≡_, refl, subst, _∙_}
 use mathlib.Core.List.{List}
 use Prim.Native.Nat.{ℕ, _+_, _*_, _-_, _≤_}
 use lib.ListN.{length, getD, take}
-use Rattle.answers.specs.Lines.{printedWrites}
-use Rattle.answers.specs.Printing.{Printed, printed-none, printed-then}
+use Rattle.answers.specs.Answers.{printedWrites}
+use Rattle.printing.specs.Printing.{Printed, printed-none, printed-then}
 use Rattle.answers.specs.Room.{write-short, writes-on, writes-all}
 use Rattle.answers.proofs.lines.put_writes.Statement.{statement}
 use Rattle.answers.proofs.lines.put_writes.Tie as tie
