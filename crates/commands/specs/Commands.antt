@@ -1,7 +1,6 @@
 -- Script lines: `T slots`, `I id priority pattern action`, `D id`, `L key`, of at most 256 bytes, fields parted by one space.
 -- Every other line is malformed.
-use mathlib.Core.Path.{_≡_, refl}
-use mathlib.Core.Bool.{Bool, true, false, cond, _&&_}
+use mathlib.Core.Bool.{cond, _&&_}
 use mathlib.Core.List.{List, [], _∷_}
 use Prim.Native.Nat.{ℕ}
 use lib.Dec.{eqb, leb}

@@ -1,20 +1,20 @@
 -- What the definitions of fields say of one byte more, and how large the numbers read can get.
 -- For loops over a field, and for the tests of a number.
-use mathlib.Core.Path.{_≡_, refl, sym, ap, _∙_}
-use mathlib.Core.Bool.{Bool, true, false, cond, _&&_, _||_}
+use mathlib.Core.Path.{_≡_, sym, _∙_}
+use mathlib.Core.Bool.{Bool, true, false}
 use mathlib.Core.Logic.{⊎-elim}
 use mathlib.Core.List.{List, [], _∷_}
 use Prim.Native.Nat.{ℕ, zero, suc, _+_, _-_, _*_, _^_, _≤_, _<_}
 use native.Mathlib.Omega.{arith}
 use native.Mathlib.Numerals.{add-one}
 use native.Mathlib.Nat.{pow-le-pow-right, pow-suc}
-use lib.Dec.{eqb, leb, ltb}
+use lib.Dec.{ltb}
 use lib.ListN.{length, getD, drop, drop-of-length-le, List·getD-eq-default}
 use lib.Pow.{pow-mono}
 use lib.Seq.{drop-cons}
 use borrow.Author.Tests.{lt-ltb, le-ltb, le-leb, lt-leb, ltb-true}
 use Rattle.search.specs.Search.{decided, and-left, and-right}
-use Rattle.text.specs.Decimal.{every, digit, decimalOn, decimal, decimal-grows, decimal-below}
+use Rattle.text.specs.Decimal.{every, digit, decimalOn, decimal, decimal-below}
 use Rattle.fields.specs.Fields.{sized, isNumber, numberIn, oneIf, bitOf, binary}
 
 module _ (p : ℕ → Bool) (x : List ℕ) where

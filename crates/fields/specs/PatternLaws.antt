@@ -2,9 +2,7 @@
 -- A star has neither bit, and so have the places past the field's end.
 use mathlib.Core.Path.{_≡_, refl, sym, ap, _∙_}
 use mathlib.Core.Bool.{Bool, true, false, _||_}
-use mathlib.Core.Logic.{_⊎_, ⊎-elim}
-use mathlib.Core.Logic._⊎_.{inl, inr}
-use mathlib.Core.List.{List}
+use mathlib.Core.List.{List, [], _∷_}
 use Prim.Native.Nat.{ℕ, zero, suc, _+_, _-_, _*_, _/_, _%_, _^_, _≤_, _<_}
 use native.Mathlib.Omega.{arith}
 use native.Mathlib.Nat.{pow-suc, mul-comm, div-one, div-div-eq-div-mul}
@@ -12,8 +10,17 @@ use native.Mathlib.Decide.{decLt}
 use lib.Dec.{eqb}
 use lib.ListN.{getD}
 use Rattle.ternary.specs.Bit.{bit, bit-zero}
-use Rattle.fields.specs.Fields.{oneIf, binary, bitOf, valueBit, maskBit, symbolWord}
+use Rattle.fields.specs.Fields.{oneIf, binary, valueBit, maskBit, symbolWord}
 use Rattle.fields.specs.FieldLaws.{one-if-small}
+
+-- `10*` has value bit 1 at the highest place, and mask bits at the two highest
+example-value : symbolWord valueBit (49 ∷ 48 ∷ 42 ∷ []) 0 ≡ 0x8000000000000000
+unfolding symbolWord binary
+example-value = refl
+
+example-mask : symbolWord maskBit (49 ∷ 48 ∷ 42 ∷ []) 0 ≡ 0xC000000000000000
+unfolding symbolWord binary
+example-mask = refl
 
 -- the bits of a number with one digit more
 double-low : (b c : ℕ) → c ≤ 1 → bit (b * 2 + c) 0 ≡ c

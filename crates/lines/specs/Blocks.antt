@@ -1,19 +1,18 @@
 -- Reading in blocks: however the input is cut, the lines handed out, with their numbers, are those of the whole input.
 -- Stated over any handler of lines, so that what the program prints and the last table are those of the whole input.
 use mathlib.Core.Path.{_≡_, refl, sym, ap, ap₂, _∙_, subst}
-use mathlib.Core.Bool.{Bool, true, false, cond}
+use mathlib.Core.Bool.{true, cond}
 use mathlib.Core.List.{List, [], _∷_, _++_, append-assoc, append-nil}
 use Prim.Native.Nat.{ℕ, zero, suc, _+_, _-_, _≤_, _<_, min}
 use native.Mathlib.Omega.{arith}
 use native.Mathlib.Decide.{ℕ-discrete, decLt, decLe}
 use lib.Dec.{eqb, ltb}
 use lib.ListN.{length, take, drop, length-append, length-drop, drop-of-length-le}
-use lib.Seq.{paste, length-paste, take-paste, take-all, drop-append-le, drop-drop, drop-append-add}
+use lib.Seq.{length-paste, take-paste, take-all, drop-append-le, drop-drop, drop-append-add}
 use borrow.Author.Tests.{lt-ltb, le-ltb, eq-eqb, ne-eqb}
-use Rattle.text.specs.Parts.{firstPart, first-le, first-take, first-append, first-in, first-all, first-unparted, unparted, unparted-first, unparted-append}
+use Rattle.text.specs.Parts.{firstPart, first-append, first-in, first-all, first-unparted, unparted, unparted-first, unparted-append}
 use Rattle.lines.specs.Lines.{linesOf, lines-more, lines-last, nextNumber}
 use Rattle.lines.specs.Held.{room, heldLine, takenOf, standing}
-use Rattle.lines.specs.declared.Taken.{Taken}
 
 -- all bytes of the blocks, one block after the other
 unfoldable pub whole : List (List ℕ) → List ℕ

@@ -1,7 +1,6 @@
 -- `answers::print_hit` meets its contract.
 -- Three numbers of 32 bits have at most 30 digits.
 use native.Mathlib.Omega.{arith}
-use mathlib.Core.List.{[], _∷_}
 use Rattle.answers.specs.Answers.{hitBytes}
 use Rattle.printing.specs.Printing.{shown}
 use Rattle.printing.specs.Lines.{length-three, digits-10}

@@ -1,6 +1,5 @@
 -- `fields::is_symbol_field` meets its contract.
 -- Each test is one of the definition's.
-use mathlib.Core.Path.{_≡_, sym, _∙_}
 use borrow.Author.Tests.{le-leb, lt-leb}
 use lib.ListN.{length}
 use borrow.Author.Needs.{needs}

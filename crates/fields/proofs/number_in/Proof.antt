@@ -1,7 +1,7 @@
 -- `fields::number_in` meets its contract.
 -- Each return is one of the cases of the definition.
 use native.Mathlib.Omega.{arith}
-use mathlib.Core.Path.{_≡_, sym, _∙_}
+use mathlib.Core.Path.{sym, _∙_}
 use borrow.Author.Tests.{not-true, not-false}
 use Rattle.fields.specs.FieldLaws.{number-none, number-long, number-other, number-fits, number-large}
 use borrow.Author.Needs.{needs}

@@ -4,11 +4,10 @@ use native.Mathlib.Omega.{arith}
 use borrow.Author.Needs.{needs}
 use mathlib.Core.Path.{_≡_, refl, ap₂, ap, sym, _∙_}
 use mathlib.Core.Bool.{Bool}
-use mathlib.Core.List.{List}
-use Prim.Native.Nat.{ℕ, suc, _+_, _*_, _-_, _≤_}
+use Prim.Native.Nat.{ℕ, _+_, _*_, _-_, _≤_}
 use native.Mathlib.Numerals.{add-one}
 use lib.ListN.{getD}
-use Rattle.fields.specs.Fields.{oneIf, bitOf, binary, symbolWord}
+use Rattle.fields.specs.Fields.{bitOf, binary, symbolWord}
 use Rattle.fields.specs.FieldLaws.{binary-half, one-if-small}
 use Rattle.fields.proofs.symbol_word.Statement.{statement}
 use Rattle.fields.proofs.symbol_word.Tie as tie

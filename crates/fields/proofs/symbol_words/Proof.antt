@@ -1,6 +1,5 @@
 -- `fields::symbol_words` meets its contract.
 -- Its two words are those of the definition.
-use Rattle.fields.specs.Fields.{symbolWord}
 use borrow.Author.Needs.{needs}
 use Rattle.fields.proofs.symbol_words.Statement.{statement}
 use Rattle.fields.proofs.symbol_words.Tie as tie

@@ -1,12 +1,12 @@
 -- `printing::put_number` meets its contract.
 -- The number falls with each call, and on the way back each digit is printed behind those of the tenth.
-use mathlib.Core.Path.{_≡_, ap, _∙_}
+use mathlib.Core.Path.{ap, _∙_}
 use native.Mathlib.Omega.{arith}
-use Prim.Native.Nat.{ℕ, _+_, _/_, _≤_, _<_}
-use lib.ListN.{length, length-append}
+use Prim.Native.Nat.{ℕ, _<_}
+use lib.ListN.{length}
 use borrow.Fn.Kinds.{In}
 use borrow.Fn.PlainCycle.{Measures, is, falls, and}
-use Rattle.text.specs.Decimal.{digitsOf, digits-one, digits-more, digits-longer}
+use Rattle.text.specs.Decimal.{digits-one, digits-more, digits-longer}
 use Rattle.printing.specs.Printing.{printed-then}
 use Rattle.printing.proofs.put_number.Reads as put-number
 use Rattle.printing.proofs.put_number.Kinds as put-number-kinds

@@ -4,7 +4,6 @@ use mathlib.Core.Path.{_∙_}
 use mathlib.Core.List.{[], _∷_}
 use Rattle.printing.specs.Printing.{room-first, room-next, both}
 use Rattle.printing.specs.Lines.{field, fields}
-use borrow.Author.Needs.{needs}
 use Rattle.printing.proofs.last_fields.Statement.{statement}
 use Rattle.printing.proofs.last_fields.Tie as tie
 

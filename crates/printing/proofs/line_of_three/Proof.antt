@@ -5,7 +5,6 @@ use mathlib.Core.List.{[], _∷_}
 use Rattle.printing.specs.Printing.{room-first, room-next, both}
 use Rattle.printing.specs.Lines.{fields}
 use native.Mathlib.Omega.{arith}
-use borrow.Author.Needs.{needs}
 use Rattle.printing.proofs.line_of_three.Statement.{statement}
 use Rattle.printing.proofs.line_of_three.Tie as tie
 

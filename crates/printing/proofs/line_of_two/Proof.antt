@@ -5,7 +5,6 @@ use mathlib.Core.Path.{_∙_}
 use mathlib.Core.List.{[], _∷_}
 use Rattle.printing.specs.Printing.{room-first, room-next, both}
 use Rattle.printing.specs.Lines.{fields}
-use borrow.Author.Needs.{needs}
 use Rattle.printing.proofs.line_of_two.Statement.{statement}
 use Rattle.printing.proofs.line_of_two.Tie as tie
 

@@ -5,7 +5,6 @@ use mathlib.Core.Path.{_∙_}
 use mathlib.Core.List.{[], _∷_}
 use Rattle.printing.specs.Printing.{room-first, room-next, both}
 use Rattle.text.specs.Decimal.{digitsOf}
-use borrow.Author.Needs.{needs}
 use Rattle.printing.proofs.put_field.Statement.{statement}
 use Rattle.printing.proofs.put_field.Tie as tie
 

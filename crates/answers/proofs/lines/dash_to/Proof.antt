@@ -5,7 +5,6 @@ use mathlib.Core.List.{[], _∷_}
 use Rattle.printing.specs.Printing.{room-first, room-next, both}
 use Rattle.printing.specs.Lines.{fields}
 use Rattle.answers.specs.Answers.{dash}
-use borrow.Author.Needs.{needs}
 use Rattle.answers.proofs.lines.dash_to.Statement.{statement}
 use Rattle.answers.proofs.lines.dash_to.Tie as tie
 

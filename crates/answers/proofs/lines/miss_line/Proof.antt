@@ -4,8 +4,6 @@ use native.Mathlib.Omega.{arith}
 use mathlib.Core.Path.{_∙_}
 use mathlib.Core.List.{[], _∷_}
 use Rattle.printing.specs.Printing.{room-first, room-next, both}
-use Prim.Native.Nat.{ℕ}
-use borrow.Author.Needs.{needs}
 use Rattle.answers.proofs.lines.miss_line.Statement.{statement}
 use Rattle.answers.proofs.lines.miss_line.Tie as tie
 

@@ -2,13 +2,11 @@
 -- The count's line has at most 7 bytes, and then come the words' lines.
 use native.Mathlib.Omega.{arith}
 use mathlib.Core.Path.{subst, _∙_}
-use mathlib.Core.List.{List, [], _∷_}
+use mathlib.Core.List.{List}
 use Prim.Native.Nat.{ℕ}
 use lib.ListN.{length}
-use Rattle.printing.specs.Lines.{printed}
 use Rattle.printing.specs.Printing.{Printed, printed-none, printed-then}
 use Rattle.answers.specs.Room.{count-short, plan-long, plan-fits}
-use borrow.Author.Needs.{needs}
 use Rattle.answers.proofs.lines.put_plan.Statement.{statement}
 use Rattle.answers.proofs.lines.put_plan.Tie as tie
 

@@ -1,7 +1,6 @@
 -- `answers::lines::put_write` meets its contract.
 -- The word's upper half tells which write it is; each line has at most 14 bytes.
 use native.Mathlib.Omega.{arith}
-use mathlib.Core.Path.{_≡_}
 use Prim.Native.Nat.{_/_, _%_}
 use Rattle.records.specs.Writes.{word-puts, word-clears, word-copies}
 use Rattle.answers.specs.Room.{put-short, clear-short, copy-short}
