@@ -1,4 +1,4 @@
--- `answers::lines::put_in_line` meets its contract.
+-- `answers::writes::put_in_line` meets its contract.
 -- The letter, and then what follows it.
 use native.Mathlib.Omega.{arith}
 use mathlib.Core.Path.{_∙_}
@@ -6,8 +6,8 @@ use mathlib.Core.List.{[], _∷_, _++_}
 use Rattle.printing.specs.Printing.{room-first, room-next, both}
 use Rattle.printing.specs.Lines.{fields}
 use Rattle.answers.specs.Answers.{dash}
-use Rattle.answers.proofs.lines.put_in_line.Statement.{statement}
-use Rattle.answers.proofs.lines.put_in_line.Tie as tie
+use Rattle.answers.proofs.writes.put_in_line.Statement.{statement}
+use Rattle.answers.proofs.writes.put_in_line.Tie as tie
 
 put-byte-requires : tie.Need-put-byte-requires
 put-byte-requires c κs =

@@ -1,12 +1,12 @@
--- `answers::lines::put_write` meets its contract.
+-- `answers::writes::put_write` meets its contract.
 -- The word's upper half tells which write it is; each line has at most 14 bytes.
 use native.Mathlib.Omega.{arith}
 use Prim.Native.Nat.{_/_, _%_}
 use Rattle.records.specs.Writes.{word-puts, word-clears, word-copies}
 use Rattle.answers.specs.Room.{put-short, clear-short, copy-short}
 use borrow.Author.Needs.{needs}
-use Rattle.answers.proofs.lines.put_write.Statement.{statement}
-use Rattle.answers.proofs.lines.put_write.Tie as tie
+use Rattle.answers.proofs.writes.put_write.Statement.{statement}
+use Rattle.answers.proofs.writes.put_write.Tie as tie
 
 cast-put-in-line : tie.Need-cast-put-in-line
 cast-put-in-line c = search needs

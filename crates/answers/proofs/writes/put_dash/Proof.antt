@@ -1,11 +1,11 @@
--- `answers::lines::put_dash` meets its contract.
+-- `answers::writes::put_dash` meets its contract.
 -- A space, and then the dash.
 use native.Mathlib.Omega.{arith}
 use mathlib.Core.Path.{_∙_}
 use mathlib.Core.List.{[], _∷_}
 use Rattle.printing.specs.Printing.{room-first, room-next, both}
-use Rattle.answers.proofs.lines.put_dash.Statement.{statement}
-use Rattle.answers.proofs.lines.put_dash.Tie as tie
+use Rattle.answers.proofs.writes.put_dash.Statement.{statement}
+use Rattle.answers.proofs.writes.put_dash.Tie as tie
 
 put-byte-requires : tie.Need-put-byte-requires
 put-byte-requires c κs =

@@ -1,11 +1,11 @@
--- `answers::lines::miss_line` meets its contract.
+-- `answers::writes::miss_line` meets its contract.
 -- The letter, and then the newline.
 use native.Mathlib.Omega.{arith}
 use mathlib.Core.Path.{_∙_}
 use mathlib.Core.List.{[], _∷_}
 use Rattle.printing.specs.Printing.{room-first, room-next, both}
-use Rattle.answers.proofs.lines.miss_line.Statement.{statement}
-use Rattle.answers.proofs.lines.miss_line.Tie as tie
+use Rattle.answers.proofs.writes.miss_line.Statement.{statement}
+use Rattle.answers.proofs.writes.miss_line.Tie as tie
 
 put-byte-requires : tie.Need-put-byte-requires
 put-byte-requires c κs =

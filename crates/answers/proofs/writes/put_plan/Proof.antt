@@ -1,4 +1,4 @@
--- `answers::lines::put_plan` meets its contract.
+-- `answers::writes::put_plan` meets its contract.
 -- The count's line has at most 7 bytes, and then come the words' lines.
 use native.Mathlib.Omega.{arith}
 use mathlib.Core.Path.{subst, _∙_}
@@ -7,8 +7,8 @@ use Prim.Native.Nat.{ℕ}
 use lib.ListN.{length}
 use Rattle.printing.specs.Printing.{Printed, printed-none, printed-then}
 use Rattle.answers.specs.Room.{count-short, plan-long, plan-fits}
-use Rattle.answers.proofs.lines.put_plan.Statement.{statement}
-use Rattle.answers.proofs.lines.put_plan.Tie as tie
+use Rattle.answers.proofs.writes.put_plan.Statement.{statement}
+use Rattle.answers.proofs.writes.put_plan.Tie as tie
 
 returns : tie.Need-returns
 returns c =

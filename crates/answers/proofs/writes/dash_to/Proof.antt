@@ -1,12 +1,12 @@
--- `answers::lines::dash_to` meets its contract.
+-- `answers::writes::dash_to` meets its contract.
 -- The dash, and then the slot.
 use mathlib.Core.Path.{_∙_}
 use mathlib.Core.List.{[], _∷_}
 use Rattle.printing.specs.Printing.{room-first, room-next, both}
 use Rattle.printing.specs.Lines.{fields}
 use Rattle.answers.specs.Answers.{dash}
-use Rattle.answers.proofs.lines.dash_to.Statement.{statement}
-use Rattle.answers.proofs.lines.dash_to.Tie as tie
+use Rattle.answers.proofs.writes.dash_to.Statement.{statement}
+use Rattle.answers.proofs.writes.dash_to.Tie as tie
 
 put-dash-requires : tie.Need-put-dash-requires
 put-dash-requires c κs =

@@ -1,4 +1,4 @@
--- `answers::lines::put_writes` meets its contract.
+-- `answers::writes::put_writes` meets its contract.
 -- After each turn the line of one word more is printed, and no line has more than 14 bytes.
 use native.Mathlib.Omega.{arith}
 use mathlib.Core.Path.{_≡_, refl, subst, _∙_}
@@ -8,8 +8,8 @@ use lib.ListN.{length, getD, take}
 use Rattle.answers.specs.Answers.{printedWrites}
 use Rattle.printing.specs.Printing.{Printed, printed-none, printed-then}
 use Rattle.answers.specs.Room.{write-short, writes-on, writes-all}
-use Rattle.answers.proofs.lines.put_writes.Statement.{statement}
-use Rattle.answers.proofs.lines.put_writes.Tie as tie
+use Rattle.answers.proofs.writes.put_writes.Statement.{statement}
+use Rattle.answers.proofs.writes.put_writes.Tie as tie
 
 abbrev Inv-loop : tie.InvT-loop
 Inv-loop out₀ at words end₀ done₀ out end done =
