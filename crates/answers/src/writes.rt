@@ -1,5 +1,5 @@
-// The lines of answers that have no plain form of a letter and numbers: a miss, and the writes of a plan.
-// Each is written into a lent buffer at a place, as the lines of crate printing are.
+// The lines of a miss and of a plan's writes, written into a lent buffer at a place.
+// Lines of a letter and one to three numbers are those of crate printing.
 ghost use mathlib.Core.List.{_∷_, [], _++_};
 ghost use Prim.Native.Nat.{_+_, _*_, _≤_};
 ghost use lib.ListN.{length};
@@ -79,7 +79,7 @@ fn put_writes(out: &mut [u8], at: usize, words: &[u32]) -> usize
     end
 }
 
-// The lines of a plan of at most 1,024 words.
+// The lines of a plan of at most 1,024 words, at the buffer's start; nothing for more words.
 pub fn put_plan(out: &mut [u8], words: &[u32]) -> usize
     requires { ⌜ 14343 ≤ length (now out) ⌝ }
     ensures { λ r. ⌜ Printed (now (out .entry)) 0 (planBytes (now (words .entry))) r (now (out .exit)) ⌝ }

@@ -7,6 +7,7 @@ ghost use Rattle.text.specs.Decimal.{digitsOf};
 ghost use Rattle.printing.specs.Printing.{Printed};
 ghost use Rattle.printing.specs.Lines.{field, fields, printed};
 
+// One byte.
 pub fn put_byte(out: &mut [u8], at: usize, byte: u8) -> usize
     requires { ⌜ at < length (now out) ⌝ }
     ensures { λ r. ⌜ Printed (now (out .entry)) at (byte ∷ []) r (now (out .exit)) ⌝ }
