@@ -5,7 +5,7 @@ use mathlib.Core.List.{[], _∷_}
 use Prim.Native.Nat.{_+_, _*_}
 use Rattle.text.specs.Decimal.{digitsOf, digitsIn}
 use Rattle.records.specs.Writes.{writeOf}
-use Rattle.answers.specs.Lines.{tableBytes, planBytes, printedWrites, hitBytes, missBytes, refusalBytes}
+use Rattle.answers.specs.Answers.{tableBytes, planBytes, printedWrites, hitBytes, missBytes, refusalBytes}
 
 -- `N 6`
 answer-table : tableBytes 6 ≡ 78 ∷ 32 ∷ 54 ∷ 10 ∷ []

@@ -1,8 +1,8 @@
--- How long lines can get: a number of 16 bits has at most 5 digits, one of 32 bits 10, one of 64 bits 20.
+-- How long a plan's lines can get, and the lines of one word more.
 -- A plan word's line has at most 14 bytes, so that a plan of 1,024 words has at most 7 + 14 × 1,024 = 14,343.
-use mathlib.Core.Path.{_≡_, refl, sym, ap, _∙_}
+use mathlib.Core.Path.{_≡_, sym, ap, _∙_}
 use mathlib.Core.List.{List, [], _∷_, _++_, append-assoc, append-nil}
-use Prim.Native.Nat.{ℕ, zero, suc, _+_, _*_, _/_, _%_, _≤_, _<_}
+use Prim.Native.Nat.{ℕ, _+_, _/_, _%_, _≤_, _<_}
 use native.Mathlib.Omega.{arith}
 use native.Mathlib.Numerals.{add-one}
 use native.Mathlib.Decide.{ℕ-discrete}
@@ -12,27 +12,8 @@ use borrow.Author.Tests.{lt-leb, le-leb}
 use Rattle.text.specs.Decimal.{digitsOf, digits-few}
 use Rattle.layout.specs.Write.{copy, put, clear}
 use Rattle.records.specs.Writes.{writeOf, word-puts, word-clears, word-copies}
-use Rattle.answers.specs.Lines.{printed, printedWrite, printedWrites, planBytes}
-
--- digits of numbers of 16, 32 and 64 bits
-pub digits-5 : (n : ℕ) → n < 65536 → length (digitsOf n) ≤ 5
-digits-5 n h = digits-few 4 n (omega arith)
-
-pub digits-10 : (n : ℕ) → n < 4294967296 → length (digitsOf n) ≤ 10
-digits-10 n h = digits-few 9 n (omega arith)
-
-pub digits-20 : (n : ℕ) → n < 18446744073709551616 → length (digitsOf n) ≤ 20
-digits-20 n h = digits-few 19 n (omega arith)
-
--- a line of one, two and three numbers
-pub length-one : (letter a : ℕ) → length (printed letter (a ∷ [])) ≡ 3 + length (digitsOf a)
-length-one letter a = simp length-append (omega arith)
-
-pub length-two : (letter a b : ℕ) → length (printed letter (a ∷ b ∷ [])) ≡ 4 + length (digitsOf a) + length (digitsOf b)
-length-two letter a b = simp length-append (omega arith)
-
-pub length-three : (letter a b c : ℕ) → length (printed letter (a ∷ b ∷ c ∷ [])) ≡ 5 + length (digitsOf a) + length (digitsOf b) + length (digitsOf c)
-length-three letter a b c = simp length-append (omega arith)
+use Rattle.printing.specs.Lines.{printed, digits-5, length-one, length-two}
+use Rattle.answers.specs.Answers.{printedWrite, printedWrites, planBytes}
 
 pub length-put : (to : ℕ) → length (printedWrite (put to)) ≡ 5 + length (digitsOf to)
 length-put to = simp length-append (omega arith)

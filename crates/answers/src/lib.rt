@@ -1,14 +1,14 @@
 // Answers as bytes: each is written at the start of a lent buffer, and its length is answered; bytes after it stay untouched.
 // The buffer has room for the longest answer, a plan of 1,024 words: 7 bytes for its count and at most 14 for each word.
-ghost use Rattle.answers.specs.Printing.{Shown};
-ghost use Rattle.answers.specs.Lines.{tableBytes, planBytes, hitBytes, missBytes, refusalBytes};
-use crate::lines::line_of_one;
-use crate::lines::line_of_three;
-use crate::lines::line_of_two;
-use crate::lines::miss_line;
-use crate::lines::put_plan;
+ghost use Rattle.printing.specs.Printing.{Shown};
+ghost use Rattle.answers.specs.Answers.{tableBytes, planBytes, hitBytes, missBytes, refusalBytes};
+use crate::writes::miss_line;
+use crate::writes::put_plan;
+use printing::line_of_one;
+use printing::line_of_three;
+use printing::line_of_two;
 
-pub mod lines;
+pub mod writes;
 
 // `N slots`
 pub fn print_table(out: &mut [u8; 14343], slots: u32) -> usize

@@ -1,14 +1,13 @@
 -- Script lines: `T slots`, `I id priority pattern action`, `D id`, `L key`, of at most 256 bytes, fields parted by one space.
 -- Every other line is malformed.
-use mathlib.Core.Path.{_≡_, refl}
-use mathlib.Core.Bool.{Bool, true, false, cond, _&&_}
+use mathlib.Core.Bool.{cond, _&&_}
 use mathlib.Core.List.{List, [], _∷_}
 use Prim.Native.Nat.{ℕ}
 use lib.Dec.{eqb, leb}
 use lib.ListN.{length, getD}
 use Rattle.text.specs.Parts.{parts}
 use Rattle.text.specs.Decimal.{decimal}
-use Rattle.commands.specs.Fields.{isNumber, isPattern, isKey, symbolWords, valueBit, maskBit}
+use Rattle.fields.specs.Fields.{isNumber, isPattern, isKey, symbolWords, valueBit, maskBit}
 use Rattle.records.specs.declared.Rule.{Rule}
 use Rattle.commands.specs.declared.Insertion.{Insertion}
 use Rattle.commands.specs.declared.Query.{Query}

@@ -4,34 +4,19 @@ use mathlib.Core.Path.{_≡_, refl}
 use mathlib.Core.List.{[], _∷_}
 use Rattle.text.specs.Parts.{parts}
 use Rattle.text.specs.Decimal.{every, decimalOn}
-use Rattle.commands.specs.Fields.{isNumber, symbolWord, binary}
+use Rattle.fields.specs.Fields.{isNumber, symbolWord, binary}
 use Rattle.commands.specs.Commands.{commandOf, letterOf, tableCommand, insertCommand, deleteCommand, lookupCommand, shortCommand, longCommand}
-use Rattle.commands.specs.declared.Command.the-variants.{Table, Insert, Delete, Lookup, Malformed}
-
--- `T 6`
-line-table : commandOf (84 ∷ 32 ∷ 54 ∷ []) ≡ Table (record { slots = 6 })
-unfolding commandOf parts letterOf shortCommand longCommand tableCommand insertCommand deleteCommand lookupCommand isNumber every decimalOn symbolWord binary
-line-table = refl
+use Rattle.commands.specs.declared.Command.the-variants.{Table, Insert, Lookup, Malformed}
 
 -- `I 1 30 11* 7`
 line-insert : commandOf (73 ∷ 32 ∷ 49 ∷ 32 ∷ 51 ∷ 48 ∷ 32 ∷ 49 ∷ 49 ∷ 42 ∷ 32 ∷ 55 ∷ []) ≡ Insert (record { id = 1; priority = 30; value = record { high = 0xC000000000000000; low = 0 }; mask = record { high = 0xC000000000000000; low = 0 }; action = 7 })
 unfolding commandOf parts letterOf shortCommand longCommand tableCommand insertCommand deleteCommand lookupCommand isNumber every decimalOn symbolWord binary
 line-insert = refl
 
--- `I 3 25 *1 9`
-line-star-first : commandOf (73 ∷ 32 ∷ 51 ∷ 32 ∷ 50 ∷ 53 ∷ 32 ∷ 42 ∷ 49 ∷ 32 ∷ 57 ∷ []) ≡ Insert (record { id = 3; priority = 25; value = record { high = 0x4000000000000000; low = 0 }; mask = record { high = 0x4000000000000000; low = 0 }; action = 9 })
-unfolding commandOf parts letterOf shortCommand longCommand tableCommand insertCommand deleteCommand lookupCommand isNumber every decimalOn symbolWord binary
-line-star-first = refl
-
 -- `I 7 20 0 3`
 line-zero-cared-for : commandOf (73 ∷ 32 ∷ 55 ∷ 32 ∷ 50 ∷ 48 ∷ 32 ∷ 48 ∷ 32 ∷ 51 ∷ []) ≡ Insert (record { id = 7; priority = 20; value = record { high = 0; low = 0 }; mask = record { high = 0x8000000000000000; low = 0 }; action = 3 })
 unfolding commandOf parts letterOf shortCommand longCommand tableCommand insertCommand deleteCommand lookupCommand isNumber every decimalOn symbolWord binary
 line-zero-cared-for = refl
-
--- `D 2`
-line-delete : commandOf (68 ∷ 32 ∷ 50 ∷ []) ≡ Delete (record { id = 2 })
-unfolding commandOf parts letterOf shortCommand longCommand tableCommand insertCommand deleteCommand lookupCommand isNumber every decimalOn symbolWord binary
-line-delete = refl
 
 -- `L 0101`
 line-lookup : commandOf (76 ∷ 32 ∷ 48 ∷ 49 ∷ 48 ∷ 49 ∷ []) ≡ Lookup (record { key = record { high = 0x5000000000000000; low = 0 } })
@@ -42,11 +27,6 @@ line-lookup = refl
 line-ten-digits : commandOf (84 ∷ 32 ∷ 48 ∷ 48 ∷ 48 ∷ 48 ∷ 48 ∷ 48 ∷ 48 ∷ 48 ∷ 48 ∷ 54 ∷ []) ≡ Table (record { slots = 6 })
 unfolding commandOf parts letterOf shortCommand longCommand tableCommand insertCommand deleteCommand lookupCommand isNumber every decimalOn symbolWord binary
 line-ten-digits = refl
-
--- `T 4294967295`
-line-largest : commandOf (84 ∷ 32 ∷ 52 ∷ 50 ∷ 57 ∷ 52 ∷ 57 ∷ 54 ∷ 55 ∷ 50 ∷ 57 ∷ 53 ∷ []) ≡ Table (record { slots = 4294967295 })
-unfolding commandOf parts letterOf shortCommand longCommand tableCommand insertCommand deleteCommand lookupCommand isNumber every decimalOn symbolWord binary
-line-largest = refl
 
 -- `T 4294967296`
 line-too-large : commandOf (84 ∷ 32 ∷ 52 ∷ 50 ∷ 57 ∷ 52 ∷ 57 ∷ 54 ∷ 55 ∷ 50 ∷ 57 ∷ 54 ∷ []) ≡ Malformed
@@ -68,11 +48,6 @@ line-two-spaces : commandOf (84 ∷ 32 ∷ 32 ∷ 54 ∷ []) ≡ Malformed
 unfolding commandOf parts letterOf shortCommand longCommand tableCommand insertCommand deleteCommand lookupCommand isNumber every decimalOn symbolWord binary
 line-two-spaces = refl
 
--- ` T 6`
-line-space-first : commandOf (32 ∷ 84 ∷ 32 ∷ 54 ∷ []) ≡ Malformed
-unfolding commandOf parts letterOf shortCommand longCommand tableCommand insertCommand deleteCommand lookupCommand isNumber every decimalOn symbolWord binary
-line-space-first = refl
-
 -- `T 6 `
 line-space-last : commandOf (84 ∷ 32 ∷ 54 ∷ 32 ∷ []) ≡ Malformed
 unfolding commandOf parts letterOf shortCommand longCommand tableCommand insertCommand deleteCommand lookupCommand isNumber every decimalOn symbolWord binary
@@ -82,11 +57,6 @@ line-space-last = refl
 line-return-last : commandOf (84 ∷ 32 ∷ 54 ∷ 13 ∷ []) ≡ Malformed
 unfolding commandOf parts letterOf shortCommand longCommand tableCommand insertCommand deleteCommand lookupCommand isNumber every decimalOn symbolWord binary
 line-return-last = refl
-
--- `T a tab 6`
-line-tab : commandOf (84 ∷ 9 ∷ 54 ∷ []) ≡ Malformed
-unfolding commandOf parts letterOf shortCommand longCommand tableCommand insertCommand deleteCommand lookupCommand isNumber every decimalOn symbolWord binary
-line-tab = refl
 
 -- `L 1*`
 line-star-in-key : commandOf (76 ∷ 32 ∷ 49 ∷ 42 ∷ []) ≡ Malformed
@@ -102,8 +72,3 @@ line-field-missing = refl
 line-field-more : commandOf (73 ∷ 32 ∷ 49 ∷ 32 ∷ 51 ∷ 48 ∷ 32 ∷ 49 ∷ 49 ∷ 42 ∷ 32 ∷ 55 ∷ 32 ∷ 55 ∷ []) ≡ Malformed
 unfolding commandOf parts letterOf shortCommand longCommand tableCommand insertCommand deleteCommand lookupCommand isNumber every decimalOn symbolWord binary
 line-field-more = refl
-
--- `t 6`
-line-small-letter : commandOf (116 ∷ 32 ∷ 54 ∷ []) ≡ Malformed
-unfolding commandOf parts letterOf shortCommand longCommand tableCommand insertCommand deleteCommand lookupCommand isNumber every decimalOn symbolWord binary
-line-small-letter = refl

@@ -11,11 +11,11 @@ use lib.Seq.{take-all}
 use borrow.Author.Tests.{lt-leb, le-leb, ltb-true}
 use Rattle.search.specs.Search.{and-left, and-right}
 use Rattle.text.specs.Parts.{firstPart, first-take, parts, parts-last, parts-more, parts-some}
-use Rattle.commands.specs.Fields.{isNumber, numberIn, isPattern, symbolWords, valueBit, maskBit}
-use Rattle.commands.specs.FieldLaws.{number-told, number-test}
-use Rattle.commands.specs.Commands.{afterLetter, insertCommand, letterOf, commandOf}
-use Rattle.commands.specs.declared.TwoWords.{TwoWords}
-use Rattle.commands.specs.declared.Command.the-variants.{Insert, Malformed}
+use Rattle.fields.specs.Fields.{isNumber, numberIn, isPattern, isKey, symbolWords, valueBit, maskBit}
+use Rattle.fields.specs.FieldLaws.{number-told, number-test}
+use Rattle.commands.specs.Commands.{afterLetter, insertCommand, lookupCommand, letterOf, commandOf}
+use Rattle.fields.specs.declared.TwoWords.{TwoWords}
+use Rattle.commands.specs.declared.Command.the-variants.{Insert, Lookup, Malformed}
 
 -- what stands after the space at a place
 abbrev pub tail : List ℕ → ℕ → List ℕ
@@ -113,3 +113,13 @@ module _ (id priority pattern action : List ℕ) (i p a : ℕ) (good : Bool)
   pub insert-bad : tested ≡ false → Malformed ≡ insertCommand id priority pattern action
   unfolding insertCommand
   insert-bad t = rw (sym tested-is ∙ t)
+
+-- The key of a lookup, as the code has it.
+pub lookup-good : (key : List ℕ) (good : Bool) (words : TwoWords) → good ≡ isKey key → words ≡ symbolWords valueBit key → good ≡ true
+    → Lookup (record { key = words }) ≡ lookupCommand key
+unfolding lookupCommand
+lookup-good key good words h e t = rw (sym h ∙ t) (λ k. Lookup (record { key = e k }))
+
+pub lookup-bad : (key : List ℕ) (good : Bool) → good ≡ isKey key → good ≡ false → Malformed ≡ lookupCommand key
+unfolding lookupCommand
+lookup-bad key good h t = rw (sym h ∙ t)

@@ -4,13 +4,12 @@ ghost use mathlib.Core.Path.{_≡_};
 ghost use mathlib.Core.List.{_∷_};
 ghost use Rattle.text.specs.Parts.{parts};
 ghost use Rattle.commands.specs.Commands.{ruleOf, keyOf, letterOf, tableCommand, insertCommand, deleteCommand, lookupCommand, shortCommand, afterLetter, commandOf};
-use crate::fields::is_symbol_field;
-use crate::fields::number_in;
-use crate::fields::symbol_words;
+use fields::TwoWords;
+use fields::is_symbol_field;
+use fields::number_in;
+use fields::symbol_words;
 use records::Rule;
 use text::part_end;
-
-pub mod fields;
 
 // What a T line tells: the slots of the new table.
 pub struct NewTable {
@@ -20,12 +19,6 @@ pub struct NewTable {
 // What a D line tells: the id to delete.
 pub struct Deletion {
     pub id: u32,
-}
-
-// 128 bits as two words.
-pub struct TwoWords {
-    pub high: u64,
-    pub low: u64,
 }
 
 // What an I line tells: the rule to insert, in numbers, since no enum may hold an array.

@@ -1,19 +1,18 @@
 -- Reading in blocks: however the input is cut, the lines handed out, with their numbers, are those of the whole input.
 -- Stated over any handler of lines, so that what the program prints and the last table are those of the whole input.
 use mathlib.Core.Path.{_≡_, refl, sym, ap, ap₂, _∙_, subst}
-use mathlib.Core.Bool.{Bool, true, false, cond}
+use mathlib.Core.Bool.{true, cond}
 use mathlib.Core.List.{List, [], _∷_, _++_, append-assoc, append-nil}
 use Prim.Native.Nat.{ℕ, zero, suc, _+_, _-_, _≤_, _<_, min}
 use native.Mathlib.Omega.{arith}
 use native.Mathlib.Decide.{ℕ-discrete, decLt, decLe}
 use lib.Dec.{eqb, ltb}
 use lib.ListN.{length, take, drop, length-append, length-drop, drop-of-length-le}
-use lib.Seq.{paste, length-paste, take-paste, take-all, drop-append-le, drop-drop, drop-append-add}
+use lib.Seq.{length-paste, take-paste, take-all, drop-append-le, drop-drop, drop-append-add, take-take, append-snoc}
 use borrow.Author.Tests.{lt-ltb, le-ltb, eq-eqb, ne-eqb}
-use Rattle.text.specs.Parts.{firstPart, first-le, first-take, first-append, first-in, first-all, first-unparted, unparted, unparted-first, unparted-append}
+use Rattle.text.specs.Parts.{firstPart, first-append, first-in, first-all, first-unparted, unparted, unparted-first, unparted-append}
 use Rattle.lines.specs.Lines.{linesOf, lines-more, lines-last, nextNumber}
 use Rattle.lines.specs.Held.{room, heldLine, takenOf, standing}
-use Rattle.lines.specs.declared.Taken.{Taken}
 
 -- all bytes of the blocks, one block after the other
 unfoldable pub whole : List (List ℕ) → List ℕ
@@ -272,3 +271,34 @@ module _ {S : Type 0} (run : S → ℕ → List ℕ → Outcome S) (short : (tab
       (ap (λ (x : List ℕ). ahead first (linesOf x)) (sym (append-nil (whole blocks)))
       ∙ (there .same []
       ∙ (ap (λ (x : List ℕ). ahead (blocksRead run first blocks) (linesOf x)) (append-nil (there .left)) ∙ finished-law (blocksRead run first blocks) (there .left) (there .begun))))
+
+-- The lines handed out themselves: what is known of each is its number and its first 257 bytes.
+pub record Handed : Type 0 where
+  pub number : ℕ
+  pub bytes : List ℕ
+
+-- lines with their numbers, the first with this one
+unfoldable pub numbered : ℕ → List (List ℕ) → List Handed
+numbered number [] = []
+numbered number (line ∷ lines) = record { number = number; bytes = take 257 line } ∷ numbered (nextNumber number) lines
+
+-- a handler that lists what it is handed
+abbrev pub listing : List Handed → ℕ → List ℕ → Outcome (List Handed)
+listing handed number line = record { table = handed ++ record { number = number; bytes = take 257 line } ∷ []; printed = [] }
+
+listing-law : (handed : List Handed) (number : ℕ) (lines : List (List ℕ)) → answered listing handed number lines .table ≡ handed ++ numbered number lines
+unfolding answered numbered
+listing-law handed number [] = sym (append-nil handed)
+listing-law handed number (line ∷ lines) =
+    listing-law (handed ++ record { number = number; bytes = take 257 line } ∷ []) (nextNumber number) lines
+    ∙ append-snoc handed (record { number = number; bytes = take 257 line }) (numbered (nextNumber number) lines)
+
+-- however the input is cut, they are the lines of the whole input, numbered from 1
+pub blocks-hand-out : (line : List ℕ) (blocks : List (List ℕ)) → length line ≡ 257
+    → finished listing (blocksRead listing (started listing [] line) blocks) .table ≡ numbered 1 (linesOf (whole blocks))
+blocks-hand-out line blocks h =
+    ap (λ (o : Outcome (List Handed)). o .table) (blocks-as-whole listing cut [] line blocks h) ∙ listing-law [] 1 (linesOf (whole blocks))
+  where
+    cut : (handed : List Handed) (number : ℕ) (line : List ℕ) → listing handed number (take 257 line) ≡ listing handed number line
+    cut handed number line =
+        ap (λ (b : List ℕ). record { table = handed ++ record { number = number; bytes = b } ∷ []; printed = [] }) (take-take 257 257 line (omega arith))

@@ -1,11 +1,8 @@
 // Lines out of blocks of bytes, however the input is cut into blocks: one line is held at a time, and each has its number.
 // The program lends a buffer with one byte more than a line may have, so that a longer line is known by the bytes held.
 ghost use mathlib.Core.Path.{_≡_};
-ghost use mathlib.Core.Bool.{not};
-ghost use Prim.Native.Nat.{ℕ, _+_, _-_, _≤_, min};
-ghost use lib.Dec.{eqb};
+ghost use Prim.Native.Nat.{_+_, _-_};
 ghost use lib.ListN.{length, drop};
-ghost use lib.Seq.{paste};
 ghost use Rattle.text.specs.Parts.{firstPart};
 ghost use Rattle.lines.specs.Lines.{nextNumber};
 ghost use Rattle.lines.specs.Held.{room, takenOf, heldLine, standing};

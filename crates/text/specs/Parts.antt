@@ -1,11 +1,11 @@
 -- The parts of a text between separators: lines between newlines, fields between spaces.
 -- The laws say the plain thing: no part holds the separator, and the parts joined by it are the text.
 use mathlib.Core.Path.{_≡_, refl, sym, ap, ap₂, _∙_}
-use mathlib.Core.Bool.{Bool, true, false, not, cond, _&&_, true≢false, false≢true}
-use mathlib.Core.Logic.{_⊎_, ⊎-elim}
+use mathlib.Core.Bool.{Bool, true, false, not, cond, _&&_, false≢true}
+use mathlib.Core.Logic.{_⊎_}
 use mathlib.Core.Logic._⊎_.{inl, inr}
 use mathlib.Core.List.{List, [], _∷_, _++_, append-nil}
-use Prim.Native.Nat.{ℕ, zero, suc, _+_, _-_, _≤_, _<_}
+use Prim.Native.Nat.{ℕ, zero, suc, _+_, _≤_, _<_}
 use native.Mathlib.Omega.{arith}
 use native.Mathlib.Numerals.{add-one}
 use lib.Dec.{eqb}
@@ -39,6 +39,15 @@ unfoldable pub joined : ℕ → List (List ℕ) → List ℕ
 joined s [] = []
 joined s (p ∷ []) = p
 joined s (p ∷ q ∷ ps) = p ++ s ∷ joined s (q ∷ ps)
+
+-- `a  b` has an empty part between its two spaces; a text that ends in a separator ends in an empty part
+example-two-spaces : parts 32 (97 ∷ 32 ∷ 32 ∷ 98 ∷ []) ≡ (97 ∷ []) ∷ [] ∷ (98 ∷ []) ∷ []
+unfolding parts
+example-two-spaces = refl
+
+example-last : parts 32 (97 ∷ 32 ∷ []) ≡ (97 ∷ []) ∷ [] ∷ []
+unfolding parts
+example-last = refl
 
 -- Where the first part ends there is the text's end or a separator.
 module _ (s : ℕ) where

@@ -1,10 +1,9 @@
 -- `answers::print_hit` meets its contract.
 -- Three numbers of 32 bits have at most 30 digits.
 use native.Mathlib.Omega.{arith}
-use mathlib.Core.List.{[], _∷_}
-use Rattle.answers.specs.Lines.{hitBytes}
-use Rattle.answers.specs.Printing.{shown}
-use Rattle.answers.specs.Room.{length-three, digits-10}
+use Rattle.answers.specs.Answers.{hitBytes}
+use Rattle.printing.specs.Printing.{shown}
+use Rattle.printing.specs.Lines.{length-three, digits-10}
 use Rattle.answers.proofs.print_hit.Statement.{statement}
 use Rattle.answers.proofs.print_hit.Tie as tie
 

@@ -1,9 +1,7 @@
 -- `answers::print_plan` meets its contract.
 -- The buffer has room for the longest plan.
-use mathlib.Core.List.{[], _∷_}
-use Rattle.answers.specs.Lines.{planBytes}
-use Rattle.answers.specs.Printing.{shown}
-use Prim.Native.Nat.{ℕ}
+use Rattle.answers.specs.Answers.{planBytes}
+use Rattle.printing.specs.Printing.{shown}
 use borrow.Author.Needs.{needs}
 use Rattle.answers.proofs.print_plan.Statement.{statement}
 use Rattle.answers.proofs.print_plan.Tie as tie

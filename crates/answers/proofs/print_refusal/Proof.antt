@@ -1,10 +1,9 @@
 -- `answers::print_refusal` meets its contract.
 -- A number of 32 bits and one of 64 bits have at most 30 digits.
 use native.Mathlib.Omega.{arith}
-use mathlib.Core.List.{[], _∷_}
-use Rattle.answers.specs.Lines.{refusalBytes}
-use Rattle.answers.specs.Printing.{shown}
-use Rattle.answers.specs.Room.{length-two, digits-10, digits-20}
+use Rattle.answers.specs.Answers.{refusalBytes}
+use Rattle.printing.specs.Printing.{shown}
+use Rattle.printing.specs.Lines.{length-two, digits-10, digits-20}
 use Rattle.answers.proofs.print_refusal.Statement.{statement}
 use Rattle.answers.proofs.print_refusal.Tie as tie
 

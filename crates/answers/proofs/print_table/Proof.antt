@@ -1,10 +1,9 @@
 -- `answers::print_table` meets its contract.
 -- A number of 32 bits has at most 10 digits.
 use native.Mathlib.Omega.{arith}
-use mathlib.Core.List.{[], _∷_}
-use Rattle.answers.specs.Lines.{tableBytes}
-use Rattle.answers.specs.Printing.{shown}
-use Rattle.answers.specs.Room.{length-one, digits-10}
+use Rattle.answers.specs.Answers.{tableBytes}
+use Rattle.printing.specs.Printing.{shown}
+use Rattle.printing.specs.Lines.{length-one, digits-10}
 use Rattle.answers.proofs.print_table.Statement.{statement}
 use Rattle.answers.proofs.print_table.Tie as tie
 

@@ -1,7 +1,7 @@
 -- `commands::after_id` meets its contract.
 -- One field is left, which makes three in all, or more.
 use native.Mathlib.Omega.{arith}
-use mathlib.Core.Path.{_≡_, sym, ap, _∙_}
+use mathlib.Core.Path.{sym, ap, _∙_}
 use mathlib.Core.List.{List, _∷_}
 use Prim.Native.Nat.{ℕ}
 use lib.Seq.{length-take-le}

@@ -1,7 +1,7 @@
 -- `commands::after_letter` meets its contract.
 -- One field is left, or more.
 use native.Mathlib.Omega.{arith}
-use mathlib.Core.Path.{_≡_, sym, ap, _∙_}
+use mathlib.Core.Path.{sym, ap, _∙_}
 use lib.Seq.{length-take-le}
 use Rattle.commands.specs.Commands.{afterLetter}
 use Rattle.commands.specs.LineLaws.{one-field, more-fields}

@@ -1,8 +1,7 @@
 -- `commands::delete_command` meets its contract.
 -- A number that fits is the field's number.
-use mathlib.Core.Path.{_≡_}
 use Rattle.commands.specs.Commands.{deleteCommand}
-use Rattle.commands.specs.FieldLaws.{number-told, number-untold}
+use Rattle.fields.specs.FieldLaws.{number-told, number-untold}
 use Rattle.commands.specs.declared.Command.the-variants.{Delete}
 use borrow.Author.Needs.{needs}
 use Rattle.commands.proofs.delete_command.Statement.{statement}

@@ -1,8 +1,6 @@
 -- `commands::insert_command` meets its contract.
 -- The tests are the definition's in another order, and each number that fits is its field's.
-use mathlib.Core.Bool.{true}
-use mathlib.Core.Path.{_≡_}
-use Rattle.commands.specs.LineLaws.{tested, insert-fits, insert-good, insert-bad}
+use Rattle.commands.specs.LineLaws.{insert-fits, insert-good, insert-bad}
 use native.Mathlib.Omega.{arith}
 use borrow.Author.Needs.{needs}
 use Rattle.commands.proofs.insert_command.Statement.{statement}

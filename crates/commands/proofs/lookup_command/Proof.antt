@@ -1,8 +1,6 @@
 -- `commands::lookup_command` meets its contract.
 -- The test and the words are the definition's.
-use mathlib.Core.Path.{_≡_, sym, _∙_}
-use Rattle.commands.specs.Commands.{lookupCommand}
-use Rattle.commands.specs.declared.Command.the-variants.{Lookup}
+use Rattle.commands.specs.LineLaws.{lookup-good, lookup-bad}
 use borrow.Author.Needs.{needs}
 use Rattle.commands.proofs.lookup_command.Statement.{statement}
 use Rattle.commands.proofs.lookup_command.Tie as tie
@@ -14,12 +12,12 @@ symbol-words-requires : tie.Need-symbol-words-requires
 symbol-words-requires c κs = search needs
 
 returns : tie.Need-returns
-unfolding lookupCommand
-returns c = rw (sym (c .before .before .is-symbol-field .ensures) ∙ c .before .if1 .taken) (λ i. Lookup (record { key = c .symbol-words .ensures i }))
+returns c =
+    lookup-good (c .before .before .before .before .args .key .now) (c .before .before .is-symbol-field .result) (c .symbol-words .result)
+    (c .before .before .is-symbol-field .ensures) (c .symbol-words .ensures) (c .before .if1 .taken)
 
 returns-2 : tie.Need-returns-2
-unfolding lookupCommand
-returns-2 c = rw (sym (c .before .is-symbol-field .ensures) ∙ c .if1 .left)
+returns-2 c = lookup-bad (c .before .before .before .args .key .now) (c .before .is-symbol-field .result) (c .before .is-symbol-field .ensures) (c .if1 .left)
 
 pub lookup-command-spec : {M : Type 1} → statement M
 lookup-command-spec =

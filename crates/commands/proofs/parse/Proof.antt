@@ -1,7 +1,7 @@
 -- `commands::parse` meets its contract.
 -- A line that is too long, one of one field, or a letter and what follows it.
 use native.Mathlib.Omega.{arith}
-use mathlib.Core.Path.{_≡_, sym, _∙_}
+use mathlib.Core.Path.{sym, _∙_}
 use lib.Seq.{length-take-le}
 use Rattle.commands.specs.LineLaws.{line-long, line-one, line-more}
 use borrow.Author.Needs.{needs}

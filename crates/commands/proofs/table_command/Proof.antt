@@ -1,8 +1,7 @@
 -- `commands::table_command` meets its contract.
 -- A number that fits is the field's number.
-use mathlib.Core.Path.{_≡_}
 use Rattle.commands.specs.Commands.{tableCommand}
-use Rattle.commands.specs.FieldLaws.{number-told, number-untold}
+use Rattle.fields.specs.FieldLaws.{number-told, number-untold}
 use Rattle.commands.specs.declared.Command.the-variants.{Table}
 use borrow.Author.Needs.{needs}
 use Rattle.commands.proofs.table_command.Statement.{statement}

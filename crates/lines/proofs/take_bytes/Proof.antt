@@ -1,8 +1,6 @@
 -- `lines::take_bytes` meets its contract.
 -- The part up to the newline is held; each return is one of the ways in which taking bytes ends.
 use mathlib.Core.Path.{_∙_, ap}
-use mathlib.Core.List.{List}
-use Prim.Native.Nat.{ℕ}
 use Rattle.lines.specs.Held.{heldLine, taken-nothing, held-nothing, part-within, part-taken, taken-line, taken-rest}
 use borrow.Author.Needs.{needs}
 use Rattle.lines.proofs.take_bytes.Statement.{statement}
