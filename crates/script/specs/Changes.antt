@@ -33,13 +33,13 @@ use Rattle.histories.specs.Demand2.{demand-2-insert, demand-2-delete, insert-ma
 use Rattle.histories.specs.Histories.{Reached, reached-lookup}
 use Rattle.lines.specs.Lines.{nextNumber}
 use Rattle.lines.specs.Blocks.{Outcome, answered}
-use Rattle.commands.specs.Fields.{isNumber, isPattern, isKey, symbolWords, valueBit, maskBit}
-use Rattle.commands.specs.FieldLaws.{number-is}
+use Rattle.fields.specs.Fields.{isNumber, isPattern, isKey, symbolWords, valueBit, maskBit}
+use Rattle.fields.specs.FieldLaws.{number-is}
 use Rattle.commands.specs.Commands.{commandOf, ruleOf, keyOf, tableCommand, insertCommand, deleteCommand, lookupCommand, shortCommand, longCommand, letterOf, ofFields}
 use Rattle.commands.specs.declared.Query.{Query}
 use Rattle.commands.specs.declared.Command.{Command}
 use Rattle.commands.specs.declared.Command.the-variants.{Table, Insert, Delete, Lookup, Malformed}
-use Rattle.answers.specs.Lines.{hitBytes, missBytes, refusalBytes}
+use Rattle.answers.specs.Answers.{hitBytes, missBytes, refusalBytes}
 use Rattle.script.specs.Script.{refused, lookupBytes, tableOutcome, insertOutcome, deleteOutcome, commandOutcome, lineOutcome, noRule}
 
 -- an insert that a line tells has an action of 32 bits

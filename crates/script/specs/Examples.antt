@@ -23,9 +23,9 @@ use Rattle.table.specs.Lookup.{hitAt, matchTold, lookupAnswer}
 use Rattle.table.specs.Deletes.{hasId, slotOfId, checkId, checkUnknown, deleteChecks}
 use Rattle.lines.specs.Lines.{lastKept, linesOf}
 use Rattle.lines.specs.Blocks.{answered}
-use Rattle.commands.specs.Fields.{isNumber, binary, symbolWord}
+use Rattle.fields.specs.Fields.{isNumber, binary, symbolWord}
 use Rattle.commands.specs.Commands.{letterOf, tableCommand, insertCommand, deleteCommand, lookupCommand, shortCommand, longCommand, commandOf}
-use Rattle.answers.specs.Lines.{printedWrites, planBytes}
+use Rattle.answers.specs.Answers.{printedWrites, planBytes}
 use Rattle.script.specs.Script.{tableOutcome, insertOutcome, deleteOutcome}
 use Rattle.script.specs.Whole.{scriptOutcome}
 

@@ -29,8 +29,8 @@ use Rattle.carrying.specs.Calls.{afterCalls}
 use Rattle.histories.specs.Histories.{emptyTable}
 use Rattle.histories.specs.Demand2.{insert-made, delete-made}
 use Rattle.lines.specs.Blocks.{Outcome}
-use Rattle.answers.specs.Lines.{tableBytes, planBytes, refusalBytes}
-use Rattle.answers.specs.Printing.{Shown}
+use Rattle.answers.specs.Answers.{tableBytes, planBytes, refusalBytes}
+use Rattle.printing.specs.Printing.{Shown}
 use Rattle.script.specs.declared.Ran.{Ran}
 use Rattle.script.specs.Script.{outcome, refused, lookupBytes, changeOutcome, planOutcome, insertOutcome, deleteOutcome, tableOutcome, noRule, tableIn, Within, Changed, Left}
 

@@ -7,7 +7,7 @@ use Prim.Native.Nat.{ℕ}
 use lib.ListN.{length, drop}
 use Rattle.lines.specs.Held.{takenOf}
 use Rattle.lines.specs.Blocks.{Reading, taking, handedOut}
-use Rattle.answers.specs.Printing.{Shown}
+use Rattle.printing.specs.Printing.{Shown}
 use Rattle.script.specs.Script.{lineOutcome, tableIn}
 use Rattle.script.specs.declared.reading.Place.{Place}
 use Rattle.script.specs.declared.reading.Turn.{Turn}

@@ -13,7 +13,7 @@ use Rattle.lines.specs.Lines.{nextNumber}
 use Rattle.lines.specs.Held.{takenOf, heldLine, standing}
 use Rattle.lines.specs.declared.Taken.{Taken}
 use Rattle.lines.specs.Blocks.{Reading, Outcome, taking, handedOut, finished}
-use Rattle.answers.specs.Printing.{Shown}
+use Rattle.printing.specs.Printing.{Shown}
 use Rattle.script.specs.declared.Ran.{Ran}
 use Rattle.script.specs.declared.reading.Place.{Place}
 use Rattle.script.specs.declared.reading.Turn.{Turn}

@@ -23,8 +23,9 @@ use Rattle.lines.specs.Blocks.{Outcome}
 use Rattle.commands.specs.Commands.{commandOf, ruleOf, keyOf}
 use Rattle.commands.specs.declared.Command.{Command}
 use Rattle.commands.specs.declared.Command.the-variants.{Table, Insert, Delete, Lookup, Malformed}
-use Rattle.answers.specs.Lines.{printed, tableBytes, planBytes, missBytes, refusalBytes}
-use Rattle.answers.specs.Printing.{Shown}
+use Rattle.printing.specs.Lines.{printed}
+use Rattle.answers.specs.Answers.{tableBytes, planBytes, missBytes, refusalBytes}
+use Rattle.printing.specs.Printing.{Shown}
 use Rattle.script.specs.declared.Ran.{Ran}
 
 -- a table afterwards, and the bytes printed

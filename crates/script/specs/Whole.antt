@@ -17,7 +17,7 @@ use Rattle.lines.specs.Lines.{linesOf}
 use Rattle.lines.specs.Held.{takenOf, standing}
 use Rattle.lines.specs.Blocks.{Reading, Outcome, whole, answered, started, taking, handedOut, turns, blocksRead, finished, outcome, blocks-as-whole}
 use Rattle.commands.specs.Laws.{command-short}
-use Rattle.answers.specs.Printing.{Shown}
+use Rattle.printing.specs.Printing.{Shown}
 use Rattle.script.specs.declared.reading.Place.{Place}
 use Rattle.script.specs.declared.reading.Turn.{Turn}
 use Rattle.script.specs.Script.{commandOutcome, lineOutcome, tableIn}

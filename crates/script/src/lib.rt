@@ -27,8 +27,8 @@ ghost use lib.ListN.{length, replicate};
 ghost use Rattle.records.specs.Checks.{causeNumber};
 ghost use Rattle.records.specs.Record.{word};
 ghost use Rattle.table.specs.Lookup.{lookupAnswer};
-ghost use Rattle.answers.specs.Printing.{Shown};
-ghost use Rattle.answers.specs.Lines.{refusalBytes};
+ghost use Rattle.printing.specs.Printing.{Shown};
+ghost use Rattle.answers.specs.Answers.{refusalBytes};
 ghost use Rattle.script.specs.Script.{lookupBytes, planOutcome, insertOutcome, deleteOutcome, tableOutcome, lookupOutcome, commandOutcome, lineOutcome, tableIn, Within, Changed, Left};
 ghost use Rattle.table.specs.Plans.{planTold};
 

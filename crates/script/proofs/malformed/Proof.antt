@@ -2,7 +2,7 @@
 -- The number printed is that of a malformed line.
 use mathlib.Core.Path.{refl, ap}
 use Prim.Native.Nat.{ℕ}
-use Rattle.answers.specs.Lines.{refusalBytes}
+use Rattle.answers.specs.Answers.{refusalBytes}
 use Rattle.script.specs.Laws.{shown-is}
 use borrow.Author.Needs.{needs}
 use Rattle.script.proofs.malformed.Statement.{statement}

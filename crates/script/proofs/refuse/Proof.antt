@@ -2,7 +2,7 @@
 -- The number printed is the cause's.
 use mathlib.Core.Path.{ap}
 use Prim.Native.Nat.{ℕ}
-use Rattle.answers.specs.Lines.{refusalBytes}
+use Rattle.answers.specs.Answers.{refusalBytes}
 use Rattle.script.specs.Laws.{shown-is}
 use borrow.Author.Needs.{needs}
 use Rattle.script.proofs.refuse.Statement.{statement}
