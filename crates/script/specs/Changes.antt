@@ -30,7 +30,7 @@ use Rattle.table.specs.Inserts.{insertWords}
 use Rattle.table.specs.Deletes.{deleteChecks, deleteWords}
 use Rattle.histories.specs.RuleSet.{Change, insert, delete, ruleSet, highestMatch, ruleReply}
 use Rattle.histories.specs.Demand2.{demand-2-insert, demand-2-delete, insert-made, delete-made}
-use Rattle.histories.specs.Histories.{Reached, reached-lookup}
+use Rattle.histories.specs.Histories.{Reached, reached-sound, reached-lookup}
 use Rattle.lines.specs.Lines.{nextNumber}
 use Rattle.lines.specs.Blocks.{Outcome, answered}
 use Rattle.fields.specs.Fields.{isNumber, isPattern, isKey, symbolWords, valueBit, maskBit}
@@ -206,6 +206,15 @@ lines-since (line ∷ lines) history t number since =
 -- Every table of a script, after any of its first lines: without slots, or reached by the changes accepted since the last good T.
 pub script-since : (lines : List (List ℕ)) → Since (historyOf [] 1 [] lines) (answered lineOutcome [] 1 lines .table)
 script-since lines = lines-since lines [] [] 1 (inl (refl, refl))
+
+-- so once there is a table it passes checks 1 to 4: 2, 3 and 4 are never printed, and 1 only before a good T or for a T
+pub script-sound : (lines : List (List ℕ)) → (answered lineOutcome [] 1 lines .table ≡ []) ⊎ (tableChecks 2 (answered lineOutcome [] 1 lines .table) ≡ Pass)
+script-sound lines = pick (script-since lines)
+  where
+    pick : Since (historyOf [] 1 [] lines) (answered lineOutcome [] 1 lines .table)
+        → (answered lineOutcome [] 1 lines .table ≡ []) ⊎ (tableChecks 2 (answered lineOutcome [] 1 lines .table) ≡ Pass)
+    pick (inl (e, f)) = inl e
+    pick (inr reached) = inr (reached-sound reached)
 
 -- what an L line prints by the highest-priority match among the rules: `A slot id action` with some slot, or `M`
 abbrev pub AnswerOf : Option Rule → List ℕ → Type 0
