@@ -5,7 +5,7 @@ ghost use mathlib.Core.Bool.{true};
 ghost use mathlib.Core.List.{List};
 ghost use Prim.Native.Nat.{ℕ, _≤_};
 ghost use lib.ListN.{length};
-ghost use Rattle.script.specs.Whole.{Read, Through, keeping, opening};
+ghost use Rattle.script.specs.Whole.{Ended, Read, Through, keeping, opening};
 use script::reading::Place;
 use script::reading::last_turn;
 use script::reading::take_turn;
@@ -96,12 +96,21 @@ fn read_blocks(memory: &mut [u64; 6144], line: &mut [u8], out: &mut [u8; 14343])
 }
 
 // Reads the whole script; a read or a write that fails ends it.
-fn run(memory: &mut [u64; 6144], line: &mut [u8], out: &mut [u8; 14343]) {
+fn run(memory: &mut [u64; 6144], line: &mut [u8; 257], out: &mut [u8; 14343]) -> Went
+    ensures { λ r. ⌜ (r .well ≡ true → Ended (opening (now (memory .entry)) (now (line .entry))) (now (memory .exit)) (now (out .exit)) (r .place .slots)) ⌝ }
+{
     let went = read_blocks(memory, line, out);
     if went.well {
         let turn = last_turn(memory, line, went.place, out);
-        write_answer(out, turn.length);
+        let well = write_answer(out, turn.length);
+        let place = turn.place;
+        return Went {
+            place,
+            more: false,
+            well,
+        };
     }
+    went
 }
 
 fn main() {
