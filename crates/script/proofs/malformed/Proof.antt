@@ -1,0 +1,21 @@
+-- `script::malformed` meets its contract.
+-- The number printed is that of a malformed line.
+use mathlib.Core.Path.{refl, ap}
+use Prim.Native.Nat.{ℕ}
+use Rattle.answers.specs.Answers.{refusalBytes}
+use Rattle.script.specs.Laws.{shown-is}
+use borrow.Author.Needs.{needs}
+use Rattle.script.proofs.malformed.Statement.{statement}
+use Rattle.script.proofs.malformed.Tie as tie
+
+cause-number-requires : tie.Need-cause-number-requires
+cause-number-requires c κs = search needs
+
+print-refusal-requires : tie.Need-print-refusal-requires
+print-refusal-requires c κs = search needs
+
+returns : tie.Need-returns
+returns c = (refl, shown-is (ap (λ (n : ℕ). refusalBytes n (c .before .before .before .args .number)) (c .before .cause-number .ensures)) (c .print-refusal .ensures))
+
+pub malformed-spec : {M : Type 1} → statement M
+malformed-spec = tie.close (tie.spec cause-number-requires print-refusal-requires returns)

@@ -1,0 +1,22 @@
+-- `script::reading::last_turn` meets its contract.
+-- A line that stands there is run.
+use denote.Ref.{now}
+use Rattle.script.specs.ReadingLaws.{turned-last, turned-end}
+use borrow.Author.Needs.{needs}
+use Rattle.script.proofs.reading.last_turn.Statement.{statement}
+use Rattle.script.proofs.reading.last_turn.Tie as tie
+
+line-stands-requires : tie.Need-line-stands-requires
+line-stands-requires c κs = search needs
+
+run-held-requires : tie.Need-run-held-requires
+run-held-requires c κs = search needs
+
+returns : tie.Need-returns
+returns c = let a = c .before .before .before .before .before .before .args in turned-last (now (a .memory)) (now (a .line)) (a .place) (c .before .before .before .before .line-stands .ensures) (c .before .before .before .if1 .taken) (c .run-held .ensures)
+
+returns-2 : tie.Need-returns-2
+returns-2 c = let a = c .before .before .before .args in turned-end (now (a .memory)) (now (a .line)) (a .place) (c .before .line-stands .ensures) (now (a .out)) (c .if1 .left)
+
+pub last-turn-spec : {M : Type 1} → statement M
+last-turn-spec = tie.close (tie.spec line-stands-requires run-held-requires returns returns-2)

@@ -1,0 +1,101 @@
+-- `script::run_command` meets its contract.
+-- Each command is what its letter says.
+use mathlib.Core.Path.{sym, ap, _∙_}
+use denote.Ref.{now}
+use Rattle.script.specs.Script.{insertOutcome, lookupOutcome, commandOutcome, tableIn}
+use Rattle.script.specs.Laws.{left-is, left-malformed}
+use borrow.Author.Needs.{needs}
+use Rattle.script.proofs.run_command.Statement.{statement}
+use Rattle.script.proofs.run_command.Tie as tie
+
+enum-known-command : tie.Need-enum-known-command
+enum-known-command c = search needs
+
+new-table-requires : tie.Need-new-table-requires
+new-table-requires c κs = search needs
+
+enum-known-command-2 : tie.Need-enum-known-command-2
+enum-known-command-2 c = search needs
+
+rule-of-requires : tie.Need-rule-of-requires
+rule-of-requires c κs = search needs
+
+insert-in-requires : tie.Need-insert-in-requires
+insert-in-requires c κs = search needs
+
+enum-known-command-3 : tie.Need-enum-known-command-3
+enum-known-command-3 c = search needs
+
+delete-in-requires : tie.Need-delete-in-requires
+delete-in-requires c κs = search needs
+
+enum-known-command-4 : tie.Need-enum-known-command-4
+enum-known-command-4 c = search needs
+
+key-of-requires : tie.Need-key-of-requires
+key-of-requires c κs = search needs
+
+lookup-in-requires : tie.Need-lookup-in-requires
+lookup-in-requires c κs = search needs
+
+enum-told : tie.Need-enum-told
+enum-told c = search needs
+
+malformed-requires : tie.Need-malformed-requires
+malformed-requires c κs = search needs
+
+same-length : tie.Need-same-length
+same-length c = search needs
+
+returns : tie.Need-returns
+returns c = left-is (ap (commandOutcome (tableIn (now (c .before .before .before .before .before .before .before .before .before .args .memory)) (c .before .before .before .before .before .before .before .before .before .args .present)) (c .before .before .before .before .before .before .before .before .before .args .number)) (sym (c .before .before .before .before .before .before .command .given .1))) (c .before .before .new-table .ensures)
+
+same-length-2 : tie.Need-same-length-2
+same-length-2 c = search needs
+
+returns-2 : tie.Need-returns-2
+returns-2 c = left-is (ap (insertOutcome (tableIn (now (c .before .before .before .before .before .before .before .before .before .before .args .memory)) (c .before .before .before .before .before .before .before .before .before .before .args .present))) (c .before .before .before .before .rule-of .ensures) ∙ ap (commandOutcome (tableIn (now (c .before .before .before .before .before .before .before .before .before .before .args .memory)) (c .before .before .before .before .before .before .before .before .before .before .args .present)) (c .before .before .before .before .before .before .before .before .before .before .args .number)) (sym (c .before .before .before .before .before .before .before .command2 .given .1))) (c .before .before .insert-in .ensures)
+
+same-length-3 : tie.Need-same-length-3
+same-length-3 c = search needs
+
+returns-3 : tie.Need-returns-3
+returns-3 c = left-is (ap (commandOutcome (tableIn (now (c .before .before .before .before .before .before .before .before .before .args .memory)) (c .before .before .before .before .before .before .before .before .before .args .present)) (c .before .before .before .before .before .before .before .before .before .args .number)) (sym (c .before .before .before .before .before .before .command3 .given .1))) (c .before .before .delete-in .ensures)
+
+same-length-4 : tie.Need-same-length-4
+same-length-4 c = search needs
+
+returns-4 : tie.Need-returns-4
+returns-4 c = left-is (ap (lookupOutcome (tableIn (now (c .before .before .before .before .before .before .before .before .args .memory)) (c .before .before .before .before .before .before .before .before .args .present))) (c .before .before .key-of .ensures) ∙ ap (commandOutcome (tableIn (now (c .before .before .before .before .before .before .before .before .args .memory)) (c .before .before .before .before .before .before .before .before .args .present)) (c .before .before .before .before .before .before .before .before .args .number)) (sym (c .before .before .before .before .before .command4 .given .1))) (c .lookup-in .ensures)
+
+returns-5 : tie.Need-returns-5
+returns-5 c =
+    let s = c .before .before .before .before .before in
+    left-is (ap (commandOutcome (tableIn (now (s .args .memory)) (s .args .present)) (s .args .number)) (sym (c .before .before .enum-told .given .1)))
+    (left-malformed (now (s .args .memory)) (s .args .present) (s .args .number) (s .pre .0) (s .pre .1) (c .malformed .result) (c .malformed .ensures .0) (c .malformed .ensures .1))
+
+pub run-command-spec : {M : Type 1} → statement M
+run-command-spec =
+    tie.close
+    (tie.spec
+    enum-known-command
+    new-table-requires
+    enum-known-command-2
+    rule-of-requires
+    insert-in-requires
+    enum-known-command-3
+    delete-in-requires
+    enum-known-command-4
+    key-of-requires
+    lookup-in-requires
+    enum-told
+    malformed-requires
+    same-length
+    returns
+    same-length-2
+    returns-2
+    same-length-3
+    returns-3
+    same-length-4
+    returns-4
+    returns-5)

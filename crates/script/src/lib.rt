@@ -1,0 +1,237 @@
+// One line of a script on lent buffers: the table changes as the line says, and the answer is written as bytes.
+// The memory has room for the largest table, the output for the longest answer; the table is the words at the memory's start.
+use answers::print_hit;
+use answers::print_miss;
+use answers::print_plan;
+use answers::print_refusal;
+use answers::print_table;
+use carrying::whole::carry_whole;
+use commands::Command;
+use commands::key_of;
+use commands::parse;
+use commands::rule_of;
+use records::Cause;
+use records::Rule;
+use records::cause_number;
+use lookups::LookupAnswer;
+use plans::PlanAnswer;
+use plans::deletes::plan_delete;
+use table::inserts::plan_insert;
+use lookups::lookup::lookup;
+
+pub mod reading;
+
+ghost use mathlib.Core.Path.{_≡_};
+ghost use Prim.Native.Nat.{_≤_, min};
+ghost use lib.ListN.{length, replicate};
+ghost use Rattle.records.specs.Checks.{causeNumber};
+ghost use Rattle.records.specs.Record.{word};
+ghost use Rattle.lookups.specs.Lookup.{lookupAnswer};
+ghost use Rattle.printing.specs.Printing.{Shown};
+ghost use Rattle.answers.specs.Answers.{refusalBytes};
+ghost use Rattle.script.specs.Script.{lookupBytes, planOutcome, insertOutcome, deleteOutcome, tableOutcome, lookupOutcome, commandOutcome, lineOutcome, tableIn, Within, Changed, Left};
+ghost use Rattle.plans.specs.Plans.{planTold};
+
+// What a line came to: the slots of the table afterwards, and how many bytes the answer has.
+pub struct Ran {
+    pub slots: usize,
+    pub length: usize,
+}
+
+// `R number spot`
+fn refuse(out: &mut [u8; 14343], cause: Cause, spot: u32) -> usize
+    ensures { λ r. ⌜ Shown (now (out .entry)) (refusalBytes (causeNumber cause) spot) r (now (out .exit)) ⌝ }
+{
+    let number = cause_number(cause);
+    print_refusal(out, number, spot as u64)
+}
+
+// An L line.
+fn look_up(table: &[u64], key: [u64; 2], out: &mut [u8; 14343]) -> usize
+    ensures { λ r. ⌜ Shown (now (out .entry)) (lookupBytes (lookupAnswer 2 (now (table .entry)) (word key))) r (now (out .exit)) ⌝ }
+{
+    match lookup(table, key) {
+        LookupAnswer::Found(hit) => print_hit(out, hit.slot, hit.id, hit.action),
+        LookupAnswer::Miss => print_miss(out),
+        LookupAnswer::Refused(cause, spot) => refuse(out, cause, spot),
+    }
+}
+
+// A plan carried out in full and printed, or the refusal of the planning call.
+fn carry_and_print(
+    answer: PlanAnswer,
+    table: &mut [u64],
+    plan: &[u32],
+    rule: Rule,
+    out: &mut [u8; 14343],
+) -> usize
+    requires { ⌜ Within (planTold answer) (length (now plan)) ⌝ }
+    ensures { λ r. ⌜ Changed (planOutcome (planTold answer) (now (table .entry)) (now (plan .entry)) rule) r (now (table .exit)) (now (out .entry)) (now (out .exit)) ⌝ }
+{
+    match answer {
+        PlanAnswer::Planned(info) => {
+            carry_whole(table, plan, rule, info.count);
+            print_plan(out, &plan[..info.count as usize])
+        }
+        PlanAnswer::Refused(cause, spot) => refuse(out, cause, spot),
+    }
+}
+
+// An I line, with a working plan.
+fn insert(table: &mut [u64], rule: Rule, plan: &mut [u32], out: &mut [u8; 14343]) -> usize
+    requires { ⌜ length (now plan) ≡ 1024 ⌝ }
+    ensures { λ r. ⌜ Changed (insertOutcome (now (table .entry)) rule) r (now (table .exit)) (now (out .entry)) (now (out .exit)) ⌝ }
+{
+    let answer = plan_insert(table, rule, plan);
+    carry_and_print(answer, table, plan, rule, out)
+}
+
+// A D line, with a working plan.
+fn delete(table: &mut [u64], id: u32, plan: &mut [u32], out: &mut [u8; 14343]) -> usize
+    requires { ⌜ length (now plan) ≡ 1024 ⌝ }
+    ensures { λ r. ⌜ Changed (deleteOutcome (now (table .entry)) id) r (now (table .exit)) (now (out .entry)) (now (out .exit)) ⌝ }
+{
+    let answer = plan_delete(table, id, plan);
+    let rule = Rule {
+        id: 0,
+        priority: 0,
+        value: [0, 0],
+        mask: [0, 0],
+        action: 0,
+    };
+    carry_and_print(answer, table, plan, rule, out)
+}
+
+fn insert_line(table: &mut [u64], rule: Rule, out: &mut [u8; 14343]) -> usize
+    ensures { λ r. ⌜ Changed (insertOutcome (now (table .entry)) rule) r (now (table .exit)) (now (out .entry)) (now (out .exit)) ⌝ }
+{
+    let mut plan = [0u32; 1024];
+    insert(table, rule, &mut plan, out)
+}
+
+fn delete_line(table: &mut [u64], id: u32, out: &mut [u8; 14343]) -> usize
+    ensures { λ r. ⌜ Changed (deleteOutcome (now (table .entry)) id) r (now (table .exit)) (now (out .entry)) (now (out .exit)) ⌝ }
+{
+    let mut plan = [0u32; 1024];
+    delete(table, id, &mut plan, out)
+}
+
+// All words zero: empty slots.
+fn clear_words(words: &mut [u64])
+    ensures { λ _. ⌜ now (words .exit) ≡ replicate (length (now (words .entry))) 0 ⌝ }
+{
+    let mut at = 0;
+    while at < words.len() {
+        words[at] = 0;
+        at += 1;
+    }
+}
+
+// A T line.
+fn new_table(memory: &mut [u64], present: usize, slots: u32, out: &mut [u8; 14343]) -> Ran
+    requires { ⌜ (length (now memory) ≡ 6144) × (present ≤ 1024) ⌝ }
+    ensures { λ r. ⌜ Left (tableOutcome (tableIn (now (memory .entry)) present) slots) r (now (memory .entry)) (now (memory .exit)) (now (out .entry)) (now (out .exit)) ⌝ }
+{
+    let count = slots as usize;
+    if (1 <= count) & (count <= 1024) {
+        clear_words(&mut memory[..count * 6]);
+        let length = print_table(out, slots);
+        return Ran {
+            slots: count,
+            length,
+        };
+    }
+    let length = refuse(out, Cause::Shape, 0);
+    Ran {
+        slots: present,
+        length,
+    }
+}
+
+fn insert_in(memory: &mut [u64], present: usize, rule: Rule, out: &mut [u8; 14343]) -> Ran
+    requires { ⌜ (length (now memory) ≡ 6144) × (present ≤ 1024) ⌝ }
+    ensures { λ r. ⌜ Left (insertOutcome (tableIn (now (memory .entry)) present) rule) r (now (memory .entry)) (now (memory .exit)) (now (out .entry)) (now (out .exit)) ⌝ }
+{
+    let length = insert_line(&mut memory[..present * 6], rule, out);
+    Ran {
+        slots: present,
+        length,
+    }
+}
+
+fn delete_in(memory: &mut [u64], present: usize, id: u32, out: &mut [u8; 14343]) -> Ran
+    requires { ⌜ (length (now memory) ≡ 6144) × (present ≤ 1024) ⌝ }
+    ensures { λ r. ⌜ Left (deleteOutcome (tableIn (now (memory .entry)) present) id) r (now (memory .entry)) (now (memory .exit)) (now (out .entry)) (now (out .exit)) ⌝ }
+{
+    let length = delete_line(&mut memory[..present * 6], id, out);
+    Ran {
+        slots: present,
+        length,
+    }
+}
+
+fn lookup_in(memory: &[u64], present: usize, key: [u64; 2], out: &mut [u8; 14343]) -> Ran
+    requires { ⌜ (length (now memory) ≡ 6144) × (present ≤ 1024) ⌝ }
+    ensures { λ r. ⌜ Left (lookupOutcome (tableIn (now (memory .entry)) present) key) r (now (memory .entry)) (now (memory .entry)) (now (out .entry)) (now (out .exit)) ⌝ }
+{
+    let length = look_up(&memory[..present * 6], key, out);
+    Ran {
+        slots: present,
+        length,
+    }
+}
+
+// A malformed line: 13, spot the line's number.
+fn malformed(present: usize, number: u64, out: &mut [u8; 14343]) -> Ran
+    ensures { λ r. ⌜ (r .slots ≡ present) × Shown (now (out .entry)) (refusalBytes 13 number) (r .length) (now (out .exit)) ⌝ }
+{
+    let length = print_refusal(out, cause_number(Cause::Line), number);
+    Ran {
+        slots: present,
+        length,
+    }
+}
+
+fn run_command(
+    memory: &mut [u64],
+    present: usize,
+    number: u64,
+    command: Command,
+    out: &mut [u8; 14343],
+) -> Ran
+    requires { ⌜ (length (now memory) ≡ 6144) × (present ≤ 1024) ⌝ }
+    ensures { λ r. ⌜ Left (commandOutcome (tableIn (now (memory .entry)) present) number command) r (now (memory .entry)) (now (memory .exit)) (now (out .entry)) (now (out .exit)) ⌝ }
+{
+    match command {
+        Command::Table(new) => new_table(memory, present, new.slots, out),
+        Command::Insert(insertion) => insert_in(memory, present, rule_of(insertion), out),
+        Command::Delete(deletion) => delete_in(memory, present, deletion.id, out),
+        Command::Lookup(query) => lookup_in(memory, present, key_of(query), out),
+        Command::Malformed => malformed(present, number, out),
+    }
+}
+
+// A table has at most 1,024 slots: no more fit into the memory.
+fn slots_present(slots: usize) -> usize
+    ensures { λ r. ⌜ r ≡ min slots 1024 ⌝ }
+{
+    if slots < 1024 {
+        return slots;
+    }
+    1024
+}
+
+// One line, without its newline, of this number: what it does to the table in the memory, and what it prints.
+pub fn run_line(
+    memory: &mut [u64; 6144],
+    slots: usize,
+    number: u64,
+    line: &[u8],
+    out: &mut [u8; 14343],
+) -> Ran
+    ensures { λ r. ⌜ Left (lineOutcome (tableIn (now (memory .entry)) slots) number (now (line .entry))) r (now (memory .entry)) (now (memory .exit)) (now (out .entry)) (now (out .exit)) ⌝ }
+{
+    let present = slots_present(slots);
+    let command = parse(line);
+    run_command(memory, present, number, command, out)
+}
