@@ -29,7 +29,7 @@ use Rattle.plans.specs.Plans.{plan-written}
 use Rattle.table.specs.Inserts.{insertWords}
 use Rattle.plans.specs.Deletes.{deleteChecks, deleteWords}
 use Rattle.histories.specs.RuleSet.{Change, insert, delete, ruleSet, highestMatch, ruleReply}
-use Rattle.histories.specs.Demand2.{demand-2-insert, demand-2-delete, insert-made, delete-made}
+use Rattle.histories.specs.Demand2.{demand-2-insert, demand-2-delete, carried-whole}
 use Rattle.histories.specs.Histories.{Reached, reached-sound, reached-lookup}
 use Rattle.lines.specs.Lines.{nextNumber}
 use Rattle.lines.specs.Blocks.{Outcome, answered}
@@ -143,7 +143,7 @@ module _ (history : List Change) (t : List ℕ) (reached : Reached 2 history t) 
       let accepted = sym (plan-written words words refl e (omega arith) .0) in
       let carried = demand-2-insert 2 t rule words count small accepted in
       let after = Reached.inserted history t reached rule small words count accepted count (carried .finished count (omega arith)) in
-      let made = insert-made 2 t rule words count small accepted in
+      let made = carried-whole (demand-2-insert 2 t rule words count small accepted) in
       let there : Reached 2 (insert rule ∷ history) (applyWords 2 t rule words) = subst (Reached 2 (insert rule ∷ history)) made after in
       rw e there
 
@@ -156,7 +156,7 @@ module _ (history : List Change) (t : List ℕ) (reached : Reached 2 history t) 
       let accepted = sym (plan-written words words refl e (omega arith) .0) in
       let carried = demand-2-delete 2 t id words 1 noRule accepted in
       let after = Reached.deleted history t reached id words 1 accepted noRule 1 (carried .finished 1 (omega arith)) in
-      let made = delete-made 2 t id words 1 noRule accepted in
+      let made = carried-whole (demand-2-delete 2 t id words 1 noRule accepted) in
       let there : Reached 2 (delete id ∷ history) (applyWords 2 t noRule words) = subst (Reached 2 (delete id ∷ history)) made after in
       rw e there
 

@@ -27,7 +27,7 @@ use Rattle.table.specs.Demand3.{demand-3}
 use Rattle.plans.specs.Deletes.{deleteChecks, deleteWords, deleteAnswer, deletePlan}
 use Rattle.carrying.specs.Calls.{afterCalls}
 use Rattle.histories.specs.Histories.{emptyTable}
-use Rattle.histories.specs.Demand2.{insert-made, delete-made}
+use Rattle.histories.specs.Demand2.{demand-2-insert, demand-2-delete, carried-whole}
 use Rattle.lines.specs.Blocks.{Outcome}
 use Rattle.answers.specs.Answers.{tableBytes, planBytes, refusalBytes}
 use Rattle.printing.specs.Printing.{Shown}
@@ -88,7 +88,7 @@ insert-is t rule plan plan′ told small n e f =
     let words = insertWords 2 t rule in
     let long : insertChecks 2 t rule ≡ Pass → length words ≤ length plan = λ p. omega (arith, insert-short t rule small p, n) in
     let r = plan-is t rule (insertChecks 2 t rule) words plan (applyWords 2 t rule words) long
-    (λ p. insert-made 2 t rule plan (length words) small (sym (plan-written words plan refl p (long p) .0))) in
+    (λ p. carried-whole (demand-2-insert 2 t rule plan (length words) small (sym (plan-written words plan refl p (long p) .0)))) in
     subst₂ (λ (x : Told) (y : List ℕ). Within x (length y) × (planOutcome x t y rule ≡ insertOutcome t rule)) (sym e) (sym f) r
 
 -- a D line
@@ -99,7 +99,7 @@ unfolding deleteOutcome
 delete-is t id plan plan′ told n e f =
     let words = deleteWords 2 t id in
     let r = plan-is t noRule (deleteChecks 2 t id) words plan (applyWords 2 t noRule words) (λ p. omega (arith, n))
-    (λ p. delete-made 2 t id plan 1 noRule (sym (plan-written words plan refl p (omega (arith, n)) .0))) in
+    (λ p. carried-whole (demand-2-delete 2 t id plan 1 noRule (sym (plan-written words plan refl p (omega (arith, n)) .0)))) in
     subst₂ (λ (x : Told) (y : List ℕ). Within x (length y) × (planOutcome x t y noRule ≡ deleteOutcome t id)) (sym e) (sym f) r
 
 -- the same of what is left
