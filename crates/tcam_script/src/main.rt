@@ -5,7 +5,7 @@ ghost use mathlib.Core.Bool.{true};
 ghost use mathlib.Core.List.{List};
 ghost use Prim.Native.Nat.{ℕ, _≤_};
 ghost use lib.ListN.{length};
-ghost use Rattle.script.specs.Whole.{Ended, Read, Through, keeping, opening};
+ghost use Rattle.transcripts.specs.Whole.{Ended, Read, Through, keeping, opening};
 use script::reading::Place;
 use script::reading::last_turn;
 use script::reading::take_turn;

@@ -3,7 +3,7 @@
 use mathlib.Core.Bool.{false≢true}
 use mathlib.Core.List.{[]}
 use native.Mathlib.Omega.{arith}
-use Rattle.script.specs.Whole.{Called}
+use Rattle.transcripts.specs.Whole.{Called}
 use borrow.Author.Needs.{needs}
 use Rattle.tcam_script.proofs.read_block.Statement.{statement}
 use Rattle.tcam_script.proofs.read_block.Tie as tie

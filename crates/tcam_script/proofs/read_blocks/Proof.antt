@@ -8,7 +8,7 @@ use native.Mathlib.Omega.{arith}
 use lib.ListN.{length}
 use borrow.Author.Tests.{ltb-true}
 use borrow.Author.Needs.{needs}
-use Rattle.script.specs.Whole.{Read, keeping, opening}
+use Rattle.transcripts.specs.Whole.{Read, keeping, opening}
 use Rattle.tcam_script.proofs.read_blocks.Statement.{statement}
 use Rattle.tcam_script.proofs.read_blocks.Tie as tie
 

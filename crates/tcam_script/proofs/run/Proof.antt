@@ -5,7 +5,7 @@ use mathlib.Core.Bool.{true≢false}
 use lib.ListN.{length}
 use denote.Ref.{now}
 use borrow.Author.Needs.{needs}
-use Rattle.script.specs.Whole.{keeping, shown-within, script-ended}
+use Rattle.transcripts.specs.Whole.{keeping, shown-within, script-ended}
 use Rattle.tcam_script.proofs.run.Statement.{statement}
 use Rattle.tcam_script.proofs.run.Tie as tie
 
