@@ -1,10 +1,9 @@
 /* The gateway's table while it is in use: a rule is put in, by a plan that first moves others out of its way, and a rule
- * is taken out. The library plans; the firmware carries the writes out, and looks frames up between any two of them.
+ * is taken out. The library plans and makes one write per call, and frames are looked up between any two writes.
  * Key: destination address in the upper 32 bits of the key, port in the 16 bits below. Build and run: examples/run */
 #include <inttypes.h>
 #include <stdio.h>
 #include <stdlib.h>
-#include <string.h>
 #include "tcam.h"
 
 /* an address and a port, as a value, a mask or a key */
@@ -78,26 +77,18 @@ static void print_write(uint32_t word)
         printf("slot %" PRIu32 " -> slot %" PRIu32 "\n", from, to);
 }
 
-static void carry_out(uint32_t word, const uint64_t *new_record)
-{
-    uint32_t from = tcam_write_from(word);
-    uint64_t *slot = table + TCAM_SLOT_WORDS * tcam_write_to(word);
-    if (from == TCAM_EMPTY)
-        memset(slot, 0, TCAM_SLOT_WORDS * sizeof *slot);
-    else
-        memcpy(slot, from == TCAM_PUT ? new_record : table + TCAM_SLOT_WORDS * from, TCAM_SLOT_WORDS * sizeof *slot);
-}
-
-/* Carries a plan out, and tells after each write which frames have another reply than at the start. */
-static void carry_out_plan(const uint32_t *plan, uint32_t count, const uint64_t *new_record)
+/* Carries a plan out, write by write, and tells after each which frames have another reply than at the start. */
+static void carry_out_plan(const uint32_t *plan, uint32_t count, const uint64_t *rule)
 {
     struct reply before[FRAMES];
+    tcam_progress progress = {0, count};
+    uint64_t result;
     for (size_t frame = 0; frame < FRAMES; frame++)
         before[frame] = look_up(frames[frame].key);
-    for (uint32_t index = 0; index < count; index++) {
+    while ((result = tcam_carry_out(table, WORDS, plan, count, tcam_record_id(rule), tcam_record_priority(rule), rule[0],
+                                    rule[1], rule[2], rule[3], tcam_record_action(rule), &progress)) == TCAM_WROTE) {
         int changes = 0;
-        print_write(plan[index]);
-        carry_out(plan[index], new_record);
+        print_write(plan[progress.done - 1]);
         for (size_t frame = 0; frame < FRAMES; frame++) {
             struct reply now = look_up(frames[frame].key);
             if (now.id == before[frame].id && now.action == before[frame].action)
@@ -108,6 +99,8 @@ static void carry_out_plan(const uint32_t *plan, uint32_t count, const uint64_t 
         if (!changes)
             printf("    all replies stay\n");
     }
+    if (result != TCAM_FINISHED)
+        stop("carrying out", tcam_carry_number(result), tcam_carry_spot(result));
 }
 
 int main(void)
@@ -133,6 +126,6 @@ int main(void)
     if (result != TCAM_OK)
         stop("delete", result, spot);
     printf("delete rule 15, %" PRIu32 " write\n", count);
-    carry_out_plan(plan, count, NULL);
+    carry_out_plan(plan, count, console); /* no rule is put in, so that any will do */
     return 0;
 }

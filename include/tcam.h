@@ -1,5 +1,6 @@
 /*
- * tcam.h: looking up keys in a table of ternary rules, and planning how rules are put in and taken out.
+ * tcam.h: looking up keys in a table of ternary rules, planning how rules are put in and taken out, and carrying
+ * the plans out write by write.
  *
  * THE TABLE is an array of 64-bit words that the caller owns and lends to each call. It has 1 to
  * 1,024 slots, numbered from 0, of six words each. Slot i is the words 6 * i to 6 * i + 5, its record:
@@ -27,35 +28,39 @@
  *     from 65534 (TCAM_EMPTY)   empties slot `to`
  *     any other from            copies slot `from` to slot `to`, and leaves slot `from` as it is
  *
- * The library plans, the caller writes. On the table that a plan was drawn for, with the rule it was drawn
- * for, the writes are carried out one at a time, from the first word to the last. Then no write goes over a
- * rule that has no other copy, the table is in order after each write, and every key keeps its reply (id
- * and action, or a miss) until the last write. After the last write each old rule stands in one slot and
- * the new one too. In the middle of a plan a rule may stand twice: no planning call takes such a table.
+ * The planning calls draw plans. tcam_carry_out makes one write of a plan per call; the caller may make the
+ * writes itself instead. On the table that a plan was drawn for, with the rule it was drawn for, the writes
+ * are carried out one at a time, from the first word to the last. Then no write goes over a rule that has no
+ * other copy, the table is in order after each write, and every key keeps its reply (id and action, or a
+ * miss) until the last write. After the last write each old rule stands in one slot and the new one too. In
+ * the middle of a plan a rule may stand twice: no planning call takes such a table; tcam_lookup and
+ * tcam_carry_out do.
  *
  * REPLIES. The result is 0 (TCAM_OK), or the number of the refusal. Data goes to the lent cells and the
  * lent plan. On a refusal only *spot is written and everything else is left as it was; on a success *spot
- * is left as it was. tcam_slot_record alone refuses nothing, and its result is a number of words.
+ * is left as it was. tcam_slot_record refuses nothing, and its result is a number of words. The result of
+ * tcam_carry_out holds number and spot together, and a refusal writes nothing at all.
  *
  * THE CALLER OWES, since no call can test it:
  *   - every pointer is valid for what it points to, aligned, and not null; the pointers of the table and of
  *     the plan may be null only where the length that goes with them is 0;
- *   - the lent cells, the plan and the table are apart from each other;
- *   - nothing changes the table during a call;
+ *   - the lent cells, the progress record, the plan and the table are apart from each other;
+ *   - nothing changes the table during a call, nor the plan or the progress record during tcam_carry_out;
  *   - the platform is x86-64 with the System V calling convention. SSE2 registers and the red zone are
  *     used: an interrupt handler saves those registers if it uses them, and steps over the 128 bytes
  *     below the stack pointer if it runs on the same stack;
  *   - the program has a memset, as in C's string.h: tcam_plan_insert calls it;
  *   - there is stack enough.
  *
- * No call changes the table or keeps anything for later. Each call checks the whole table first, so its
- * time grows with the number of slots; that of the planning calls with its square, since they compare
- * rules in pairs.
+ * No call but tcam_carry_out changes the table, and none keeps anything for later. Each call checks the
+ * whole table first, so its time grows with the number of slots; that of the planning calls with its
+ * square, since they compare rules in pairs.
  *
  * STACK, measured on this build at 1,024 slots, rounded up, with the arguments that the caller pushes:
  *
  *     tcam_lookup, tcam_slot_record   128 bytes
  *     tcam_plan_delete                256 bytes
+ *     tcam_carry_out                  192 bytes
  *     tcam_plan_insert                6,656 bytes, and 96 for each word of the plan
  *
  * The longest plan, of 1,024 words, takes 104,960 bytes, 102.5 KiB. A plan that does not fit its buffer is
@@ -88,18 +93,18 @@ extern "C" {
  */
 enum tcam_cause {
     TCAM_OK = 0,       /* not a refusal */
-    TCAM_SHAPE = 1,    /* the words are not 6 * (1 to 1,024). lookup, plan_insert, plan_delete */
-    TCAM_RECORD = 2,   /* a slot is neither empty nor a sound rule. lookup, plan_insert, plan_delete */
+    TCAM_SHAPE = 1,    /* the words are not 6 * (1 to 1,024). lookup, plan_insert, plan_delete, carry_out */
+    TCAM_RECORD = 2,   /* a slot is neither empty nor a sound rule. lookup, plan_insert, plan_delete, carry_out */
     TCAM_TWICE = 3,    /* an id stands in an earlier slot too. plan_insert, plan_delete */
     TCAM_ORDER = 4,    /* an earlier overlapping rule has no higher priority. plan_insert, plan_delete */
-    TCAM_RULE = 5,     /* the rule given is unsound: plan_insert. The id to delete is 0: plan_delete */
+    TCAM_RULE = 5,     /* the rule given is unsound: plan_insert, carry_out. The id to delete is 0: plan_delete */
     TCAM_KNOWN = 6,    /* the id to insert is present. plan_insert */
     TCAM_UNKNOWN = 7,  /* the id to delete is absent. plan_delete */
     TCAM_TIE = 8,      /* the rule overlaps one of equal priority. plan_insert */
     TCAM_FULL = 9,     /* no slot is empty. plan_insert */
     TCAM_CROSSED = 10, /* a rule that depends on the new one stands before one that precedes it. plan_insert */
     TCAM_SHORT = 11,   /* the plan or image buffer is too short. plan_insert, plan_delete */
-    TCAM_WRITE = 12,   /* the write does not fit */
+    TCAM_WRITE = 12,   /* the progress record or the next write does not fit. carry_out */
     TCAM_LINE = 13,    /* the script line is malformed */
     TCAM_IMAGE = 14    /* the image is wrong */
 };
@@ -215,6 +220,67 @@ uint32_t tcam_plan_insert(const uint64_t *table, size_t words, uint32_t id, uint
  */
 uint32_t tcam_plan_delete(const uint64_t *table, size_t words, uint32_t id, uint32_t *plan, size_t plan_words,
                           uint32_t *count, uint32_t *spot);
+
+/* How far a plan is carried out: writes done, and writes in all. A plan starts at 0 and its count. */
+typedef struct tcam_progress {
+    uint32_t done;
+    uint32_t total;
+} tcam_progress;
+
+/* The results of tcam_carry_out that are no refusal. */
+#define TCAM_WROTE 0
+#define TCAM_FINISHED 1
+
+/*
+ * Carries a plan out by one write: word progress->done of the plan is made in the table.
+ *
+ *   table, words           the table and its length in words
+ *   plan, plan_words       the plan and the length of its buffer in words
+ *   id, priority           the rule that the plan puts in: its id and priority
+ *   value_high, value_low  its value, high and low 64 bits
+ *   mask_high, mask_low    its mask, high and low 64 bits
+ *   action                 its action, any number
+ *   progress               the progress record, lent: writes done, writes in all
+ *
+ * The rule is looked at only where the next write puts it in: the plan of a delete is carried out with any.
+ *
+ * Result TCAM_WROTE: the write is made, in this one slot, and progress->done is one more.
+ * Result TCAM_FINISHED: done equals total. Nothing is changed, however often the call is made.
+ * Any other result is a refusal, its number * 2^32 + its spot: see tcam_carry_number, tcam_carry_spot.
+ *
+ * Refusals, in the order of checks:
+ *   TCAM_SHAPE   words is not 6 * (1 to 1,024). The spot is 0.
+ *   TCAM_RECORD  a slot is neither empty nor a sound rule. The spot is the lowest such slot.
+ *   TCAM_WRITE   done is more than total, or total more than plan_words. The spot is the writes done so far.
+ * where done equals total, TCAM_FINISHED; else, of the next write:
+ *   TCAM_RULE    it puts the rule in, and the rule is unsound: its id is 0, its priority is above 65,535, or
+ *                its value has a bit outside the mask. The spot is 0.
+ *   TCAM_WRITE   it does not fit. The spot is the writes done so far. A copy fits if both slots exist and
+ *                differ, slot `from` is not empty, and slot `to` is empty or its id stands in another slot
+ *                too. A put-in fits under the same terms for `to`. An emptying write fits if the slot exists
+ *                and is not empty.
+ * On these, and where it is finished, the table and the progress record are left as they were.
+ *
+ * What is said above of plans, of order and of replies, holds where the plan is carried out in order, from its
+ * start, with its own rule, on the table it was drawn for. Of any other plan, rule or progress record no more
+ * is said than stands here: one write that fits, or nothing.
+ *
+ * Left as it was, always: the plan, progress->total, and every slot but the one that a write goes to.
+ */
+uint64_t tcam_carry_out(uint64_t *table, size_t words, const uint32_t *plan, size_t plan_words, uint32_t id,
+                        uint32_t priority, uint64_t value_high, uint64_t value_low, uint64_t mask_high,
+                        uint64_t mask_low, uint32_t action, tcam_progress *progress);
+
+/* The number of a refusal of tcam_carry_out, 0 (TCAM_OK) for TCAM_WROTE and TCAM_FINISHED, and its spot. */
+static inline uint32_t tcam_carry_number(uint64_t result)
+{
+    return (uint32_t)(result >> 32);
+}
+
+static inline uint32_t tcam_carry_spot(uint64_t result)
+{
+    return (uint32_t)result;
+}
 
 /* The two halves of a plan word. */
 static inline uint32_t tcam_write_from(uint32_t word)

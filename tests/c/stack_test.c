@@ -18,6 +18,7 @@
 /* What tcam.h says. */
 #define LOOKUP_BYTES 128
 #define DELETE_BYTES 256
+#define CARRY_BYTES 192
 #define INSERT_BYTES 6656 /* and, */
 #define WRITE_BYTES 96    /* for each word of the plan */
 
@@ -35,7 +36,10 @@ static struct rule {
     uint32_t id, priority;
 } rule;
 
+static tcam_progress progress;
+
 static unsigned char *stack;
+static uint64_t carried;
 static uint32_t result, first, slot, id, action, count, spot;
 static unsigned char *top; /* the stack of the function that calls */
 
@@ -66,6 +70,12 @@ ON_OWN_STACK run_plan_delete(void)
     result = tcam_plan_delete(table, WORDS, rule.id, plan, SLOTS, &count, &spot);
 }
 
+ON_OWN_STACK run_carry_out(void)
+{
+    top = __builtin_frame_address(0);
+    carried = tcam_carry_out(table, WORDS, plan, room, rule.id, rule.priority, 0, 0, 0, 0, 7, &progress);
+}
+
 /* Calls a function with the stack pointer at the end of the painted stack. */
 static void run_on_stack(void (*run)(void))
 {
@@ -77,13 +87,21 @@ static void run_on_stack(void (*run)(void))
                        "cc", "memory");
 }
 
-/* The bytes that the call used: the most of two paints, since a byte may happen to have the paint's value. */
+/*
+ * The bytes that the call used: the most of two paints, since a byte may happen to have the paint's value. The table and
+ * the progress record are the same for both.
+ */
 static size_t used(void (*run)(void))
 {
     static const unsigned char paints[] = {0xA5, 0x3C};
+    static uint64_t made[WORDS];
+    const tcam_progress start = progress;
     size_t most = 0;
+    memcpy(made, table, sizeof table);
     for (int round = 0; round < 2; round++) {
         size_t low = 0;
+        memcpy(table, made, sizeof table);
+        progress = start;
         memset(stack, paints[round], STACK_BYTES);
         run_on_stack(run);
         while (low < STACK_BYTES && stack[low] == paints[round])
@@ -131,6 +149,18 @@ static void try_insert(const char *what, uint32_t hole, uint32_t priority, uint3
     check(result == TCAM_OK && count == want_count && bytes <= limit, what, bytes, limit);
 }
 
+/* One step of a plan of one word, where that write is next. */
+static void try_carry(const char *what, uint32_t word, uint64_t want)
+{
+    make_chain(1023);
+    rule = (struct rule){5000, 1};
+    plan[0] = word;
+    room = 1;
+    progress = (tcam_progress){0, 1};
+    size_t bytes = used(run_carry_out);
+    check(carried == want && bytes <= CARRY_BYTES, what, bytes, CARRY_BYTES);
+}
+
 int main(int arguments, char **words)
 {
     size_t bytes, page = 4096;
@@ -162,6 +192,11 @@ int main(int arguments, char **words)
     bytes = used(run_plan_insert);
     check(result == TCAM_SHORT && spot == 1024 && bytes <= INSERT_BYTES + MEMSET_BYTES, "tcam_plan_insert, one word short", bytes,
           INSERT_BYTES + MEMSET_BYTES);
+
+    try_carry("tcam_carry_out, a copy", 1022u * 65536 + 1023, TCAM_WROTE);
+    try_carry("tcam_carry_out, a put-in", 65535u * 65536 + 1023, TCAM_WROTE);
+    try_carry("tcam_carry_out, an emptying", 65534u * 65536 + 1022, TCAM_WROTE);
+    try_carry("tcam_carry_out, no fit", 65535u * 65536 + 1022, (uint64_t)TCAM_WRITE << 32);
 
     if (failures != 0) {
         fprintf(stderr, "stack_test: %lu of %lu checks failed\n", failures, checks);

@@ -1,7 +1,7 @@
 -- What the definitions of a step say: the tests of one write as the code makes them, and the ways in which a step ends.
 -- A step that is refused or finished leaves the table and the writes done as they were.
 use mathlib.Core.Path.{_≡_, refl, sym, ap, subst, _∙_}
-use mathlib.Core.Bool.{Bool, true, false, not, cond, _&&_, _||_, Bool·not-not}
+use mathlib.Core.Bool.{Bool, true, false, not, cond, _&&_, Bool·not-not}
 use mathlib.Core.Logic.{_≢_}
 use mathlib.Core.List.{List, [], _∷_}
 use Prim.Native.Nat.{ℕ, _+_, _/_, _%_, _≤_, _<_}
@@ -9,12 +9,12 @@ use lib.Dec.{eqb, ltb, leb}
 use lib.ListN.{length, getD}
 use native.Mathlib.Decide.{ℕ-discrete}
 use borrow.Author.Tests.{eq-eqb, ne-eqb, leb-true}
-use Rattle.search.specs.Search.{any, and-left, and-right}
+use Rattle.search.specs.Search.{and-left, and-right}
 use Rattle.layout.specs.Write.{copy, put, clear}
 use Rattle.records.specs.Record.{slotWords, empty, occupied, soundRule, recordOf, putSlot, listed, recordWords, word}
 use Rattle.records.specs.Order.{slots}
-use Rattle.records.specs.Rules.{listed-words, record-length}
-use Rattle.records.specs.Checks.{Told, success, refusal, unless, passes, orElse, slotChecks}
+use Rattle.records.specs.Rules.{listed-words}
+use Rattle.records.specs.Checks.{Told, success, refusal, unless, passes, slotChecks}
 use Rattle.records.specs.Entries.{vacant, entryAt}
 use Rattle.records.specs.Laws.{or-else-pass, pass-law, cause-not-zero}
 use Rattle.records.specs.Writes.{writeOf, word-puts, word-clears, word-copies, freeAt, fitsWrite, fitsWord, applyWrite, applyWord, SlotsBelow, fits-below}

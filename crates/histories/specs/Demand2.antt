@@ -17,10 +17,9 @@ use Rattle.ternary.specs.Pattern.{Words}
 use Rattle.layout.specs.Held.{Held, emptied, held-removed}
 use Rattle.layout.specs.Write.{Write, copy, put, clear, writeWord}
 use Rattle.records.specs.Record.{word, slotWords, ident, occupied, soundRule, recordOf}
-use Rattle.records.specs.Order.{slots}
 use Rattle.records.specs.Rules.{record-ident}
-use Rattle.records.specs.Checks.{success, orElse, checkShape, checkRecords, slotChecks, tableChecks}
-use Rattle.records.specs.Laws.{or-else-pass, same-id-law}
+use Rattle.records.specs.Checks.{success, checkTwice, checkOrder, slotChecks}
+use Rattle.records.specs.Laws.{slot-checks-law, table-checks-law, same-id-law}
 use Rattle.records.specs.Entries.{vacant, entries, entryOccupied, entrySame, entries-length, entry-same, ident-cong, occupied-at, entry-laws, unique-entries, shaped-slots, refuted}
 use Rattle.records.specs.Writes.{writeOf, write-of-word, fitsWord, applyWords, apply-entries}
 use Rattle.records.specs.ClassWords.{class-words-law}
@@ -32,13 +31,13 @@ use Rattle.table.specs.Plans.{plan-accepted}
 use Rattle.table.specs.Inserts.{insertWords, insertAnswer, insertPlan}
 use Rattle.table.specs.Insertable.{Insertable, insertable-law}
 use Rattle.table.specs.Demand3.{ShortestPlan, shortest-words}
-use Rattle.table.specs.Deletes.{hasId, slotOfId, checkId, checkUnknown, deleteChecks, deleteWords, deleteAnswer, deletePlan, DeletePlanned, delete-planned}
+use Rattle.table.specs.Deletes.{hasId, slotOfId, deleteChecks, deleteWords, deleteAnswer, deletePlan, DeletePlanned, delete-planned}
 use Rattle.table.specs.Replies.{insert-keeps-reply}
 use Rattle.table.specs.Soundness.{insert-between-checks, insert-after-checks, delete-after-checks}
 use Rattle.carrying.specs.Carrying.{putSound}
 use Rattle.carrying.specs.Calls.{afterCalls, callAnswer}
 use Rattle.histories.specs.RuleSet.{Member, without, without-law, setReply}
-use Rattle.histories.specs.Holding.{Replies, looked-up, Holding, holding-lookup, checks-twice-order}
+use Rattle.histories.specs.Holding.{Replies, looked-up, Holding, holding-lookup}
 use Rattle.histories.specs.InTurn.{InTurn, calls-state, calls-write, calls-rest, calls-finished}
 
 -- What demand 2 promises of a plan of so many writes for a change of the rules, from the table that it was drawn for; the number of a call
@@ -109,7 +108,7 @@ module _ (w : ℕ) (t : List ℕ) (rule : Rule) (small : rule .action < 42949672
       pick (yes l) = insert-between-checks w t rule small insertable k l
       pick (no l) =
           ap (λ (ns : List ℕ). slotChecks w (applyWords w t rule ns)) (take-all k words (omega arith))
-          ∙ checks-twice-order w (applyWords w t rule words) (insert-after-checks w t rule small insertable) .0
+          ∙ table-checks-law w (applyWords w t rule words) .0 (insert-after-checks w t rule small insertable) .0
 
   insert-turn : (plan rest : List ℕ) → plan ≡ words ++ rest → InTurn w t rule words plan
   unfolding words
@@ -163,16 +162,11 @@ module _ (w : ℕ) (t : List ℕ) (id : ℕ) (checks : deleteChecks w t id ≡ P
   deletion : DeletePlanned w t id
   deletion = delete-planned w t id checks
 
-  sound-before : tableChecks w t ≡ Pass
-  unfolding deleteChecks
-  sound-before = or-else-pass (tableChecks w t) (orElse (checkId id) (checkUnknown w t id)) .0 checks .0
-
-  few-slots : slots w t ≤ 1024
-  unfolding slotChecks
-  few-slots = shaped-slots w t (or-else-pass (checkShape w t) (checkRecords w t) .0 (checks-twice-order w t sound-before .0) .0) .1
+  before : (slotChecks w t ≡ Pass) × (checkTwice w t ≡ Pass) × (checkOrder w t ≡ Pass)
+  before = table-checks-law w t .0 (deletion .table)
 
   clears : writeOf (writeWord (clear (slotOfId w t id))) ≡ clear (slotOfId w t id)
-  clears = write-of-word (clear (slotOfId w t id)) (omega (arith, deletion .exists, few-slots))
+  clears = write-of-word (clear (slotOfId w t id)) (omega (arith, deletion .exists, shaped-slots w t (slot-checks-law w t .0 (before .0) .0) .1))
 
   delete-turn : (plan rest : List ℕ) → plan ≡ deleteWords w t id ++ rest → InTurn w t rule (deleteWords w t id) plan
   delete-turn plan rest e = record { rest = rest; front = e; fits = fits; sound = sound; checks = checked }
@@ -186,8 +180,8 @@ module _ (w : ℕ) (t : List ℕ) (id : ℕ) (checks : deleteChecks w t id ≡ P
       sound (suc k) h = absurd (omega arith)
 
       checked : (k : ℕ) → k ≤ 1 → slotChecks w (applyWords w t rule (take k (deleteWords w t id))) ≡ Pass
-      checked zero h = checks-twice-order w t sound-before .0
-      checked (suc zero) h = checks-twice-order w (applyWords w t rule (deleteWords w t id)) (delete-after-checks w t id checks rule) .0
+      checked zero h = before .0
+      checked (suc zero) h = table-checks-law w (applyWords w t rule (deleteWords w t id)) .0 (delete-after-checks w t id checks rule) .0
       checked (suc (suc k)) h = absurd (omega arith)
 
   -- the record in the slot has the id
@@ -214,7 +208,7 @@ module _ (w : ℕ) (t : List ℕ) (id : ℕ) (checks : deleteChecks w t id ≡ P
       ap (entries w) (deletion .after rule) ∙ apply-entries w t rule (clear (slotOfId w t id)) (deletion .exists) in
       rw after
       (held-removed (entry-laws w) (entries w t) (slotOfId w t id) low
-      (λ k l d. unique-entries w t .1 (deletion .once) k (slotOfId w t id) l low d) x)
+      (λ k l d. unique-entries w t .1 (before .1) k (slotOfId w t id) l low d) x)
 
   delete-leaves : (rules : List Rule) → Holding w rules t → Holding w (without id rules) (applyWords w t rule (deleteWords w t id))
   delete-leaves rules h = record {

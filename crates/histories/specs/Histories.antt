@@ -2,25 +2,23 @@
 -- highest-priority matching rule that was inserted and not since deleted, or by a miss.
 use mathlib.Core.Path.{_≡_, refl, sym, ap, _∙_, subst}
 use mathlib.Core.Bool.{true, false, not, true≢false}
-use mathlib.Core.Logic.{_↔_, _⊎_, _≢_}
-use mathlib.Core.Logic._⊎_.{inl, inr}
+use mathlib.Core.Logic.{_≢_}
+use mathlib.Core.Logic._⊎_.{inl}
 use mathlib.Core.List.{List, [], _∷_}
 use Prim.Native.Nat.{ℕ, zero, suc, _+_, _*_, _≤_, _<_}
 use native.Mathlib.Decide.{decLe}
 use native.Mathlib.Omega.{arith}
 use lib.ListN.{length, getD, replicate, length-replicate}
 use Rattle.ternary.specs.Pattern.{Words}
-use Rattle.layout.specs.Held.{Held}
-use Rattle.records.specs.Record.{recordWords, slotWords, empty, recordOf}
-use Rattle.records.specs.Order.{slots}
-use Rattle.records.specs.Checks.{Told, success, orElse, checkShape, checkRecords, checkTwice, checkOrder, slotChecks, tableChecks}
-use Rattle.records.specs.Laws.{or-else-pass, shape-law, records-law, empty-law}
-use Rattle.records.specs.Entries.{vacant, entries, entryOccupied, entrySame, entryMisordered, entries-length, occupied-at, entry-laws, order-entries, unique-entries, refuted}
+use Rattle.records.specs.Record.{recordWords, slotWords, empty}
+use Rattle.records.specs.Checks.{Told, success, tableChecks}
+use Rattle.records.specs.Laws.{slot-checks-law, table-checks-law, shape-law, records-law, empty-law}
+use Rattle.records.specs.Entries.{vacant, entries, entryOccupied, entries-length, occupied-at, entry-laws, order-entries, unique-entries, refuted}
 use Rattle.records.specs.declared.Rule.{Rule}
 use Rattle.records.specs.declared.Check.the-variants.{Pass}
 use Rattle.table.specs.Inserts.{insertAnswer, insertPlan}
 use Rattle.table.specs.Deletes.{deleteAnswer, deletePlan}
-use Rattle.histories.specs.RuleSet.{Change, insert, delete, ruleSet, without, Member, setReply}
+use Rattle.histories.specs.RuleSet.{Change, insert, delete, ruleSet, setReply}
 use Rattle.histories.specs.Holding.{Replies, Holding, holding-lookup}
 use Rattle.carrying.specs.Calls.{State, afterCalls, callAnswer}
 use Rattle.histories.specs.Demand2.{Demand2, demand-2-insert, demand-2-delete}
@@ -63,17 +61,15 @@ module _ (w n : ℕ) (some : 1 ≤ n) (few : n ≤ 1024) where
   entry-empty i h = occupied-at w zeros i (omega (arith, entries-length w zeros)) ∙ ap not (slot-empty i)
 
   pub empty-holding : Holding w [] (emptyTable w n)
-  unfolding zeros slotChecks tableChecks
+  unfolding zeros
   empty-holding = record {
-    checks = or-else-pass (slotChecks w zeros) (orElse (checkTwice w zeros) (checkOrder w zeros)) .1 (
-      or-else-pass (checkShape w zeros) (checkRecords w zeros) .1 (
+    checks = table-checks-law w zeros .1 (
+      slot-checks-law w zeros .1 (
         shape-law w zeros .1 (n, some, few, length-replicate (n * recordWords w) 0),
         records-law w zeros .1 (λ i h. inl (slot-empty i)),
       ),
-      or-else-pass (checkTwice w zeros) (checkOrder w zeros) .1 (
-        unique-entries w zeros .0 (λ i k a b d. refuted (λ e. true≢false (sym (entry-laws w .same-occupied (entry i) (entry k) e) ∙ entry-empty i a))),
-        order-entries w zeros .0 (λ i k l h. entry-laws w .misordered-left (entry i) (entry k) (entry-empty i (omega arith))),
-      ),
+      unique-entries w zeros .0 (λ i k a b d. refuted (λ e. true≢false (sym (entry-laws w .same-occupied (entry i) (entry k) e) ∙ entry-empty i a))),
+      order-entries w zeros .0 (λ i k l h. entry-laws w .misordered-left (entry i) (entry k) (entry-empty i (omega arith))),
     );
     held = λ x. (λ m. absurd (true≢false (sym (m .0) ∙ (ap (entryOccupied w) (sym (m .1 .2)) ∙ entry-empty (m .1 .0) (m .1 .1)))), λ m. absurd (m .1));
     actions = λ r m. absurd m;

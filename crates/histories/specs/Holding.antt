@@ -1,7 +1,7 @@
 -- A table and the rules that it holds: where it is sound, a lookup's reply is that of the highest-priority match among them.
 -- Where the rules stand does not matter.
 use mathlib.Core.Path.{_≡_, refl, sym, ap, ap₂, _∙_}
-use mathlib.Core.Bool.{Bool, true, false, not, cond, _&&_, and-false, true≢false}
+use mathlib.Core.Bool.{Bool, true, false, cond, and-false, true≢false}
 use mathlib.Core.Logic.{_↔_, _⊎_}
 use mathlib.Core.Logic._⊎_.{inl, inr}
 use mathlib.Core.Option.{Option, none, some}
@@ -14,14 +14,14 @@ use lib.ListN.{length, getD, drop}
 use Rattle.search.specs.Search.{decided}
 use Rattle.ternary.specs.Pattern.{Words, Overlap, matches-cong, overlaps-law, matched-overlap}
 use Rattle.layout.specs.Order.{precedes}
-use Rattle.layout.specs.Held.{Held, Coherent, unique-coherent}
+use Rattle.layout.specs.Held.{Held, unique-coherent}
 use Rattle.layout.specs.Replies.{Answers, answers-reply}
-use Rattle.records.specs.Record.{word, value, mask, ident, rank, patternMatches, recordOf}
+use Rattle.records.specs.Record.{word, value, mask, ident, rank, recordOf}
 use Rattle.records.specs.Rules.{record-value, record-mask, record-rank, record-ident, record-action}
 use Rattle.records.specs.Order.{slots}
-use Rattle.records.specs.Checks.{unless, orElse, checkTwice, checkOrder, slotChecks, tableChecks, firstMatch}
-use Rattle.records.specs.Laws.{or-else-pass, misordered-law, same-id-law}
-use Rattle.records.specs.Entries.{vacant, entries, entryOccupied, entrySame, entryMisordered, EntriesInOrder, entry-laws, order-entries, unique-entries}
+use Rattle.records.specs.Checks.{checkTwice, checkOrder, slotChecks, tableChecks, firstMatch}
+use Rattle.records.specs.Laws.{table-checks-law, misordered-law, same-id-law}
+use Rattle.records.specs.Entries.{vacant, entries, entryOccupied, entrySame, entryMisordered, entry-laws, order-entries, unique-entries}
 use Rattle.records.specs.declared.Rule.{Rule}
 use Rattle.records.specs.declared.Check.the-variants.{Pass}
 use Rattle.table.specs.Lookup.{lookupAnswer, matchTold, lookupTold, hitAt, reply}
@@ -56,14 +56,6 @@ pub record Holding (w : ℕ) (rules : List Rule) (t : List ℕ) : Type 0 where
 -- a rule's record matches what the rule matches
 pub record-matches : (w : ℕ) (key : Words) (r : Rule) → entryMatches w key (recordOf w r) ≡ ruleMatches w key r
 record-matches w key r = matches-cong w (λ j h. refl) (record-value w r) (record-mask w r)
-
--- checks 3 and 4 are two of the four
-pub checks-twice-order : (w : ℕ) (t : List ℕ) → tableChecks w t ≡ Pass → (slotChecks w t ≡ Pass) × (checkTwice w t ≡ Pass) × (checkOrder w t ≡ Pass)
-unfolding tableChecks
-checks-twice-order w t e =
-    let a = or-else-pass (slotChecks w t) (orElse (checkTwice w t) (checkOrder w t)) .0 e in
-    let b = or-else-pass (checkTwice w t) (checkOrder w t) .0 (a .1) in
-    (a .0, b .0, b .1)
 
 -- of two rules that match one key the first, if its priority is not higher, may not stand before the second, unless they have one id
 module _ (w : ℕ) (key : Words) (y x : List ℕ) (oy : entryOccupied w y ≡ true) (ox : entryOccupied w x ≡ true)
@@ -119,7 +111,7 @@ module _ (w : ℕ) (rules : List Rule) (t : List ℕ) (h : Holding w rules t) (k
   -- the reply of a table is that of the rules it holds
   pub holding-reply : reply w t key ≡ setReply w rules key
   holding-reply =
-      let c = checks-twice-order w t (h .checks) in
+      let c = table-checks-law w t .0 (h .checks) in
       let law = highest-law w key rules in
       let unique = unique-entries w t .1 (c .1) in
       reply-entries w t key
@@ -130,7 +122,7 @@ module _ (w : ℕ) (rules : List Rule) (t : List ℕ) (h : Holding w rules t) (k
       ∙ told (highestMatch w key rules) law)
 
   pub holding-lookup : Replies w t key (setReply w rules key)
-  holding-lookup = looked-up w t key (setReply w rules key) (checks-twice-order w t (h .checks) .0) holding-reply
+  holding-lookup = looked-up w t key (setReply w rules key) (table-checks-law w t .0 (h .checks) .0) holding-reply
 
   -- one rule is the highest: two rules of one priority that match a key have one record
   pub holding-untied : (r s : Rule) → Member r rules → Member s rules → ruleMatches w key r ≡ true → ruleMatches w key s ≡ true
@@ -138,7 +130,7 @@ module _ (w : ℕ) (rules : List Rule) (t : List ℕ) (h : Holding w rules t) (k
   holding-untied r s i k a b e = pick (h .held (recordOf w r) .1 (r, i, refl)) (h .held (recordOf w s) .1 (s, k, refl))
     where
       c : (slotChecks w t ≡ Pass) × (checkTwice w t ≡ Pass) × (checkOrder w t ≡ Pass)
-      c = checks-twice-order w t (h .checks)
+      c = table-checks-law w t .0 (h .checks)
 
       ranks : rank w (word (recordOf w r)) ≡ rank w (word (recordOf w s))
       ranks = record-rank w r ∙ (e ∙ sym (record-rank w s))

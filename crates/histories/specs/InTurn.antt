@@ -1,23 +1,19 @@
 -- A plan whose writes fit in their turn, carried out call by call: each call makes one write, and the calls after the last answer "finished".
 -- The state after each call is the table with so many writes made.
-use mathlib.Core.Path.{_≡_, refl, sym, ap, ap₂, _∙_, subst}
-use mathlib.Core.Bool.{Bool, true, cond, _&&_}
-use mathlib.Core.Logic.{_≢_}
+use mathlib.Core.Path.{_≡_, refl, sym, ap, ap₂, _∙_}
+use mathlib.Core.Bool.{true}
 use mathlib.Core.List.{List, [], _∷_, _++_}
 use Prim.Native.Nat.{ℕ, zero, suc, _+_, _≤_, _<_}
 use native.Mathlib.Numerals.{add-one}
 use native.Mathlib.Decide.{decLe}
 use native.Mathlib.Omega.{arith}
-use lib.Dec.{leb}
 use lib.ListN.{length, getD, take, length-append, List·getD-append}
 use lib.Seq.{take-all}
 use borrow.Author.Tests.{le-leb}
-use Rattle.search.specs.Search.{and-both}
-use Rattle.records.specs.Checks.{Told, success, orElse, slotChecks}
+use Rattle.records.specs.Checks.{success, slotChecks}
 use Rattle.records.specs.Writes.{writeOf, fitsWord, applyWord, applyWords, apply-words-next}
 use Rattle.records.specs.declared.Rule.{Rule}
-use Rattle.records.specs.declared.Cause.the-variants.{Rule as RuleCause, Write as WriteCause}
-use Rattle.records.specs.declared.Check.the-variants.{Pass, Fail}
+use Rattle.records.specs.declared.Check.the-variants.{Pass}
 use Rattle.carrying.specs.Carrying.{progressChecks, putSound, writeChecks, stepAnswer, stepTable, stepDone}
 use Rattle.carrying.specs.Calls.{afterCalls, callAnswer}
 use Rattle.carrying.specs.Steps.{Ends, step-wrote, step-finished}

@@ -1,6 +1,6 @@
 -- Rules without slots: which were inserted and not since deleted, and the highest-priority match of a key among them.
 -- What a key is to be answered depends on these alone.
-use mathlib.Core.Path.{_≡_, refl, sym, ap, _∙_, subst}
+use mathlib.Core.Path.{_≡_, refl, sym, ap, _∙_}
 use mathlib.Core.Bool.{Bool, true, false, cond, true≢false}
 use mathlib.Core.Logic.{_↔_, _⊎_, _≢_}
 use mathlib.Core.Logic._⊎_.{inl, inr}

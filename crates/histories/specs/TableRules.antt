@@ -1,26 +1,26 @@
 -- The rules of a table, read off its slots: every sound table holds them, so that what demand 2 says of a plan is said of every sound table,
 -- however it came about.
 use mathlib.Core.Path.{_≡_, refl, sym, ap, _∙_}
-use mathlib.Core.Bool.{Bool, true, false, not, cond, true≢false}
+use mathlib.Core.Bool.{true, false, not, cond, true≢false}
 use mathlib.Core.Logic.{_↔_, _⊎_, ⊎-elim}
 use mathlib.Core.Logic._⊎_.{inl, inr}
 use mathlib.Core.List.{List, [], _∷_}
-use Prim.Native.Nat.{ℕ, zero, suc, _%_, _≤_, _<_}
+use Prim.Native.Nat.{ℕ, zero, suc, _<_}
 use native.Mathlib.Decide.{ℕ-discrete}
 use native.Mathlib.Omega.{arith}
-use lib.ListN.{length, getD}
+use lib.ListN.{getD}
 use Rattle.search.specs.Search.{decided}
 use Rattle.layout.specs.Held.{Held}
-use Rattle.records.specs.Record.{word, slotWords, rank, empty, sound, recordOf, ruleOf}
+use Rattle.records.specs.Record.{slotWords, rank, empty, recordOf, ruleOf}
 use Rattle.records.specs.Order.{slots}
 use Rattle.records.specs.Rules.{record-of-rule}
-use Rattle.records.specs.Checks.{checkShape, checkRecords, slotChecks, tableChecks}
-use Rattle.records.specs.Laws.{or-else-pass, records-law, sound-law}
-use Rattle.records.specs.Entries.{vacant, entries, entryAt, entryOccupied, entries-length, entry-at, occupied-at}
+use Rattle.records.specs.Checks.{tableChecks}
+use Rattle.records.specs.Laws.{slot-checks-law, table-checks-law, records-law, sound-law}
+use Rattle.records.specs.Entries.{vacant, entries, entryOccupied, entries-length, entry-at, occupied-at}
 use Rattle.records.specs.declared.Rule.{Rule}
 use Rattle.records.specs.declared.Check.the-variants.{Pass}
 use Rattle.histories.specs.RuleSet.{Member}
-use Rattle.histories.specs.Holding.{Holding, checks-twice-order}
+use Rattle.histories.specs.Holding.{Holding}
 
 -- the rules of the occupied slots below n
 unfoldable pub rulesBelow : ℕ → List ℕ → ℕ → List Rule
@@ -61,7 +61,7 @@ rules-below w t (suc n) r = pick (decided (empty w (slotWords w t n))) (rules-be
 
 -- every sound table holds its rules
 pub table-holding : (w : ℕ) (t : List ℕ) → tableChecks w t ≡ Pass → Holding w (tableRules w t) t
-unfolding slotChecks ruleOf
+unfolding ruleOf
 table-holding w t checks = record {
   checks = checks;
   held = λ x. (λ m. forth x m, back x);
@@ -71,7 +71,7 @@ table-holding w t checks = record {
   where
     read : (i : ℕ) → i < slots w t → empty w (slotWords w t i) ≡ false → recordOf w (ruleOf w (slotWords w t i)) ≡ getD (entries w t) i (vacant w)
     read i h o =
-        let records = or-else-pass (checkShape w t) (checkRecords w t) .0 (checks-twice-order w t checks .0) .1 in
+        let records = slot-checks-law w t .0 (table-checks-law w t .0 checks .0) .1 in
         let low : rank w (slotWords w t i) < 4294967296 =
         ⊎-elim (λ v. absurd (true≢false (sym v ∙ o))) (λ s. omega (arith, sound-law w _ _ _ _ .0 s .1)) (records-law w t .0 records i h) in
         record-of-rule w (slotWords w t i) low ∙ sym (entry-at w t i h)

@@ -129,13 +129,26 @@ pub shape-length : (w : ℕ) (t : List ℕ) → checkShape w t ≡ Pass → leng
 shape-length w t e =
     let s = shape-law w t .0 e in omega (arith, s .3, mul-le-mul-right (recordWords w) (s .2))
 
-pub slot-checks-length : (w : ℕ) (t : List ℕ) → slotChecks w t ≡ Pass → length t ≤ 1024 * recordWords w
+-- checks 1 and 2, and 1 to 4, pass exactly when each of them does
+pub slot-checks-law : (w : ℕ) (t : List ℕ) → (slotChecks w t ≡ Pass) ↔ ((checkShape w t ≡ Pass) × (checkRecords w t ≡ Pass))
 unfolding slotChecks
-slot-checks-length w t e = shape-length w t (or-else-pass (checkShape w t) (checkRecords w t) .0 e .0)
+slot-checks-law w t = or-else-pass (checkShape w t) (checkRecords w t)
+
+pub table-checks-law : (w : ℕ) (t : List ℕ)
+    → (tableChecks w t ≡ Pass) ↔ ((slotChecks w t ≡ Pass) × (checkTwice w t ≡ Pass) × (checkOrder w t ≡ Pass))
+unfolding tableChecks
+table-checks-law w t =
+    let a = or-else-pass (slotChecks w t) (orElse (checkTwice w t) (checkOrder w t)) in
+    let b = or-else-pass (checkTwice w t) (checkOrder w t) in (
+      λ e. let f = a .0 e in let g = b .0 (f .1) in (f .0, g .0, g .1),
+      λ p. a .1 (p .0, b .1 (p .1, p .2)),
+    )
+
+pub slot-checks-length : (w : ℕ) (t : List ℕ) → slotChecks w t ≡ Pass → length t ≤ 1024 * recordWords w
+slot-checks-length w t e = shape-length w t (slot-checks-law w t .0 e .0)
 
 pub table-checks-length : (w : ℕ) (t : List ℕ) → tableChecks w t ≡ Pass → length t ≤ 1024 * recordWords w
-unfolding tableChecks
-table-checks-length w t e = slot-checks-length w t (or-else-pass (slotChecks w t) (orElse (checkTwice w t) (checkOrder w t)) .0 e .0)
+table-checks-length w t e = slot-checks-length w t (table-checks-law w t .0 e .0)
 
 -- the lowest slot that fails a check, exactly
 pub lowest-pass : (cause : Cause) (p : ℕ → Bool) (n : ℕ) → (lowest cause p n ≡ Pass) ↔ ((i : ℕ) → i < n → p i ≡ false)

@@ -1,19 +1,18 @@
 -- Planning a delete: one emptying write. Checks 1 to 4, then 5 for id 0, 7 and 11 of document 01.
 -- A plan buffer is left as it was where the call declines, and past the count.
-use mathlib.Core.Path.{_≡_, refl, ap}
-use mathlib.Core.Bool.{Bool, true, false, cond, _&&_}
+use mathlib.Core.Path.{_≡_, ap}
+use mathlib.Core.Bool.{Bool, true, cond, _&&_}
 use mathlib.Core.List.{List, [], _∷_}
-use Prim.Native.Nat.{ℕ, _+_, _*_, _<_, _≤_}
+use Prim.Native.Nat.{ℕ, _<_, _≤_}
 use native.Mathlib.Omega.{arith}
 use lib.Dec.{eqb, ltb}
-use lib.ListN.{length}
 use borrow.Author.Tests.{ltb-true, lt-ltb, le-ltb, eq-eqb, ne-eqb}
 use Rattle.search.specs.Search.{least, least-law, and-right}
 use Rattle.layout.specs.Write.{clear, writeWord}
 use Rattle.records.specs.Record.{slotWords, ident, occupied, putSlot}
 use Rattle.records.specs.Order.{slots}
-use Rattle.records.specs.Checks.{Told, orElse, checkShape, checkRecords, checkTwice, checkOrder, slotChecks, tableChecks}
-use Rattle.records.specs.Laws.{or-else-pass, pass-law, table-checks-length}
+use Rattle.records.specs.Checks.{Told, orElse, checkShape, tableChecks}
+use Rattle.records.specs.Laws.{or-else-pass, pass-law, slot-checks-law, table-checks-law, table-checks-length}
 use Rattle.records.specs.Entries.{vacant, shaped-slots}
 use Rattle.records.specs.Writes.{writeOf, write-of-word, applyWrite, applyWords, fitsWord}
 use Rattle.records.specs.declared.Rule.{Rule}
@@ -76,29 +75,23 @@ delete-small t id e =
     let h = table-checks-length 2 t (or-else-pass (tableChecks 2 t) (orElse (checkId id) (checkUnknown 2 t id)) .0 e .0) in
     omega (arith, l .high)
 
--- What a delete that passes its checks plans: the slot holds the rule, its one word empties that slot, and the write fits.
+-- What a delete that passes its checks plans: the table is sound, the slot holds the rule, its one word empties that slot, and the write fits.
 pub record DeletePlanned (w : ℕ) (t : List ℕ) (id : ℕ) : Type 0 where
+  pub table : tableChecks w t ≡ Pass
   pub exists : slotOfId w t id < slots w t
   pub holds : hasId w t id (slotOfId w t id) ≡ true
   pub fits : fitsWord w t (writeWord (clear (slotOfId w t id))) ≡ true
-  pub once : checkTwice w t ≡ Pass
-  pub order : checkOrder w t ≡ Pass
   pub after : (rule : Rule) → applyWords w t rule (deleteWords w t id) ≡ putSlot w t (slotOfId w t id) (vacant w)
 
 pub delete-planned : (w : ℕ) (t : List ℕ) (id : ℕ) → deleteChecks w t id ≡ Pass → DeletePlanned w t id
-unfolding deleteChecks slotOfId checkUnknown hasId slotChecks tableChecks
-delete-planned w t id e = record { exists = exists; holds = holds; fits = fits; once = others .0; order = others .1; after = λ rule. ap (applyWrite w t rule) write }
+unfolding deleteChecks slotOfId checkUnknown hasId
+delete-planned w t id e = record { table = checks .0; exists = exists; holds = holds; fits = fits; after = λ rule. ap (applyWrite w t rule) write }
   where
     checks : (tableChecks w t ≡ Pass) × (orElse (checkId id) (checkUnknown w t id) ≡ Pass)
     checks = or-else-pass (tableChecks w t) (orElse (checkId id) (checkUnknown w t id)) .0 e
 
-    others : (checkTwice w t ≡ Pass) × (checkOrder w t ≡ Pass)
-    others =
-        or-else-pass (checkTwice w t) (checkOrder w t) .0 (or-else-pass (slotChecks w t) (orElse (checkTwice w t) (checkOrder w t)) .0 (checks .0) .1)
-
     shape : checkShape w t ≡ Pass
-    shape =
-        or-else-pass (checkShape w t) (checkRecords w t) .0 (or-else-pass (slotChecks w t) (orElse (checkTwice w t) (checkOrder w t)) .0 (checks .0) .0) .0
+    shape = slot-checks-law w t .0 (table-checks-law w t .0 (checks .0) .0) .0
 
     exists : slotOfId w t id < slots w t
     exists = ltb-true (slotOfId w t id) (slots w t) (pass-law Unknown 0 _ .0 (or-else-pass (checkId id) (checkUnknown w t id) .0 (checks .1) .1))

@@ -10,6 +10,7 @@ use Rattle.layout.specs.Insert.{LeastPlan}
 use Rattle.records.specs.Record.{recordOf}
 use Rattle.records.specs.Order.{slots}
 use Rattle.records.specs.Checks.{Told, success}
+use Rattle.records.specs.Laws.{slot-checks-law, table-checks-law}
 use Rattle.records.specs.Entries.{vacant, entries, entryOccupied, entrySame, entryMisordered, entries-length, shaped-slots}
 use Rattle.records.specs.Writes.{applyWords}
 use Rattle.records.specs.ClassWords.{InClassWords}
@@ -19,7 +20,7 @@ use Rattle.records.specs.declared.Check.the-variants.{Pass}
 use Rattle.table.specs.Plans.{plan-written}
 use Rattle.neighbours.specs.Neighbours.{insertChecks}
 use Rattle.table.specs.Insertable.{Insertable, insertable-law}
-use Rattle.table.specs.Inserts.{insertWords, insertAnswer, insertPlan, plannable, insert-least}
+use Rattle.table.specs.Inserts.{insertWords, insertAnswer, insertPlan, insert-least}
 
 -- What demand 3 promises of an insert: told is the answer, plan the buffer before the call and after the buffer after it.
 -- The plan's words are in the comparison class, which asks of each write that it fits and of the table that it is in order after it.
@@ -54,13 +55,13 @@ demand-3 w t rule small insertable plan = record { needed = count; few = omega (
     e = insertable-law w t rule .1 insertable
 
     best : LeastPlan (vacant w) (entryOccupied w) (entrySame w) (entryMisordered w) (entries w t) (recordOf w rule) (insertChoiceOf w t rule)
-    best = insert-least w t rule (plannable w t rule e) small
+    best = insert-least w t rule insertable small
 
     valid : ValidPlan w t rule (insertChoiceOf w t rule)
     valid = best .valid
 
     low : slots w t ≤ 65534
-    low = omega (arith, shaped-slots w t (plannable w t rule e .shape) .1)
+    low = omega (arith, shaped-slots w t (slot-checks-law w t .0 (table-checks-law w t .0 (insertable .table) .0) .0) .1)
 
     count : length (insertWords w t rule) ≡ suc (insertChoiceOf w t rule .cost)
     count = plan-words-count w t rule low (insertChoiceOf w t rule) valid

@@ -1,16 +1,18 @@
 -- When checks 1 to 10 of an insert pass, in plain terms: the premises of demand 3; and what each of checks 6 and 8 to 10 says when it fails.
 -- And in a table in order the rules that may not stand before a rule, of those after it, are the rules that depend on it.
-use mathlib.Core.Path.{_≡_, refl, sym, ap, _∙_, subst}
+use mathlib.Core.Path.{_≡_, refl, sym, ap, _∙_, fun-ext, subst}
 use mathlib.Core.Bool.{true, false, true≢false}
 use mathlib.Core.Logic.{_↔_}
 use mathlib.Core.List.{List}
 use Prim.Native.Nat.{ℕ, suc, _+_, _-_, _≤_, _<_}
+use native.Mathlib.Nat.{zero-mul, zero-add}
 use native.Mathlib.Decide.{decLt}
 use native.Mathlib.Omega.{arith}
+use lib.ListN.{getD}
 use borrow.Author.Tests.{ltb-false}
-use Rattle.search.specs.Search.{Least, least-law, AfterLast, after-last-law, after-last-unique}
+use Rattle.search.specs.Search.{any, any-yes, Least, least-law, AfterLast, after-last-law, after-last-unique}
 use Rattle.ternary.specs.Pattern.{Words}
-use Rattle.records.specs.Record.{word, slotWords, empty, soundRule, recordOf}
+use Rattle.records.specs.Record.{word, recordWords, slotWords, empty, soundRule, recordOf}
 use Rattle.records.specs.Order.{slots, sameId, tied, precedes, misordered}
 use Rattle.records.specs.Checks.{orElse, tableChecks, checkOrder}
 use Rattle.records.specs.Laws.{or-else-pass, lowest-pass, lowest-fail, pass-law, cond-pass, precedes-law, tied-law, order-law}
@@ -21,7 +23,10 @@ use Rattle.records.specs.declared.Cause.the-variants.{Rule as RuleCause, Known,
 use Rattle.records.specs.declared.Check.the-variants.{Pass, Fail}
 use Rattle.neighbours.specs.Neighbours.{checkRule, checkKnown, checkTie, checkFull, checkCrossed, afterA, slotB, newChecks, ruleWords, insertChecks}
 use Rattle.neighbours.specs.Neighbours.{room-at, room-none, crossed-yes, crossed-no}
-use Rattle.table.specs.Inserts.{rule-words, plannable}
+
+-- a rule as a table of one slot has its record's words
+pub rule-words : (w : ℕ) (rule : Rule) → ruleWords w rule ≡ word (recordOf w rule)
+rule-words w rule = fun-ext (λ j. ap (λ (k : ℕ). getD (recordOf w rule) k 0) (ap (λ (k : ℕ). k + j) (zero-mul (recordWords w)) ∙ zero-add j))
 
 -- document 01: A > B is crossed. Not crossed: every rule that precedes the new one stands before every rule that depends on it
 abbrev pub Uncrossed : ℕ → List ℕ → Words → Type 0
@@ -92,7 +97,7 @@ crossed-pass w t new = (
 
 -- checks 1 to 10 of an insert pass exactly when demand 3's premises hold
 pub insertable-law : (w : ℕ) (t : List ℕ) (rule : Rule) → (insertChecks w t rule ≡ Pass) ↔ Insertable w t rule
-unfolding insertChecks newChecks checkRule checkKnown checkTie
+unfolding insertChecks newChecks checkRule checkKnown checkTie checkFull
 insertable-law w t rule =
     let new = ruleWords w rule in
     let same = rule-words w rule in
@@ -101,15 +106,19 @@ insertable-law w t rule =
     let c = or-else-pass (checkKnown w t new) (orElse (checkTie w t new) (orElse (checkFull w t) (checkCrossed w t new))) in
     let d = or-else-pass (checkTie w t new) (orElse (checkFull w t) (checkCrossed w t new)) in
     let f = or-else-pass (checkFull w t) (checkCrossed w t new) in (
-      λ e. let p = plannable w t rule e in
-          let crossed = f .0 (d .0 (c .0 (b .0 (a .0 e .1) .1) .1) .1) .1 in
+      λ e. let rest = b .0 (a .0 e .1) in
+          let known = c .0 (rest .1) in
+          let tie = d .0 (known .1) in
+          let full = f .0 (tie .1) in
           record {
             table = a .0 e .0;
-            sound = p .sound;
-            new = p .idNew;
-            untied = p .untied;
-            room = p .room;
-            uncrossed = subst (λ (x : Words). Uncrossed w t x) same (crossed-pass w t new .0 crossed);
+            sound = pass-law RuleCause 0 (soundRule w rule) .0 (rest .0);
+            new = λ i l. ap (λ (x : Words). sameId w (slotWords w t i) x) (sym same)
+                ∙ lowest-pass Known (λ (i : ℕ). sameId w (slotWords w t i) new) (slots w t) .0 (known .0) i l;
+            untied = λ i l. ap (λ (x : Words). tied w (slotWords w t i) x) (sym same)
+                ∙ lowest-pass Tie (λ (i : ℕ). tied w (slotWords w t i) new) (slots w t) .0 (tie .0) i l;
+            room = any-yes (λ (i : ℕ). empty w (slotWords w t i)) (slots w t) (pass-law Full 0 (any (λ (i : ℕ). empty w (slotWords w t i)) (slots w t)) .0 (full .0));
+            uncrossed = subst (λ (x : Words). Uncrossed w t x) same (crossed-pass w t new .0 (full .1));
           },
       λ p. let known = lowest-pass Known (λ (i : ℕ). sameId w (slotWords w t i) new) (slots w t) .1
           (λ i h. ap (λ (x : Words). sameId w (slotWords w t i) x) same ∙ p .new i h) in
@@ -120,6 +129,14 @@ insertable-law w t rule =
           let crossed = crossed-pass w t new .1 (subst (λ (x : Words). Uncrossed w t x) (sym same) (p .uncrossed)) in
           a .1 (p .table, b .1 (pass-law RuleCause 0 (soundRule w rule) .1 (p .sound), c .1 (known, d .1 (tie, f .1 (full, crossed))))),
     )
+
+-- in numbers: A + 1 is at most B + 1
+pub uncrossed-numbers : (w : ℕ) (t : List ℕ) (rule : Rule) → Insertable w t rule → afterA w t (ruleWords w rule) ≤ suc (slotB w t (ruleWords w rule))
+unfolding checkCrossed
+uncrossed-numbers w t rule p =
+    let new = ruleWords w rule in
+    ltb-false (suc (slotB w t new)) (afterA w t new)
+    (cond-pass Crossed (afterA w t new - 1) _ (crossed-pass w t new .1 (subst (λ (x : Words). Uncrossed w t x) (sym (rule-words w rule)) (p .uncrossed))))
 
 -- document 01: in a table in order no two rules tie, so the rule in y may not stand before that in i exactly when it depends on it
 pub dependant-after : (w : ℕ) (t : List ℕ) → checkOrder w t ≡ Pass → (i y : ℕ) → i < y → y < slots w t

@@ -1,18 +1,14 @@
 -- Planning an insert: the words of its plan, its answer and the buffer afterwards; and what the checks give the theory of layouts.
 -- Document 01, "How a plan is found", on the table's words.
-use mathlib.Core.Path.{_≡_, refl, sym, ap, ap₂, _∙_, fun-ext, subst}
-use mathlib.Core.Bool.{Bool, true, false, cond, false≢true}
-use mathlib.Core.Logic.{_≢_}
-use mathlib.Core.List.{List, [], _∷_, _++_, map}
+use mathlib.Core.Path.{_≡_, refl, sym, ap, ap₂, _∙_, subst}
+use mathlib.Core.Bool.{Bool, true, false, cond}
+use mathlib.Core.List.{List, [], _∷_, _++_}
 use Prim.Native.Nat.{ℕ, suc, _+_, _-_, _*_, _≤_, _<_}
-use native.Mathlib.Nat.{zero-mul, zero-add}
 use native.Mathlib.Omega.{arith}
-use lib.Dec.{ltb}
 use lib.ListN.{length, getD, drop}
-use borrow.Author.Tests.{ltb-false}
-use Rattle.search.specs.Search.{any, any-yes, least, afterLast, decided}
+use Rattle.search.specs.Search.{least, afterLast}
 use Rattle.ternary.specs.Pattern.{Words}
-use Rattle.layout.specs.Plan.{Choice, Range as LayoutRange, afterPreceding, firstDependant, rangeDown, rangeUp, choose, insertChoice, writes}
+use Rattle.layout.specs.Plan.{Choice, Range as LayoutRange, afterPreceding, firstDependant, rangeDown, rangeUp, choose, insertChoice}
 use Rattle.planner.specs.Emit.{Stays}
 use Rattle.planner.specs.Costs.{costOf, SolvedFrom}
 use Rattle.planner.specs.Choice.{choiceOf, planWords as numberWords, plan-words-length}
@@ -20,21 +16,21 @@ use Rattle.planner.specs.declared.Choice.{Choice as NumberChoice}
 use Rattle.planner.specs.Agree.{Agrees, Emits, plan-law}
 use Rattle.planner.specs.Ends.{numbers-law}
 use Rattle.layout.specs.Insert.{LeastPlan}
-use Rattle.records.specs.Record.{word, slotWords, empty, soundRule, recordOf, recordWords, listed}
-use Rattle.records.specs.Order.{slots, sameId, tied, precedes}
-use Rattle.records.specs.Checks.{Told, success, refusal, orElse, slotChecks, tableChecks, checkShape, checkRecords, checkTwice, checkOrder}
-use Rattle.records.specs.Laws.{or-else-pass, lowest-pass, sound-law, pass-law, cond-pass, shape-length}
+use Rattle.records.specs.Record.{slotWords, recordOf, recordWords, listed}
+use Rattle.records.specs.Order.{slots, precedes}
+use Rattle.records.specs.Checks.{Told, success, refusal}
+use Rattle.records.specs.Laws.{sound-law, table-checks-law, table-checks-length}
 use Rattle.records.specs.Entries.{vacant, entries, entryOccupied, entrySame, entryMisordered, entries-length}
-use Rattle.records.specs.Inserts.{insertChoiceOf, planWords, Untied, IdNew, newMisordered, misorderedNew, uncrossed-apart, insert-words}
+use Rattle.records.specs.Inserts.{insertChoiceOf, planWords, newMisordered, misorderedNew, uncrossed-apart, insert-words}
 use Rattle.records.specs.Inserts.{after-preceding-precedes, first-dependant-precedes, after-preceding-slots, first-dependant-slots}
 use Rattle.records.specs.declared.Rule.{Rule}
 use Rattle.records.specs.declared.Cause.the-variants.{Short}
-use Rattle.records.specs.declared.Check.{Check}
-use Rattle.records.specs.declared.Check.the-variants.{Pass, Fail}
+use Rattle.records.specs.declared.Check.the-variants.{Pass}
+use Rattle.table.specs.Insertable.{Insertable, insertable-law, rule-words, uncrossed-numbers}
 use Rattle.table.specs.Plans.{planAnswer, planBuffer, plan-short, plan-written}
 use Rattle.neighbours.specs.Windows.{endAt}
 use Rattle.table.specs.Joined.{Costed, ends-listed, ends-down as ends-down-law, ends-up as ends-up-law}
-use Rattle.neighbours.specs.Neighbours.{checkRule, checkKnown, checkTie, checkFull, checkCrossed, afterA, slotB, newChecks, ruleWords, insertChecks}
+use Rattle.neighbours.specs.Neighbours.{afterA, slotB, ruleWords, insertChecks}
 
 -- the plan's words: the far end of the chain first, the new rule last
 abbrev pub insertWords : ℕ → List ℕ → Rule → List ℕ
@@ -47,71 +43,34 @@ insertAnswer w t rule room = planAnswer (insertChecks w t rule) (length (insertW
 abbrev pub insertPlan : ℕ → List ℕ → Rule → List ℕ → List ℕ
 insertPlan w t rule plan = planBuffer (insertChecks w t rule) (insertWords w t rule) plan
 
--- a rule as a table of one slot has its record's words
-pub rule-words : (w : ℕ) (rule : Rule) → ruleWords w rule ≡ word (recordOf w rule)
-rule-words w rule = fun-ext (λ j. ap (λ (k : ℕ). getD (recordOf w rule) k 0) (ap (λ (k : ℕ). k + j) (zero-mul (recordWords w)) ∙ zero-add j))
-
--- what an insert that passes checks 1 to 10 has
-pub record Plannable (w : ℕ) (t : List ℕ) (rule : Rule) : Type 0 where
-  pub shape : checkShape w t ≡ Pass
-  pub once : checkTwice w t ≡ Pass
-  pub order : checkOrder w t ≡ Pass
-  pub sound : soundRule w rule ≡ true
-  pub idNew : IdNew w t rule
-  pub untied : Untied w t rule
-  pub room : (e : ℕ) × (e < slots w t) × (empty w (slotWords w t e) ≡ true)
-  pub uncrossed : afterA w t (ruleWords w rule) ≤ suc (slotB w t (ruleWords w rule))
-
-pub plannable : (w : ℕ) (t : List ℕ) (rule : Rule) → insertChecks w t rule ≡ Pass → Plannable w t rule
-unfolding insertChecks newChecks tableChecks slotChecks checkRule checkKnown checkTie checkFull checkCrossed
-plannable w t rule e =
-    let new = ruleWords w rule in
-    let a = or-else-pass (tableChecks w t) (orElse (checkRule w rule) (newChecks w t new)) .0 e in
-    let b = or-else-pass (slotChecks w t) (orElse (checkTwice w t) (checkOrder w t)) .0 (a .0) in
-    let c = or-else-pass (checkTwice w t) (checkOrder w t) .0 (b .1) in
-    let d = or-else-pass (checkRule w rule) (newChecks w t new) .0 (a .1) in
-    let f = or-else-pass (checkKnown w t new) (orElse (checkTie w t new) (orElse (checkFull w t) (checkCrossed w t new))) .0 (d .1) in
-    let g = or-else-pass (checkTie w t new) (orElse (checkFull w t) (checkCrossed w t new)) .0 (f .1) in
-    let h = or-else-pass (checkFull w t) (checkCrossed w t new) .0 (g .1) in
-    let same = rule-words w rule in
-    record {
-      shape = or-else-pass (checkShape w t) (checkRecords w t) .0 (b .0) .0;
-      once = c .0;
-      order = c .1;
-      sound = pass-law _ 0 (soundRule w rule) .0 (d .0);
-      idNew = λ i l. ap (λ (x : Words). sameId w (slotWords w t i) x) (sym same) ∙ lowest-pass _ (λ (i : ℕ). sameId w (slotWords w t i) new) (slots w t) .0 (f .0) i l;
-      untied = λ i l. ap (λ (x : Words). tied w (slotWords w t i) x) (sym same) ∙ lowest-pass _ (λ (i : ℕ). tied w (slotWords w t i) new) (slots w t) .0 (g .0) i l;
-      room = any-yes (λ (i : ℕ). empty w (slotWords w t i)) (slots w t) (pass-law _ 0 (any (λ (i : ℕ). empty w (slotWords w t i)) (slots w t)) .0 (h .0));
-      uncrossed = ltb-false (suc (slotB w t new)) (afterA w t new) (cond-pass _ _ _ (h .1));
-    }
-
-module _ (w : ℕ) (t : List ℕ) (rule : Rule) (p : Plannable w t rule) where
+module _ (w : ℕ) (t : List ℕ) (rule : Rule) (p : Insertable w t rule) where
   -- A + 1 and B of the table are those of its layout
   pub after-is : afterA w t (ruleWords w rule) ≡ afterPreceding (vacant w) (entryMisordered w) (entries w t) (recordOf w rule)
   unfolding afterA
   after-is =
       ap (λ (x : Words). afterLast (λ (i : ℕ). precedes w (slotWords w t i) x) (slots w t)) (rule-words w rule)
-      ∙ after-preceding-precedes w t rule (p .untied) (p .idNew)
+      ∙ after-preceding-precedes w t rule (p .untied) (p .new)
 
   pub dependant-is : slotB w t (ruleWords w rule) ≡ firstDependant (vacant w) (entryMisordered w) (entries w t) (recordOf w rule)
   unfolding slotB
   dependant-is =
       ap (λ (x : Words). least (λ (i : ℕ). precedes w x (slotWords w t i)) (slots w t) 0) (rule-words w rule)
-      ∙ first-dependant-precedes w t rule (p .untied) (p .idNew)
+      ∙ first-dependant-precedes w t rule (p .untied) (p .new)
 
   apart : afterLast (newMisordered w rule t) (slots w t) ≤ least (misorderedNew w rule t) (slots w t) 0
   apart =
-      uncrossed-apart w t rule (p .untied) (p .idNew)
+      uncrossed-apart w t rule (p .untied) (p .new)
       (let a = after-is in
       let b = dependant-is in
-      omega (arith, p .uncrossed, after-preceding-slots w t rule, first-dependant-slots w t rule))
+      omega (arith, uncrossed-numbers w t rule p, after-preceding-slots w t rule, first-dependant-slots w t rule))
 
   -- the plan is valid, at most as long as the table has slots, and a shortest one of the comparison class
   pub insert-least : rule .action < 4294967296
       → LeastPlan (vacant w) (entryOccupied w) (entrySame w) (entryMisordered w) (entries w t) (recordOf w rule) (insertChoiceOf w t rule)
   insert-least small =
       let e = p .room in
-      insert-words w t rule (p .once) (p .order) (p .idNew) (sound-law w _ _ _ _ .0 (p .sound) .0) small (e .0) (e .1) (e .2) apart
+      let checks = table-checks-law w t .0 (p .table) in
+      insert-words w t rule (checks .1) (checks .2) (p .new) (sound-law w _ _ _ _ .0 (p .sound) .0) small (e .0) (e .1) (e .2) apart
 
   -- the planner's choice, from costs that solve the equations of the table's window ends, is the layout's
   pub numbers-agree : (ends-down ends-up down up : List ℕ)
@@ -168,7 +127,7 @@ pub record Joined (w : ℕ) (t : List ℕ) (rule : Rule) (down up : List ℕ) (c
   pub stays : Stays (costOf (cond (choice .up) up down)) (slots w t) (choice .position) (choice .cost)
   pub words : numberWords (costOf (cond (choice .up) up down)) (slots w t) choice ≡ insertWords w t rule
 
-pub joined : (w : ℕ) (t : List ℕ) (rule : Rule) → Plannable w t rule → rule .action < 4294967296 → (down up : List ℕ) (choice : NumberChoice)
+pub joined : (w : ℕ) (t : List ℕ) (rule : Rule) → Insertable w t rule → rule .action < 4294967296 → (down up : List ℕ) (choice : NumberChoice)
     → Agrees (slots w t) (costOf down) (costOf up) choice (insertChoiceOf w t rule) → Joined w t rule down up choice
 joined w t rule p small down up choice agrees =
     let plan = insert-least w t rule p small in
@@ -190,11 +149,11 @@ pub choice-joined : (w : ℕ) (t : List ℕ) (rule : Rule) → insertChecks w t 
     (record { from = afterA w t (ruleWords w rule) - 1; to = slotB w t (ruleWords w rule) })
     → Joined w t rule down up choice
 choice-joined w t rule e small down up g h choice f =
-    let p = plannable w t rule e in
+    let p = insertable-law w t rule .0 e in
     joined w t rule p small down up choice
     (subst (λ (c : NumberChoice). Agrees (slots w t) (costOf down) (costOf up) c (insertChoiceOf w t rule)) (sym f)
     (numbers-agree w t rule p (listed (slots w t) (endAt w t false)) (listed (slots w t) (endAt w t true)) down up (ends-listed w t false)
     (ends-listed w t true) g h (afterA w t (ruleWords w rule)) (slotB w t (ruleWords w rule)) refl refl))
 
 pub insert-length : (w : ℕ) (t : List ℕ) (rule : Rule) → insertChecks w t rule ≡ Pass → length t ≤ 1024 * recordWords w
-insert-length w t rule e = shape-length w t (plannable w t rule e .shape)
+insert-length w t rule e = table-checks-length w t (insertable-law w t rule .0 e .table)

@@ -1,8 +1,8 @@
--- Document 01, demand 2 within a plan, on words: every key keeps its reply until the last write, and from then on has the reply of the changed
--- set of rules. The layout's theorems are applied to the table's records.
+-- Replies by a table's records: a table's reply is that of its layout, and every key keeps it until the last write of an insert's plan.
+-- The layout's theorems are applied to the table's records.
 use mathlib.Core.Path.{_≡_, refl, sym, ap, ap₂, _∙_}
 use mathlib.Core.Bool.{Bool, true, false, cond, and-comm, true≢false}
-use mathlib.Core.Logic.{_↔_, _⊎_}
+use mathlib.Core.Logic.{_⊎_}
 use mathlib.Core.Logic._⊎_.{inl, inr}
 use mathlib.Core.Option.{Option, none, some}
 use mathlib.Core.List.{List, [], _∷_}
@@ -14,24 +14,21 @@ use lib.ListN.{length, getD, take, drop}
 use borrow.Author.Tests.{lt-ltb, le-ltb}
 use Rattle.search.specs.Search.{least}
 use Rattle.ternary.specs.Pattern.{Words, Overlap, overlaps-law, matched-overlap}
-use Rattle.layout.specs.Held.{Held, emptied, unique-coherent}
-use Rattle.layout.specs.Write.{clear}
-use Rattle.layout.specs.Replies.{Answers, ConflictOrAlike, firstMatch as layoutMatch, reply as layoutReply}
-use Rattle.layout.specs.Changes.{between-reply, placed-reply, removed-reply}
+use Rattle.layout.specs.Held.{unique-coherent}
+use Rattle.layout.specs.Replies.{ConflictOrAlike, firstMatch as layoutMatch, reply as layoutReply}
+use Rattle.layout.specs.Changes.{between-reply}
 use Rattle.layout.specs.InPlace.{first-match-by}
-use Rattle.records.specs.Record.{word, slotWords, value, mask, ident, action, rank, occupied, patternMatches, slotMatches, recordOf}
-use Rattle.records.specs.Order.{slots, sameId, misordered}
-use Rattle.records.specs.Checks.{Told, success, firstMatch}
-use Rattle.records.specs.Laws.{same-id-law, misordered-law}
+use Rattle.records.specs.Record.{word, slotWords, value, mask, ident, action, rank, patternMatches, slotMatches}
+use Rattle.records.specs.Order.{slots, misordered}
+use Rattle.records.specs.Checks.{firstMatch}
+use Rattle.records.specs.Laws.{table-checks-law, same-id-law, misordered-law}
 use Rattle.records.specs.Entries.{vacant, entries, entryOccupied, entrySame, entryMisordered, entries-length, entry-same, entry-laws, matches-at, ident-cong, action-cong, order-entries, unique-entries}
-use Rattle.records.specs.Writes.{applyWords, apply-entries}
+use Rattle.records.specs.Writes.{applyWords}
 use Rattle.records.specs.declared.Rule.{Rule}
-use Rattle.records.specs.declared.Check.the-variants.{Pass}
 use Rattle.table.specs.Lookup.{lookupTold, hitAt, matchTold, reply}
 use Rattle.table.specs.declared.LookupAnswer.the-variants.{Found, Miss}
-use Rattle.table.specs.Deletes.{slotOfId, deleteChecks, deleteWords, delete-planned}
-use Rattle.table.specs.Insertable.{Insertable, insertable-law}
-use Rattle.table.specs.Inserts.{insertWords, plannable}
+use Rattle.table.specs.Insertable.{Insertable}
+use Rattle.table.specs.Inserts.{insertWords}
 use Rattle.table.specs.Demand3.{shortest-words}
 
 -- an entry matches a key; id and action are what a reply tells of it
@@ -110,37 +107,10 @@ module _ (w : ℕ) (t : List ℕ) (rule : Rule) (small : rule .action < 42949672
   -- until the last write every key keeps its reply
   pub insert-keeps-reply : (k : ℕ) → k < length (insertWords w t rule) → reply w (applyWords w t rule (take k (insertWords w t rule))) key ≡ reply w t key
   insert-keeps-reply k h =
-      let p = plannable w t rule (insertable-law w t rule .1 insertable) in
+      let checks = table-checks-law w t .0 (insertable .table) in
       let after = applyWords w t rule (take k (insertWords w t rule)) in
       reply-entries w after key
       ∙ (ap optionTold
-      (between-reply (entry-laws w) (entryMatches w key) (entryTold w) (entries-conflict w key) (entries w t) (entries w after) (order-entries w t .1 (p .order))
-      (unique-coherent (entry-laws w) (entries w t) (unique-entries w t .1 (p .once))) (shortest-words w t rule small insertable .between k h))
+      (between-reply (entry-laws w) (entryMatches w key) (entryTold w) (entries-conflict w key) (entries w t) (entries w after) (order-entries w t .1 (checks .2))
+      (unique-coherent (entry-laws w) (entries w t) (unique-entries w t .1 (checks .1))) (shortest-words w t rule small insertable .between k h))
       ∙ sym (reply-entries w t key))
-
-  -- after it every key has the reply of the rules of the table and the new one
-  pub insert-last-reply : (told : Option (List ℕ)) × (reply w (applyWords w t rule (insertWords w t rule)) key ≡ optionTold told)
-      × Answers (entryMisordered w) (entryMatches w key) (entryTold w) (λ x. Held (vacant w) (entryOccupied w) (entries w t) x ⊎ (recordOf w rule ≡ x)) told
-  insert-last-reply =
-      let after = applyWords w t rule (insertWords w t rule) in (
-        layoutReply (vacant w) (entryOccupied w) (entryMatches w key) (entryTold w) (entries w after),
-        reply-entries w after key,
-        placed-reply (entry-laws w) (entryMatches w key) (entryTold w) (entries-conflict w key) (entries w t) (recordOf w rule) _ (entries w after) (shortest-words w t rule small insertable .placed),
-      )
-
--- a delete's one write: every key then has the reply of the rules of other ids
-pub delete-reply : (w : ℕ) (t : List ℕ) (id : ℕ) → deleteChecks w t id ≡ Pass → (rule : Rule) (key : Words)
-    → (told : Option (List ℕ)) × (reply w (applyWords w t rule (deleteWords w t id)) key ≡ optionTold told)
-    × Answers (entryMisordered w) (entryMatches w key) (entryTold w)
-    (λ x. Held (vacant w) (entryOccupied w) (entries w t) x × (entrySame w x (getD (entries w t) (slotOfId w t id) (vacant w)) ≡ false)) told
-delete-reply w t id checks rule key =
-    let s = slotOfId w t id in
-    let p = delete-planned w t id checks in
-    let after : entries w (applyWords w t rule (deleteWords w t id)) ≡ emptied (vacant w) (entries w t) s =
-    ap (entries w) (p .after rule) ∙ apply-entries w t rule (clear s) (p .exists) in (
-      layoutReply (vacant w) (entryOccupied w) (entryMatches w key) (entryTold w) (emptied (vacant w) (entries w t) s),
-      reply-entries w (applyWords w t rule (deleteWords w t id)) key
-          ∙ ap (λ (l : List (List ℕ)). optionTold (layoutReply (vacant w) (entryOccupied w) (entryMatches w key) (entryTold w) l)) after,
-      removed-reply (entry-laws w) (entryMatches w key) (entryTold w) (entries-conflict w key) (entries w t) s (order-entries w t .1 (p .order))
-          (unique-entries w t .1 (p .once)) (omega (arith, p .exists, entries-length w t)),
-    )

@@ -1,36 +1,34 @@
 -- Tables in the middle of an insert's plan pass checks 1 and 2, so that lookup answers on each of them, and the last one passes 1 to 4.
 -- A delete leaves a table that passes 1 to 4 too.
-use mathlib.Core.Path.{_≡_, refl, sym, ap, ap₂, subst, _∙_}
-use mathlib.Core.Bool.{Bool, true, false, not, cond, _&&_, true≢false}
+use mathlib.Core.Path.{_≡_, refl, sym, ap, ap₂, _∙_}
+use mathlib.Core.Bool.{Bool, true, false, not, _&&_, true≢false}
 use mathlib.Core.Logic.{_↔_, _⊎_, ⊎-elim}
 use mathlib.Core.Logic._⊎_.{inl, inr}
-use mathlib.Core.List.{List, [], _∷_}
-use Prim.Native.Nat.{ℕ, _/_, _%_, _<_, _≤_}
-use native.Mathlib.Decide.{decLt}
+use mathlib.Core.List.{List}
+use Prim.Native.Nat.{ℕ, _<_, _≤_}
 use native.Mathlib.Omega.{arith}
 use lib.Dec.{eqb, leb}
 use lib.ListN.{length, getD, take}
 use lib.Seq.{getD-take, take-all}
 use borrow.Table.Elements.{length-take-le}
-use borrow.Author.Tests.{not-true}
 use Rattle.search.specs.Search.{decided}
 use Rattle.ternary.specs.Pattern.{Words, within-cong}
 use Rattle.layout.specs.Order.{in-order-emptied}
 use Rattle.layout.specs.Held.{Held, emptied, unique-emptied, held-removed}
 use Rattle.layout.specs.Write.{clear}
-use Rattle.records.specs.Record.{word, recordWords, slotWords, value, mask, ident, rank, empty, sound, soundParts, soundRule, recordOf}
+use Rattle.records.specs.Record.{word, slotWords, value, mask, ident, rank, empty, sound, soundParts}
 use Rattle.records.specs.Order.{slots}
-use Rattle.records.specs.Checks.{orElse, shaped, checkShape, checkRecords, checkTwice, checkOrder, slotChecks, tableChecks}
+use Rattle.records.specs.Checks.{shaped, checkShape, checkRecords, checkTwice, checkOrder, slotChecks, tableChecks}
 use Rattle.records.specs.Rules.{record-sound}
-use Rattle.records.specs.Laws.{or-else-pass, records-law}
-use Rattle.records.specs.Entries.{vacant, entries, entryOccupied, SameRecord, value-cong, mask-cong, ident-cong, rank-cong, entries-length, entry-same, entry-laws, occupied-at, order-entries, unique-entries}
+use Rattle.records.specs.Laws.{slot-checks-law, table-checks-law, records-law}
+use Rattle.records.specs.Entries.{vacant, entries, entryOccupied, EntriesUnique, SameRecord, value-cong, mask-cong, ident-cong, rank-cong, entries-length, entry-same, entry-laws, occupied-at, order-entries, unique-entries}
 use Rattle.records.specs.Writes.{WordsBelow, applyWords, apply-length, apply-entries, apply-words-length, turn-below}
-use Rattle.records.specs.ClassWords.{InClassWords, class-words-law}
+use Rattle.records.specs.ClassWords.{class-words-law}
 use Rattle.records.specs.declared.Rule.{Rule}
 use Rattle.records.specs.declared.Check.the-variants.{Pass}
-use Rattle.table.specs.Deletes.{slotOfId, checkId, checkUnknown, deleteChecks, deleteWords, DeletePlanned, delete-planned}
-use Rattle.table.specs.Insertable.{Insertable, insertable-law}
-use Rattle.table.specs.Inserts.{insertWords, insertAnswer, insertPlan, plannable}
+use Rattle.table.specs.Deletes.{slotOfId, deleteChecks, deleteWords, DeletePlanned, delete-planned}
+use Rattle.table.specs.Insertable.{Insertable}
+use Rattle.table.specs.Inserts.{insertWords, insertAnswer, insertPlan}
 use Rattle.table.specs.Demand3.{ShortestPlan, shortest-words}
 
 -- records of the same words are sound alike
@@ -83,8 +81,7 @@ module _ (w : ℕ) (t : List ℕ) (rule : Rule) (small : rule .action < 42949672
   planned = shortest-words w t rule small insertable
 
   before : (checkShape w t ≡ Pass) × (checkRecords w t ≡ Pass)
-  unfolding tableChecks slotChecks
-  before = or-else-pass (checkShape w t) (checkRecords w t) .0 (or-else-pass (slotChecks w t) (orElse (checkTwice w t) (checkOrder w t)) .0 (insertable .table) .0)
+  before = slot-checks-law w t .0 (table-checks-law w t .0 (insertable .table) .0)
 
   below : WordsBelow (slots w t) words
   unfolding words
@@ -97,19 +94,20 @@ module _ (w : ℕ) (t : List ℕ) (rule : Rule) (small : rule .action < 42949672
 
   -- before the last write the table passes checks 1 and 2
   pub insert-between-checks : (k : ℕ) → k < length (insertWords w t rule) → slotChecks w (applyWords w t rule (take k (insertWords w t rule))) ≡ Pass
-  unfolding slotChecks words
+  unfolding words
   insert-between-checks k h =
       let after = applyWords w t rule (take k words) in
-      or-else-pass (checkShape w after) (checkRecords w after) .1
+      slot-checks-law w after .1
       (kept k (omega arith), records-entries w after .1 (λ x m. records-entries w t .0 (before .1) x (planned .between k h .held x .0 m)))
 
   -- after it the table passes checks 1 to 4
   pub insert-after-checks : tableChecks w (applyWords w t rule (insertWords w t rule)) ≡ Pass
-  unfolding slotChecks tableChecks words
+  unfolding words
   insert-after-checks =
-      or-else-pass (slotChecks w after) (orElse (checkTwice w after) (checkOrder w after)) .1 (
-        or-else-pass (checkShape w after) (checkRecords w after) .1 (shape, records-entries w after .1 held-sound),
-        or-else-pass (checkTwice w after) (checkOrder w after) .1 (unique-entries w after .0 (planned .placed .unique), order-entries w after .0 (planned .placed .order)),
+      table-checks-law w after .1 (
+        slot-checks-law w after .1 (shape, records-entries w after .1 held-sound),
+        unique-entries w after .0 (planned .placed .unique),
+        order-entries w after .0 (planned .placed .order),
       )
     where
       after : List ℕ
@@ -125,14 +123,11 @@ module _ (w : ℕ) (t : List ℕ) (rule : Rule) (small : rule .action < 42949672
 
 -- the one write of a delete
 pub delete-after-checks : (w : ℕ) (t : List ℕ) (id : ℕ) → deleteChecks w t id ≡ Pass → (rule : Rule) → tableChecks w (applyWords w t rule (deleteWords w t id)) ≡ Pass
-unfolding deleteChecks slotChecks tableChecks
 delete-after-checks w t id checks rule =
-    or-else-pass (slotChecks w after) (orElse (checkTwice w after) (checkOrder w after)) .1 (
-      or-else-pass (checkShape w after) (checkRecords w after) .1 (shape, records-entries w after .1 held-sound),
-      or-else-pass (checkTwice w after) (checkOrder w after) .1 (
-        unique-entries w after .0 (rw emptied-entries (unique-emptied (entry-laws w) (entries w t) s low (unique-entries w t .1 (p .once)))),
-        order-entries w after .0 (rw emptied-entries (in-order-emptied (entry-laws w) (entries w t) s (order-entries w t .1 (p .order)))),
-      ),
+    table-checks-law w after .1 (
+      slot-checks-law w after .1 (shape, records-entries w after .1 held-sound),
+      unique-entries w after .0 (rw emptied-entries (unique-emptied (entry-laws w) (entries w t) s low unique)),
+      order-entries w after .0 (rw emptied-entries (in-order-emptied (entry-laws w) (entries w t) s (order-entries w t .1 (before .2)))),
     )
   where
     s : ℕ
@@ -150,10 +145,14 @@ delete-after-checks w t id checks rule =
     emptied-entries : entries w after ≡ emptied (vacant w) (entries w t) s
     emptied-entries = ap (entries w) (p .after rule) ∙ apply-entries w t rule (clear s) (p .exists)
 
+    before : (slotChecks w t ≡ Pass) × (checkTwice w t ≡ Pass) × (checkOrder w t ≡ Pass)
+    before = table-checks-law w t .0 (p .table)
+
+    unique : EntriesUnique w (entries w t)
+    unique = unique-entries w t .1 (before .1)
+
     first : (checkShape w t ≡ Pass) × (checkRecords w t ≡ Pass)
-    first =
-        or-else-pass (checkShape w t) (checkRecords w t) .0
-        (or-else-pass (slotChecks w t) (orElse (checkTwice w t) (checkOrder w t)) .0 (or-else-pass (tableChecks w t) (orElse (checkId id) (checkUnknown w t id)) .0 checks .0) .0)
+    first = slot-checks-law w t .0 (before .0)
 
     shape : checkShape w after ≡ Pass
     shape = shape-same w t after (ap length (p .after rule) ∙ apply-length w t rule (clear s) (p .exists)) ∙ first .0
@@ -161,4 +160,4 @@ delete-after-checks w t id checks rule =
     held-sound : (x : List ℕ) → Held (vacant w) (entryOccupied w) (entries w after) x → sound w (word x) ≡ true
     held-sound x m =
         records-entries w t .0 (first .1) x
-        (held-removed (entry-laws w) (entries w t) s low (λ k l d. unique-entries w t .1 (p .once) k s l low d) x .0 (rw emptied-entries at m) .0)
+        (held-removed (entry-laws w) (entries w t) s low (λ k l d. unique k s l low d) x .0 (rw emptied-entries at m) .0)

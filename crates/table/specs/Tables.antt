@@ -32,7 +32,8 @@ use Rattle.table.specs.Plans.{checkRoom, planAnswer, planBuffer, plan-re
 use Rattle.neighbours.specs.Neighbours.{checkRule, checkKnown, checkTie, checkFull, afterA, slotB, checkCrossed, newChecks, ruleWords, insertChecks}
 use Rattle.neighbours.specs.Neighbours.{after-a-high, crossed-no, rule-accepted, room-none}
 use Rattle.table.specs.Deletes.{hasId, slotOfId, checkId, checkUnknown, deleteChecks, deleteWords, deleteAnswer, deletePlan, id-accepted, id-absent}
-use Rattle.table.specs.Inserts.{insertWords, insertAnswer, insertPlan, rule-words}
+use Rattle.table.specs.Inserts.{insertWords, insertAnswer, insertPlan}
+use Rattle.table.specs.Insertable.{rule-words}
 
 -- a pattern, highest bit first: a bit that must be 0, one that must be 1, one not cared for
 pub data Symbol : Type 0 where

@@ -2,7 +2,7 @@
 -- A success leaves the spot and a refusal leaves the data as they were; a miss, a success without data, puts 0 into the data cells.
 use mathlib.Core.Path.{_≡_, ap, _∙_}
 use mathlib.Core.Bool.{cond}
-use Prim.Native.Nat.{ℕ, _≤_}
+use Prim.Native.Nat.{ℕ}
 use lib.Dec.{eqb}
 use lib.ListN.{length, getD}
 use mathlib.Core.List.{List, [], _∷_}

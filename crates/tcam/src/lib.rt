@@ -1,5 +1,7 @@
 // The C interface: each call on numbers and lent buffers only. include/tcam.h declares it and says what a caller owes.
 // A call that can decline returns 0 or the number of the cause; data goes to lent cells.
+pub mod carry;
+
 ghost use mathlib.Core.Path.{_≡_};
 ghost use Rattle.table.specs.Lookup.{partStart, partLength};
 ghost use Rattle.table.specs.Plans.{planTold};
@@ -66,7 +68,7 @@ pub extern "C" fn tcam_slot_record(table: &[u64], slot: u32, first: &mut u32) ->
 }
 
 // A rule from the numbers that cross.
-fn rule_from(
+pub(crate) fn rule_from(
     id: u32,
     priority: u32,
     value_high: u64,

@@ -1,0 +1,681 @@
+/*
+ * Carries plans out as firmware would, one write per call through a lent progress record, and checks every result, table
+ * and record: first cases whose answers are written here, then plans of the library with lookups between the writes, then
+ * random plans and records. Every call is also compared with a reference written from document 01, "Carrying out".
+ *
+ *     carry_test [seed [calls]]
+ */
+#define _DEFAULT_SOURCE /* for mmap without a file */
+#include "testing.h"
+
+#define COPY(from, to) ((uint32_t)(from) * 65536u + (uint32_t)(to))
+#define PUT(to) COPY(65535u, to)
+#define EMPTYING(to) COPY(65534u, to)
+#define REFUSED(number, spot) ((uint64_t)(number) * 4294967296u + (spot))
+
+/* ---- What is lent: a table, a plan, a rule as numbers and a progress record ---- */
+
+struct rule {
+    uint32_t id, priority;
+    uint64_t value[2], mask[2];
+    uint32_t action;
+};
+
+#define MOST_ROOM (TCAM_MAX_SLOTS + 4)
+
+static uint64_t table[SLOTS(MOST_SLOTS)];
+static size_t words;
+static uint32_t plan[MOST_ROOM];
+static uint32_t room;
+static struct rule rule;
+static tcam_progress progress;
+
+static void set_record(uint64_t *record, const struct rule *from)
+{
+    memcpy(record, from->value, sizeof from->value);
+    memcpy(record + 2, from->mask, sizeof from->mask);
+    record[4] = TCAM_ID_ACTION(from->id, from->action);
+    record[5] = from->priority;
+}
+
+/* A rule of one pattern of 0, 1 and *, highest bit first, the rest uncared for. */
+static struct rule rule_of(uint32_t id, uint32_t priority, const char *pattern)
+{
+    struct rule made = {id, priority, {0, 0}, {0, 0}, id + 100};
+    for (size_t index = 0; pattern[index] != 0; index++) {
+        if (pattern[index] == '1')
+            made.value[0] |= TOP >> index;
+        if (pattern[index] != '*')
+            made.mask[0] |= TOP >> index;
+    }
+    return made;
+}
+
+static void hold(uint32_t slot, uint32_t id, uint32_t priority, const char *pattern)
+{
+    struct rule made = rule_of(id, priority, pattern);
+    set_record(table + SLOTS(slot), &made);
+}
+
+static void empty_table(uint32_t slots)
+{
+    memset(table, 0, sizeof table);
+    words = SLOTS(slots);
+}
+
+/* ---- The reference: document 01, "Carrying out", in its order ---- */
+
+static int is_empty(const uint64_t *record)
+{
+    return (record[0] | record[1] | record[2] | record[3] | record[4] | record[5]) == 0;
+}
+
+static int is_sound(const uint64_t *record)
+{
+    return record[4] >> 32 != 0 && record[5] <= 65535 && (record[0] & ~record[2]) == 0 && (record[1] & ~record[3]) == 0;
+}
+
+/* Slot `to` exists and is empty, or its id stands in another slot too. */
+static int ref_free(uint32_t slots, uint32_t to)
+{
+    if (to >= slots)
+        return 0;
+    for (uint32_t slot = 0; slot < slots; slot++)
+        if (slot != to && table[SLOTS(slot) + 4] >> 32 == table[SLOTS(to) + 4] >> 32)
+            return 1;
+    return is_empty(table + SLOTS(to));
+}
+
+static int ref_held(uint32_t slots, uint32_t slot)
+{
+    return slot < slots && !is_empty(table + SLOTS(slot));
+}
+
+static int ref_fits(uint32_t slots, uint32_t from, uint32_t to)
+{
+    if (from == 65535)
+        return ref_free(slots, to);
+    if (from == 65534)
+        return ref_held(slots, to);
+    return from != to && ref_held(slots, from) && ref_free(slots, to);
+}
+
+/* One step on what is lent. */
+static uint64_t ref_step(void)
+{
+    uint32_t slots = (uint32_t)(words / 6), done = progress.done, total = progress.total;
+    if (words % 6 != 0 || words < 6 || words > 6144)
+        return REFUSED(1, 0);
+    for (uint32_t slot = 0; slot < slots; slot++)
+        if (!is_empty(table + SLOTS(slot)) && !is_sound(table + SLOTS(slot)))
+            return REFUSED(2, slot);
+    if (done > total || total > room)
+        return REFUSED(12, done);
+    if (done == total)
+        return 1;
+    uint32_t from = plan[done] / 65536, to = plan[done] % 65536;
+    uint64_t record[6] = {0, 0, 0, 0, 0, 0};
+    if (from == 65535) {
+        set_record(record, &rule);
+        if (!is_sound(record))
+            return REFUSED(5, 0);
+    }
+    if (!ref_fits(slots, from, to))
+        return REFUSED(12, done);
+    if (from < 65534)
+        memcpy(record, table + SLOTS(from), sizeof record);
+    memcpy(table + SLOTS(to), record, sizeof record);
+    progress.done++;
+    return 0;
+}
+
+/* ---- One call, with all that it promises ---- */
+
+#define PLAN_GUARDS 8
+#define MARK 0xC0FFEE01u
+
+static struct pages plan_pages;
+static unsigned long calls;
+
+/*
+ * Calls on copies of all that is lent, the table and the plan at either end of their pages, the record between marks; and
+ * makes the reference's step on what is lent itself. The two agree in every word.
+ */
+static uint64_t step(void)
+{
+    int at_end = (int)(calls++ % 2);
+    struct lent lent = lend(table, words, at_end);
+    uint32_t *pages = (uint32_t *)(void *)plan_pages.start;
+    uint32_t *lent_plan = at_end ? pages + plan_pages.bytes / sizeof *pages - room : pages;
+    uint32_t *guards = at_end ? lent_plan - PLAN_GUARDS : lent_plan + room;
+    struct {
+        uint32_t before;
+        tcam_progress progress;
+        uint32_t after;
+    } record = {MARK, progress, ~MARK};
+    int guards_stay = 1;
+
+    memcpy(lent_plan, plan, room * sizeof *plan);
+    for (uint32_t index = 0; index < PLAN_GUARDS; index++)
+        guards[index] = PUT(index);
+    uint64_t result = tcam_carry_out(lent.table, words, lent_plan, room, rule.id, rule.priority, rule.value[0], rule.value[1],
+                                     rule.mask[0], rule.mask[1], rule.action, &record.progress);
+    CHECK(result == ref_step());
+    check_lent(&lent);
+    CHECK(record.progress.done == progress.done && record.progress.total == progress.total);
+    CHECK(record.before == MARK && record.after == ~MARK);
+    CHECK(memcmp(lent_plan, plan, room * sizeof *plan) == 0);
+    for (uint32_t index = 0; index < PLAN_GUARDS; index++)
+        guards_stay &= guards[index] == PUT(index);
+    CHECK(guards_stay);
+    return result;
+}
+
+/* A call that is to leave everything as it was: a refusal, or "finished". */
+static void leaves(uint64_t want)
+{
+    static uint64_t table_before[SLOTS(MOST_SLOTS)];
+    tcam_progress before = progress;
+    memcpy(table_before, table, sizeof table);
+    CHECK(step() == want);
+    CHECK(memcmp(table_before, table, sizeof table) == 0);
+    CHECK(progress.done == before.done && progress.total == before.total);
+}
+
+/* A call that is to make the write: slot `to` holds the record afterwards, and no other slot has changed. */
+static void writes(uint32_t to, const uint64_t *record)
+{
+    static uint64_t wanted[SLOTS(MOST_SLOTS)];
+    tcam_progress before = progress;
+    memcpy(wanted, table, sizeof table);
+    memmove(wanted + SLOTS(to), record, SLOTS(1) * sizeof *record);
+    CHECK(step() == TCAM_WROTE);
+    CHECK(memcmp(wanted, table, sizeof table) == 0);
+    CHECK(progress.done == before.done + 1 && progress.total == before.total);
+}
+
+static const uint64_t no_words[TCAM_SLOT_WORDS];
+
+/* ---- Refusals ---- */
+
+/* Six slots: rules 1, 2 and 3, with a second copy of rule 2; slots 2 and 5 are empty. */
+static void six_slots(void)
+{
+    empty_table(6);
+    hold(0, 1, 50, "11");
+    hold(1, 2, 40, "1");
+    hold(3, 3, 30, "0");
+    hold(4, 2, 40, "1");
+    rule = rule_of(9, 45, "10");
+}
+
+/* A plan of this one write is next, with some writes done before it and one behind it. */
+static void next_write(uint32_t word, uint32_t done)
+{
+    for (uint32_t index = 0; index < done; index++)
+        plan[index] = EMPTYING(0);
+    plan[done] = word;
+    plan[done + 1] = EMPTYING(1);
+    room = done + 2;
+    progress.done = done;
+    progress.total = done + 2;
+}
+
+/* The write does not fit, wherever in the plan it stands: the spot is the writes done. */
+static void unfit(uint32_t word)
+{
+    static const uint32_t dones[] = {0, 1, 2, 1000};
+    for (int index = 0; index < 4; index++) {
+        next_write(word, dones[index]);
+        leaves(REFUSED(TCAM_WRITE, dones[index]));
+    }
+}
+
+static void shapes(void)
+{
+    static const size_t bad[] = {0, 1, 5, 7, 11, SLOTS(1025), SLOTS(1025) + 1, SLOTS(1024) + 1};
+    HERE;
+    for (int index = 0; index < 8; index++)
+        for (uint32_t done = 0; done <= 3; done++) {
+            six_slots();
+            words = bad[index];
+            next_write(COPY(0, 2), 0);
+            progress.done = done;
+            leaves(REFUSED(TCAM_SHAPE, 0));
+        }
+    six_slots();
+    words = SLOTS(1024);
+    next_write(COPY(0, 1023), 0);
+    writes(1023, table);
+}
+
+static void records(void)
+{
+    for (uint32_t done = 0; done <= 3; done++) {
+        HERE;
+        six_slots();
+        next_write(COPY(0, 2), 0);
+        progress.done = done;
+        table[SLOTS(5) + 5] = 65536;
+        leaves(REFUSED(TCAM_RECORD, 5));
+        table[SLOTS(2)] = 1;
+        leaves(REFUSED(TCAM_RECORD, 2));
+        table[SLOTS(0) + 4] = 7;
+        leaves(REFUSED(TCAM_RECORD, 0));
+        progress.total = 3;
+        leaves(REFUSED(TCAM_RECORD, 0));
+    }
+}
+
+/* 12 for a record whose writes done are more than those in all, or those in all more than the plan's words; or "finished". */
+static void records_of_progress(void)
+{
+    static const uint32_t numbers[] = {0, 1, 2, 3, 4, 1023, 65536, 2147483648u, 4294967294u, 4294967295u};
+    HERE;
+    six_slots();
+    for (room = 0; room <= 3; room++)
+        for (int first = 0; first < 10; first++)
+            for (int second = 0; second < 10; second++) {
+                uint32_t done = numbers[first], total = numbers[second];
+                plan[0] = plan[1] = plan[2] = COPY(0, 0);
+                progress = (tcam_progress){done, total};
+                if (done > total || total > room)
+                    leaves(REFUSED(TCAM_WRITE, done));
+                else if (done == total)
+                    leaves(TCAM_FINISHED);
+                else
+                    leaves(REFUSED(TCAM_WRITE, done));
+            }
+    room = 3;
+    progress = (tcam_progress){3, 2};
+    leaves(REFUSED(TCAM_WRITE, 3));
+    progress = (tcam_progress){1, 4};
+    leaves(REFUSED(TCAM_WRITE, 1));
+    progress = (tcam_progress){4, 4};
+    leaves(REFUSED(TCAM_WRITE, 4));
+    progress = (tcam_progress){2, 2};
+    leaves(TCAM_FINISHED);
+    plan[2] = COPY(0, 2);
+    progress = (tcam_progress){2, 3};
+    writes(2, table);
+}
+
+/* 5 where an unsound rule is put in, before 12; not where the next write copies or empties. */
+static void unsound_rules(void)
+{
+    for (int fault = 0; fault < 5; fault++) {
+        HERE;
+        six_slots();
+        if (fault == 0)
+            rule.id = 0;
+        else if (fault == 1)
+            rule.priority = 65536;
+        else if (fault == 2)
+            rule.value[0] |= 1;
+        else if (fault == 3)
+            rule.value[1] |= TOP;
+        else
+            memset(&rule, 0, sizeof rule);
+        next_write(PUT(2), 1);
+        leaves(REFUSED(TCAM_RULE, 0));
+        next_write(PUT(0), 1);
+        leaves(REFUSED(TCAM_RULE, 0));
+        next_write(PUT(6), 1);
+        leaves(REFUSED(TCAM_RULE, 0));
+        next_write(COPY(0, 0), 1);
+        leaves(REFUSED(TCAM_WRITE, 1));
+        next_write(EMPTYING(2), 1);
+        leaves(REFUSED(TCAM_WRITE, 1));
+        next_write(COPY(0, 2), 1);
+        writes(2, table);
+        next_write(EMPTYING(3), 1);
+        writes(3, no_words);
+        progress.done = progress.total;
+        leaves(TCAM_FINISHED);
+    }
+    six_slots();
+    uint64_t record[TCAM_SLOT_WORDS];
+    rule.priority = 65535;
+    set_record(record, &rule);
+    next_write(PUT(2), 1);
+    writes(2, record);
+}
+
+/* Each way in which a write does not fit, and the writes beside it that do. */
+static void unfit_writes(void)
+{
+    static const uint32_t absent[] = {6, 7, 1023, 1024, 1025, 6144, 32768, 65532, 65533};
+    uint64_t record[TCAM_SLOT_WORDS];
+    HERE;
+    six_slots();
+    set_record(record, &rule);
+    for (int index = 0; index < 9; index++) {
+        unfit(COPY(absent[index], 2));
+        unfit(COPY(absent[index], absent[index]));
+        unfit(COPY(0, absent[index]));
+        unfit(PUT(absent[index]));
+        unfit(EMPTYING(absent[index]));
+    }
+    for (uint32_t to = 65534; to <= 65535; to++) {
+        unfit(COPY(0, to));
+        unfit(PUT(to));
+        unfit(EMPTYING(to));
+    }
+    HERE;
+    for (uint32_t slot = 0; slot < 6; slot++)
+        unfit(COPY(slot, slot));
+    HERE;
+    for (uint32_t to = 0; to < 6; to++) {
+        unfit(COPY(2, to));
+        unfit(COPY(5, to));
+    }
+    HERE;
+    unfit(COPY(1, 0));
+    unfit(COPY(0, 3));
+    unfit(COPY(4, 3));
+    unfit(PUT(0));
+    unfit(PUT(3));
+    unfit(EMPTYING(2));
+    unfit(EMPTYING(5));
+
+    HERE;
+    next_write(COPY(3, 5), 1);
+    writes(5, table + SLOTS(3));
+    next_write(COPY(0, 3), 1); /* rule 3 has another copy now */
+    writes(3, table);
+    unfit(COPY(0, 5));
+    unfit(PUT(5));
+    HERE;
+    six_slots();
+    next_write(PUT(1), 1); /* rule 2 has another copy */
+    writes(1, record);
+    unfit(PUT(4));
+    unfit(COPY(0, 4));
+    HERE;
+    six_slots();
+    next_write(COPY(1, 4), 1); /* a copy onto a copy of the same rule */
+    writes(4, table + SLOTS(1));
+    next_write(EMPTYING(0), 1); /* the only copy */
+    writes(0, no_words);
+    unfit(EMPTYING(0));
+
+    HERE; /* one slot */
+    empty_table(1);
+    unfit(COPY(0, 0));
+    unfit(EMPTYING(0));
+    next_write(PUT(0), 0);
+    writes(0, record);
+    unfit(PUT(0));
+    next_write(EMPTYING(0), 0);
+    writes(0, no_words);
+}
+
+/* ---- Plans of the library ---- */
+
+/* The rules that the table holds, each once. */
+static struct rule held[TCAM_MAX_SLOTS];
+static uint32_t held_count;
+
+#define KEYS 24
+static uint64_t keys[KEYS][2];
+
+static int matches(const struct rule *one, const uint64_t *key)
+{
+    return (key[0] & one->mask[0]) == one->value[0] && (key[1] & one->mask[1]) == one->value[1];
+}
+
+/* The reply by highest priority: word 4 of the rule's record, 0 for a miss. */
+static uint64_t best_reply(const uint64_t *key)
+{
+    const struct rule *best = NULL;
+    for (uint32_t index = 0; index < held_count; index++)
+        if (matches(&held[index], key) && (best == NULL || held[index].priority > best->priority))
+            best = &held[index];
+    return best == NULL ? 0 : TCAM_ID_ACTION(best->id, best->action);
+}
+
+static void check_replies(void)
+{
+    int replies_right = 1;
+    for (int key = 0; key < KEYS; key++) {
+        uint32_t slot, id, action, spot;
+        replies_right &= tcam_lookup(table, words, keys[key][0], keys[key][1], &slot, &id, &action, &spot) == TCAM_OK &&
+                         TCAM_ID_ACTION(id, action) == best_reply(keys[key]);
+    }
+    CHECK(replies_right);
+}
+
+static void choose_keys(void)
+{
+    for (int key = 0; key < KEYS; key++) {
+        keys[key][0] = random_word();
+        keys[key][1] = random_word();
+        if (key % 2 == 0) {
+            const struct rule *near = key % 4 == 0 || held_count == 0 ? &rule : &held[below(held_count)];
+            for (int word = 0; word < 2; word++)
+                keys[key][word] = near->value[word] | (keys[key][word] & ~near->mask[word]);
+        }
+    }
+}
+
+/* Carries a plan out to its end: every key keeps its reply until the last write. `changes` makes the change in `held`. */
+static void carry_to_the_end(uint32_t count, void (*changes)(void))
+{
+    choose_keys();
+    progress = (tcam_progress){0, count};
+    check_replies();
+    for (uint32_t done = 0; done < count; done++) {
+        CHECK(step() == TCAM_WROTE);
+        CHECK(progress.done == done + 1 && progress.total == count);
+        if (done + 1 == count)
+            changes();
+        check_replies();
+    }
+    leaves(TCAM_FINISHED);
+    leaves(TCAM_FINISHED);
+}
+
+static void rule_comes(void)
+{
+    held[held_count++] = rule;
+}
+
+static void rule_goes(void)
+{
+    for (uint32_t index = 0; index < held_count; index++)
+        if (held[index].id == rule.id)
+            held[index] = held[--held_count];
+}
+
+static uint32_t insert(uint32_t *count)
+{
+    uint32_t spot;
+    room = (uint32_t)(words / 6);
+    for (uint32_t index = 0; index < room; index++)
+        plan[index] = COPY(index, index);
+    uint32_t number = tcam_plan_insert(table, words, rule.id, rule.priority, rule.value[0], rule.value[1], rule.mask[0],
+                                       rule.mask[1], rule.action, plan, room, count, &spot);
+    if (number == TCAM_OK)
+        carry_to_the_end(*count, rule_comes);
+    return number;
+}
+
+/* The rule's numbers are not looked at where a rule is taken out, but for its id when the delete is planned. */
+static uint32_t delete_rule(uint32_t id)
+{
+    uint32_t count, spot;
+    room = 1;
+    memset(&rule, 0, sizeof rule);
+    uint32_t number = tcam_plan_delete(table, words, id, plan, room, &count, &spot);
+    if (number == TCAM_OK) {
+        rule.id = id;
+        rule.priority = 4294967295u;
+        carry_to_the_end(count, rule_goes);
+    }
+    return number;
+}
+
+/* Slots 0 a, 1 other, 2 c, 3 d, 4 empty; c depends on a, d on c; the new rule comes before a: 1→4, 0→1, new→0. */
+static void five_slots(void)
+{
+    static const uint32_t want[] = {COPY(1, 4), COPY(0, 1), PUT(0)};
+    uint32_t count;
+    HERE;
+    empty_table(5);
+    held[0] = rule_of(1, 40, "00*");
+    held[1] = rule_of(2, 10, "01");
+    held[2] = rule_of(3, 30, "*01");
+    held[3] = rule_of(4, 20, "1*1");
+    held_count = 4;
+    for (uint32_t slot = 0; slot < 4; slot++)
+        set_record(table + SLOTS(slot), &held[slot]);
+    rule = rule_of(5, 50, "000");
+    CHECK(insert(&count) == TCAM_OK);
+    CHECK(count == 3 && memcmp(plan, want, sizeof want) == 0);
+    CHECK(tcam_record_id(table) == 5 && tcam_record_id(table + SLOTS(1)) == 1 && tcam_record_id(table + SLOTS(4)) == 2);
+    CHECK(tcam_record_id(table + SLOTS(2)) == 3 && tcam_record_id(table + SLOTS(3)) == 4);
+    HERE;
+    CHECK(delete_rule(1) == TCAM_OK);
+    CHECK(is_empty(table + SLOTS(1)) && held_count == 4);
+
+    HERE; /* the same plan once more, from its start: its first write copies an empty slot */
+    memcpy(plan, want, sizeof want);
+    room = 3;
+    progress = (tcam_progress){0, 3};
+    leaves(REFUSED(TCAM_WRITE, 0));
+    progress.done = 2; /* and its last would go over a rule that has no other copy */
+    rule = rule_of(6, 60, "000");
+    leaves(REFUSED(TCAM_WRITE, 2));
+}
+
+/* 1,024 slots, every rule depending on all before it: a plan of 1,024 writes. */
+static void long_plan(void)
+{
+    uint32_t count;
+    HERE;
+    empty_table(1024);
+    held_count = 1023;
+    for (uint32_t slot = 0; slot < 1023; slot++) {
+        held[slot] = (struct rule){slot + 1, 60000 - slot, {0, 0}, {0, 0}, slot};
+        set_record(table + SLOTS(slot), &held[slot]);
+    }
+    rule = (struct rule){5000, 60001, {0, 0}, {0, 0}, 5};
+    CHECK(insert(&count) == TCAM_OK);
+    CHECK(count == 1024 && tcam_record_id(table) == 5000 && tcam_record_id(table + SLOTS(1023)) == 1023);
+}
+
+/* Inserts and deletes at random, carried out to the end, over some tables. */
+static void random_plans(void)
+{
+    unsigned long inserted = 0, deleted = 0, writes_of[4] = {0, 0, 0, 0};
+    case_line = 0;
+    made_how = "planned";
+    for (turn = 0; turn < 60; turn++) {
+        empty_table(2 + below(12));
+        held_count = 0;
+        for (uint32_t round = 1; round <= 60; round++) {
+            if (held_count > 0 && below(4) == 0) {
+                CHECK(delete_rule(held[below(held_count)].id) == TCAM_OK);
+                deleted++;
+                continue;
+            }
+            char pattern[5] = "****";
+            uint32_t count, cared = below(5);
+            for (uint32_t bit = 0; bit < cared; bit++)
+                pattern[below(4)] = below(2) ? '1' : '0';
+            rule = rule_of(round, below(200), pattern);
+            if (insert(&count) == TCAM_OK) {
+                inserted++;
+                writes_of[count < 3 ? count : 3]++;
+            }
+        }
+    }
+    CHECK(inserted > 500 && deleted > 300);
+    CHECK(writes_of[1] > 100 && writes_of[2] > 50 && writes_of[3] > 20);
+}
+
+/* ---- Random plans and records ---- */
+
+static uint32_t random_end(uint32_t slots)
+{
+    static const uint32_t odd[] = {1023, 1024, 65533, 65534, 65535};
+    return below(6) == 0 ? odd[below(5)] : below(slots + 1);
+}
+
+static void random_calls(unsigned long most)
+{
+    unsigned long seen[15] = {0}, wrote[3] = {0, 0, 0}, finished = 0;
+    case_line = 0;
+    made_how = "random";
+    for (turn = 0; turn < most; turn++) {
+        uint32_t slots = 1 + below(5);
+        empty_table(slots);
+        for (uint32_t slot = 0; slot < slots; slot++)
+            if (below(3) != 0)
+                hold(slot, 1 + below(4), below(3), "1");
+        if (below(10) == 0)
+            table[SLOTS(below(slots)) + below(6)] ^= random_word() >> below(64);
+        if (below(20) == 0)
+            words = below(40);
+        rule = rule_of(below(8), below(10) == 0 ? 65535 + below(2) : 7, "01");
+        if (below(10) == 0)
+            rule.value[below(2)] |= 1;
+        room = below(4);
+        for (uint32_t index = 0; index < room; index++)
+            plan[index] = COPY(below(3) == 0 ? 65534 + below(2) : random_end(slots), random_end(slots));
+        progress.total = below(6) == 0 ? below(6) : room;
+        progress.done = below(6) == 0 ? below(6) : below(progress.total + 1);
+        for (int again = 0; again < 3; again++) {
+            uint32_t from = progress.done < room ? plan[progress.done] / 65536 : 0;
+            uint64_t result = step();
+            if (result == TCAM_WROTE)
+                wrote[from == 65535 ? 2 : from == 65534 ? 1 : 0]++;
+            else if (result == TCAM_FINISHED)
+                finished++;
+            else
+                seen[tcam_carry_number(result) % 15]++;
+        }
+    }
+    CHECK(seen[TCAM_SHAPE] > most / 100);
+    CHECK(seen[TCAM_RECORD] > most / 100);
+    CHECK(seen[TCAM_RULE] > most / 200);
+    CHECK(seen[TCAM_WRITE] > most / 10);
+    CHECK(finished > most / 10);
+    for (int kind = 0; kind < 3; kind++)
+        CHECK(wrote[kind] > most / 200);
+}
+
+/* The two halves of a result. */
+static void halves(void)
+{
+    HERE;
+    CHECK(tcam_carry_number(TCAM_WROTE) == TCAM_OK && tcam_carry_number(TCAM_FINISHED) == TCAM_OK);
+    CHECK(tcam_carry_number(REFUSED(12, 4294967295u)) == TCAM_WRITE && tcam_carry_spot(REFUSED(12, 4294967295u)) == 4294967295u);
+    CHECK(tcam_carry_number(REFUSED(2, 1023)) == TCAM_RECORD && tcam_carry_spot(REFUSED(2, 1023)) == 1023);
+    CHECK(sizeof(tcam_progress) == 8);
+}
+
+int main(int count, char **arguments)
+{
+    unsigned long most = 100000;
+    if (count > 1)
+        seed = strtoull(arguments[1], NULL, 0);
+    if (count > 2)
+        most = strtoul(arguments[2], NULL, 0);
+
+    open_pages(&table_pages, (SLOTS(MOST_SLOTS) + GUARDS) * sizeof(uint64_t));
+    open_pages(&plan_pages, (MOST_ROOM + PLAN_GUARDS) * sizeof(uint32_t));
+    random_state = seed;
+    halves();
+    shapes();
+    records();
+    records_of_progress();
+    unsound_rules();
+    unfit_writes();
+    five_slots();
+    long_plan();
+    random_plans();
+    random_calls(most);
+
+    return verdict("carry_test");
+}
