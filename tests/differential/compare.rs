@@ -147,17 +147,12 @@ fn check_carry_out(library: &Library, input: &mut Input, tally: &mut Tally) -> R
         Err(refusal) => u64::from(refusal.number) << 32 | refusal.spot,
     };
     tally.carried(input, &answer);
-    #[cfg(carry_out)]
-    {
-        let mut expected = untouched(input, 0);
-        expected.result = result;
-        expected.cells = vec![progress.done, progress.total];
-        expected.table = table.clone();
-        expected.plan = input.plan.clone();
-        same("carry_out", library.carry_out(input), expected)?;
-    }
-    #[cfg(not(carry_out))]
-    let _ = (library, result);
+    let mut expected = untouched(input, 0);
+    expected.result = result;
+    expected.cells = vec![progress.done, progress.total];
+    expected.table = table.clone();
+    expected.plan = input.plan.clone();
+    same("carry_out", library.carry_out(input), expected)?;
     input.table = table;
     input.done = progress.done;
     Ok(answer.ok())

@@ -2,13 +2,15 @@
 // A call gives back everything that can be seen of it: the result, the cells and the buffers as they are afterwards.
 
 use crate::fence::Fence;
-use crate::input::{initial_bytes, initial_words, Input, CELL_START};
+#[cfg(image)]
+use crate::input::initial_bytes;
+use crate::input::{initial_words, Input, CELL_START};
 use reference::table::SLOTS_MOST;
 
 #[repr(C)]
-pub struct ProgressRecord {
-    done: u32,
-    total: u32,
+struct ProgressRecord {
+    _done: u32,
+    _total: u32,
 }
 
 extern "C" {
@@ -47,7 +49,6 @@ extern "C" {
         count: *mut u32,
         spot: *mut u32,
     ) -> u32;
-    #[cfg(carry_out)]
     fn tcam_carry_out(
         table: *mut u64,
         words: usize,
@@ -112,13 +113,19 @@ impl Cells {
 pub struct Library {
     table: Fence,
     plan: Fence,
+    #[cfg(image)]
     image: Fence,
 }
 
 impl Library {
     pub fn new() -> Library {
         let most_words = 6 * SLOTS_MOST + 64;
-        Library { table: Fence::new(8 * most_words), plan: Fence::new(4 * most_words), image: Fence::new(60 * SLOTS_MOST + 4096) }
+        Library {
+            table: Fence::new(8 * most_words),
+            plan: Fence::new(4 * most_words),
+            #[cfg(image)]
+            image: Fence::new(60 * SLOTS_MOST + 4096),
+        }
     }
 
     pub fn lookup(&self, input: &Input, key: u128) -> Seen {
@@ -197,7 +204,6 @@ impl Library {
     }
 
     /// The cells seen are the progress record afterwards.
-    #[cfg(carry_out)]
     pub fn carry_out(&self, input: &Input) -> Seen {
         let rule = &input.rule;
         let (value_high, value_low) = halves(rule.value);

@@ -74,7 +74,7 @@ const CALLS: [Call; 14] = [
 ];
 
 fn slot_count(random: &mut Random) -> usize {
-    if random.one_in(4000) {
+    if random.one_in(1500) {
         return random.pick(&[1022, 1023, 1024, 1024, 1024]);
     }
     if random.one_in(25) {
@@ -171,19 +171,21 @@ impl Maker<'_> {
             table[slot].as_mut().unwrap().priority = priority;
             highest = highest.max(priority);
         }
-        if self.random.one_in(8) && highest <= 65_535 {
+        let factor = self.random.pick(&[1, 2, 2, 2, 10]);
+        if highest * factor <= 65_535 {
+            let top = if self.random.one_in(8) { 65_535 - highest * factor } else { 0 };
             for rule in table.iter_mut().flatten() {
-                rule.priority += 65_535 - highest;
+                rule.priority = rule.priority * factor + top;
             }
         }
     }
 
     /// Which slots hold a rule: none, all, all but one or two, a block, or each by chance.
     fn occupied(&mut self, slots: usize) -> Vec<bool> {
-        match self.random.below(12) {
+        match self.random.below(16) {
             0 => vec![false; slots],
             1 => vec![true; slots],
-            2..=6 => {
+            2..=10 => {
                 let mut occupied = vec![true; slots];
                 let any = self.random.below(slots);
                 occupied[self.random.pick(&[0, slots - 1, any])] = false;
@@ -193,7 +195,7 @@ impl Maker<'_> {
                 }
                 occupied
             }
-            7 => {
+            11 => {
                 let first = self.random.below(slots);
                 let last = self.random.between(first, slots - 1);
                 (0..slots).map(|slot| slot >= first && slot <= last).collect()

@@ -39,6 +39,10 @@ fn smaller_inputs(input: &Input) -> Vec<Input> {
     }
     for slot in 0..slots {
         with(&|smaller| drop(smaller.table.drain(RECORD_WORDS * slot..RECORD_WORDS * (slot + 1))));
+        with(&|smaller| {
+            smaller.table.drain(RECORD_WORDS * slot..RECORD_WORDS * (slot + 1));
+            smaller.plan.iter_mut().for_each(|word| *word = without_slot(*word, slot, slots));
+        });
     }
     for slot in 0..slots {
         let record = RECORD_WORDS * slot..RECORD_WORDS * (slot + 1);
@@ -47,7 +51,9 @@ fn smaller_inputs(input: &Input) -> Vec<Input> {
         }
     }
     for place in 0..input.plan.len() {
-        with(&|smaller| drop(smaller.plan.remove(place)));
+        with(&|smaller| {
+            smaller.plan.remove(place);
+        });
         with(&|smaller| {
             smaller.plan.remove(place);
             smaller.total = smaller.total.saturating_sub(1);
@@ -56,12 +62,20 @@ fn smaller_inputs(input: &Input) -> Vec<Input> {
     }
     for place in 0..input.keys.len() {
         if input.keys.len() > 1 {
-            with(&|smaller| drop(smaller.keys.remove(place)));
+            with(&|smaller| {
+                smaller.keys.remove(place);
+            });
         }
     }
     smaller_numbers(input, &mut with);
     list.retain(|smaller| format!("{smaller:?}") != format!("{input:?}"));
     list
+}
+
+/// A plan word that means the same in a table that lacks `slot`.
+fn without_slot(word: u32, slot: usize, slots: usize) -> u32 {
+    let moved = |number: u32| number - u32::from((slot as u32) < number && number < slots as u32);
+    moved(word / 65_536) * 65_536 + moved(word % 65_536)
 }
 
 fn smaller_numbers(input: &Input, with: &mut dyn FnMut(&dyn Fn(&mut Input))) {

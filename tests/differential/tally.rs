@@ -30,10 +30,8 @@ fn wanted() -> Vec<(Call, String)> {
     want(Call::PlanInsert, &[], &[RULE, KNOWN, TIE, FULL, CROSSED, SHORT]);
     want(Call::PlanDelete, &["emptying"], &table);
     want(Call::PlanDelete, &[], &[RULE, UNKNOWN, SHORT]);
-    if cfg!(carry_out) {
-        want(Call::CarryOut, &["copied", "put in", "emptied", "finished"], &[SHAPE, RECORD, RULE]);
-        want(Call::CarryOut, &["12 done > total", "12 total > words", "12 copy", "12 put-in", "12 emptying"], &[]);
-    }
+    want(Call::CarryOut, &["copied", "put in", "emptied", "finished"], &[SHAPE, RECORD, RULE]);
+    want(Call::CarryOut, &["12 done > total", "12 total > words", "12 copy", "12 put-in", "12 emptying"], &[]);
     if cfg!(image) {
         want(Call::Save, &["saved"], &table);
         want(Call::Save, &[], &[SHORT]);
