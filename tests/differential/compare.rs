@@ -1,8 +1,8 @@
 // What the reference says a call must show, and the comparison of one input with what the library showed.
 // Cells and buffers that a call leaves as they were are expected with their first contents.
 
+use crate::guarded::{Guarded, Seen};
 use crate::input::{initial_bytes, initial_words, Call, Input, CELL_START};
-use crate::library::{Library, Seen};
 use crate::tally::Tally;
 use reference::carry::{carry_out, Carried, Progress};
 use reference::image::{load, save};
@@ -26,7 +26,7 @@ impl Mismatch {
 }
 
 /// Makes the input's call on both sides.
-pub fn check(library: &Library, input: &Input, tally: &mut Tally) -> Result<(), Mismatch> {
+pub fn check(library: &Guarded, input: &Input, tally: &mut Tally) -> Result<(), Mismatch> {
     match input.call {
         Call::Lookup => input.keys.iter().try_for_each(|&key| check_lookup(library, input, key, tally).map(|_| ())),
         Call::SlotRecord => {
@@ -81,7 +81,7 @@ fn refused(mut seen: Seen, refusal: Refusal) -> Seen {
     seen
 }
 
-fn check_lookup(library: &Library, input: &Input, key: u128, tally: &mut Tally) -> Result<Option<Found>, Mismatch> {
+fn check_lookup(library: &Guarded, input: &Input, key: u128, tally: &mut Tally) -> Result<Option<Found>, Mismatch> {
     let answer = lookup(&input.table, key);
     let mut expected = untouched(input, 4);
     match answer {
@@ -111,7 +111,7 @@ fn expected_slot_record(input: &Input) -> Seen {
 }
 
 /// An insert's or a delete's plan, as far as the call is the one or the other.
-fn check_plan(library: &Library, input: &Input, tally: &mut Tally) -> Result<Option<Vec<u32>>, Mismatch> {
+fn check_plan(library: &Guarded, input: &Input, tally: &mut Tally) -> Result<Option<Vec<u32>>, Mismatch> {
     let is_insert = matches!(input.call, Call::PlanInsert | Call::InsertInFull);
     let (call, answer) = if is_insert {
         (Call::PlanInsert, plan_insert(&input.table, &input.rule, input.room))
@@ -137,7 +137,7 @@ fn check_plan(library: &Library, input: &Input, tally: &mut Tally) -> Result<Opt
 }
 
 /// One write; table and progress of the input are advanced as the reference says.
-fn check_carry_out(library: &Library, input: &mut Input, tally: &mut Tally) -> Result<Option<Carried>, Mismatch> {
+fn check_carry_out(library: &Guarded, input: &mut Input, tally: &mut Tally) -> Result<Option<Carried>, Mismatch> {
     let mut progress = Progress { done: input.done, total: input.total };
     let mut table = input.table.clone();
     let answer = carry_out(&mut table, &input.plan, &input.rule, &mut progress);
@@ -158,7 +158,7 @@ fn check_carry_out(library: &Library, input: &mut Input, tally: &mut Tally) -> R
     Ok(answer.ok())
 }
 
-fn check_save(library: &Library, input: &Input, tally: &mut Tally) -> Result<(), Mismatch> {
+fn check_save(library: &Guarded, input: &Input, tally: &mut Tally) -> Result<(), Mismatch> {
     let mut expected = untouched(input, 2);
     expected.image = initial_bytes(input.room);
     match save(&input.table, input.room) {
@@ -180,7 +180,7 @@ fn check_save(library: &Library, input: &Input, tally: &mut Tally) -> Result<(),
 }
 
 /// A table that loads is saved again to the same bytes, on the reference.
-fn check_load(library: &Library, input: &Input, tally: &mut Tally) -> Result<(), Mismatch> {
+fn check_load(library: &Guarded, input: &Input, tally: &mut Tally) -> Result<(), Mismatch> {
     let mut expected = untouched(input, 1);
     expected.image = input.image.clone();
     match load(&input.image, input.table.len()) {
@@ -210,7 +210,7 @@ fn reply_of_rules<'a>(rules: impl Iterator<Item = &'a Rule>, key: u128) -> Optio
 }
 
 /// Plans, then carries out write by write. Before the last write each key has its old reply, after it its new one.
-fn check_in_full(library: &Library, input: &Input, tally: &mut Tally) -> Result<(), Mismatch> {
+fn check_in_full(library: &Guarded, input: &Input, tally: &mut Tally) -> Result<(), Mismatch> {
     let Some(writes) = check_plan(library, input, tally)? else { return Ok(()) };
     let old_rules: Vec<Rule> = read_slots(&input.table).expect("a planned table is sound").into_iter().flatten().collect();
     let is_delete = input.call == Call::DeleteInFull;
@@ -246,7 +246,7 @@ fn check_in_full(library: &Library, input: &Input, tally: &mut Tally) -> Result<
 }
 
 /// Order and replies between two writes.
-fn check_state(library: &Library, state: &Input, rules: &[Rule], tally: &mut Tally) -> Result<(), Mismatch> {
+fn check_state(library: &Guarded, state: &Input, rules: &[Rule], tally: &mut Tally) -> Result<(), Mismatch> {
     let slots: Vec<Slot> = read_slots(&state.table).expect("copies of sound records are sound");
     let is_small = state.table.len() <= SLOTS_ALWAYS_TESTED * RECORD_WORDS;
     if is_small || state.done % 256 == 0 || state.done == state.total {

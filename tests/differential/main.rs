@@ -3,21 +3,20 @@
 
 mod compare;
 mod fence;
+mod guarded;
 mod input;
-mod library;
 mod make;
-mod random;
 mod shrink;
 mod tally;
 
 use crate::compare::{check, Mismatch};
+use crate::guarded::Guarded;
 use crate::input::Input;
-use crate::library::Library;
-use crate::random::Random;
 use crate::tally::Tally;
 use reference::table::RECORD_WORDS;
 use std::sync::atomic::{AtomicU64, Ordering};
 use std::time::Instant;
+use support::random::Random;
 
 const SEED: u64 = 20_261_115;
 const INPUTS: u64 = 1_000_000;
@@ -55,7 +54,7 @@ fn main() {
     }));
     let seed = flag("--seed").unwrap_or(SEED);
     let inputs = flag("--inputs").unwrap_or(INPUTS);
-    let library = Library::new();
+    let library = Guarded::new();
     let mut tally = Tally::default();
     let start = Instant::now();
     let range = flag("--only").map_or(0..inputs, |only| only..only + 1);
@@ -76,7 +75,7 @@ fn main() {
     }
 }
 
-fn report(library: &Library, seed: u64, number: u64, input: Input, mismatch: Mismatch) {
+fn report(library: &Guarded, seed: u64, number: u64, input: Input, mismatch: Mismatch) {
     println!("differential: MISMATCH at input {number} of seed {seed}: {}", mismatch.what);
     let fails = |smaller: &Input| check(library, smaller, &mut Tally::default()).is_err();
     let smallest = shrink::shrink(input, fails);

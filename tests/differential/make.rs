@@ -2,10 +2,10 @@
 // Rules use few bit positions, so that overlaps, ties and crossings are frequent and plans long.
 
 use crate::input::{Call, Input};
-use crate::random::Random;
 use reference::image::save;
 use reference::plan::{plan_insert, write_word, EMPTYING, PUT_IN};
 use reference::table::{read_slots, words_of, Rule, Slot, RECORD_WORDS};
+use support::random::Random;
 
 /// How the patterns of a table are made.
 #[derive(Clone, Copy, PartialEq)]

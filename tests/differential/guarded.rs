@@ -1,4 +1,4 @@
-// The library's calls as include/tcam.h declares them, each made on fenced buffers.
+// The library's calls, each made on fenced buffers.
 // A call gives back everything that can be seen of it: the result, the cells and the buffers as they are afterwards.
 
 use crate::fence::Fence;
@@ -6,68 +6,7 @@ use crate::fence::Fence;
 use crate::input::initial_bytes;
 use crate::input::{initial_words, Input, CELL_START};
 use reference::table::SLOTS_MOST;
-
-#[repr(C)]
-struct ProgressRecord {
-    _done: u32,
-    _total: u32,
-}
-
-extern "C" {
-    fn tcam_lookup(
-        table: *const u64,
-        words: usize,
-        key_high: u64,
-        key_low: u64,
-        slot: *mut u32,
-        id: *mut u32,
-        action: *mut u32,
-        spot: *mut u32,
-    ) -> u32;
-    fn tcam_slot_record(table: *const u64, words: usize, slot: u32, first: *mut u32) -> u32;
-    fn tcam_plan_insert(
-        table: *const u64,
-        words: usize,
-        id: u32,
-        priority: u32,
-        value_high: u64,
-        value_low: u64,
-        mask_high: u64,
-        mask_low: u64,
-        action: u32,
-        plan: *mut u32,
-        plan_words: usize,
-        count: *mut u32,
-        spot: *mut u32,
-    ) -> u32;
-    fn tcam_plan_delete(
-        table: *const u64,
-        words: usize,
-        id: u32,
-        plan: *mut u32,
-        plan_words: usize,
-        count: *mut u32,
-        spot: *mut u32,
-    ) -> u32;
-    fn tcam_carry_out(
-        table: *mut u64,
-        words: usize,
-        plan: *const u32,
-        plan_words: usize,
-        id: u32,
-        priority: u32,
-        value_high: u64,
-        value_low: u64,
-        mask_high: u64,
-        mask_low: u64,
-        action: u32,
-        progress: *mut ProgressRecord,
-    ) -> u64;
-    #[cfg(image)]
-    fn tcam_save(table: *const u64, words: usize, image: *mut u8, bytes: usize, count: *mut u32, spot: *mut u32) -> u32;
-    #[cfg(image)]
-    fn tcam_load(table: *mut u64, words: usize, image: *const u8, bytes: usize, spot: *mut u32) -> u32;
-}
+use support::calls::*;
 
 /// Everything that can be seen of a call. Cells that a call doesn't have stay out of the list.
 #[derive(Clone, Debug, PartialEq, Eq)]
@@ -110,17 +49,17 @@ impl Cells {
 }
 
 /// The fenced room for tables, plans and images, made once.
-pub struct Library {
+pub struct Guarded {
     table: Fence,
     plan: Fence,
     #[cfg(image)]
     image: Fence,
 }
 
-impl Library {
-    pub fn new() -> Library {
+impl Guarded {
+    pub fn new() -> Guarded {
         let most_words = 6 * SLOTS_MOST + 64;
-        Library {
+        Guarded {
             table: Fence::new(8 * most_words),
             plan: Fence::new(4 * most_words),
             #[cfg(image)]
@@ -275,8 +214,4 @@ impl Library {
             guards_hold: guards_hold && cells.guards_hold(),
         }
     }
-}
-
-fn halves(wide: u128) -> (u64, u64) {
-    ((wide >> 64) as u64, wide as u64)
 }
