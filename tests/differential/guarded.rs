@@ -187,7 +187,7 @@ impl Guarded {
     #[cfg(image)]
     pub fn load(&self, input: &Input) -> Seen {
         self.on_image(input, &input.image, 1, |table, words, image, bytes, cells| unsafe {
-            tcam_load(table, words, image, bytes, cells.cell(0))
+            tcam_load(image, bytes, table, words, cells.cell(0))
         })
     }
 
