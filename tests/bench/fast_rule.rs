@@ -1,10 +1,11 @@
 // FastRule's greedy planner: document 001, section IV, algorithm 2 with the metric of definition 1 (algorithm 1).
-// The paper's addresses run from the losing end to the winning one, so its one way is up, toward lower slots.
+// The paper's addresses run from the losing end to the winning one, so its one way is up here, toward lower slots.
 
 use crate::memory::{Chain, Memory, NoPlan};
 use reference::table::Rule;
 
-/// Up is the way of the paper, with the free space at the winning end; down is its mirror, not in the paper.
+/// Up is the way of the paper's text, with the free space at the winning end; down is its mirror, for free space at the losing
+/// end ("top or bottom, depending on the arrangement", section V-A).
 #[derive(Clone, Copy, Debug, PartialEq, Eq)]
 pub enum Way {
     Up,

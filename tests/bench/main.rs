@@ -10,24 +10,25 @@ mod rule_tris;
 mod self_check;
 mod workload;
 
-use crate::memory::NoPlan;
+use crate::memory::{Memory, NoPlan};
 use crate::planners::{Planner, PLANNERS};
 use crate::rule_sets::{RuleSet, RULE_SETS};
-use crate::workload::{Outcome, Workload};
+use crate::workload::{Free, Operations, Outcome, Size, Workload};
+use reference::table::Rule;
 
 const SLOTS: usize = 1024;
 /// Loads in hundredths.
 const LOADS: [usize; 3] = [50, 90, 99];
-const INSERTS: usize = 4000;
+const INSERTS: usize = 2000;
 const SEED: u64 = 7;
 
-/// One line of the table.
+/// One line of the table: a workload, and what came out for each planner in turn.
 pub struct Row {
     pub set: RuleSet,
     pub load: usize,
-    pub with_deletes: bool,
-    pub planner: Planner,
-    pub outcome: Outcome,
+    pub operations: Operations,
+    pub free: Free,
+    pub outcomes: Vec<Outcome>,
 }
 
 fn flag(name: &str) -> Option<String> {
@@ -46,56 +47,68 @@ fn main() {
     }
     let inserts = number_flag("--inserts", INSERTS as u64) as usize;
     let seed = number_flag("--seed", SEED);
-    println!("writes per insert, {SLOTS} slots, seed {seed}");
-    println!(
-        "{:<12} {:>4} {:<14} {:<17} {:>7} {:>8} {:>5} {:>6} {:>8} {:>8}",
-        "rules", "load", "operations", "planner", "inserts", "mean", "p99", "worst", "crossed", "no room"
-    );
-    let mut rows = Vec::new();
+    println!("Writes per insert, {SLOTS} slots, seed {seed}: mean, 99th percentile, worst. Each planner on its own memory.");
+    print_heads("mean  p99 worst");
     let mut compared = Compared::default();
-    for with_deletes in [true, false] {
-        for set in RULE_SETS {
-            for load in LOADS {
-                for planner in PLANNERS {
-                    let outcome = measure(set, load, with_deletes, planner, inserts, seed, &mut compared);
-                    let row = Row { set, load, with_deletes, planner, outcome };
-                    print(&row);
+    let mut rows = Vec::new();
+    for operations in [Operations::DeleteInsert, Operations::InsertOnly] {
+        for free in [Free::First, Free::Last] {
+            for set in RULE_SETS {
+                for load in LOADS {
+                    let measure = |planner| measure(set, load, operations, free, planner, inserts, seed, &mut compared);
+                    let outcomes = PLANNERS.into_iter().map(measure).collect();
+                    let row = Row { set, load, operations, free, outcomes };
+                    print_row(&row, |outcome| {
+                        format!("{:.2} {:>4} {:>5}", outcome.mean(), outcome.percentile_99(), outcome.worst())
+                    });
                     rows.push(row);
                 }
             }
         }
     }
-    println!(
-        "each of our {} plans again on our own table: RuleTris as many writes in {}, FastRule two-way more in {} and fewer in none",
-        compared.plans, compared.rule_tris_same, compared.fast_rule_more
-    );
+    println!("\nOf the inserts these were not planned, and are not in the numbers above: crossed, and no room the one way.");
+    print_heads("of  cross  room");
+    for row in &rows {
+        print_row(row, |outcome| {
+            format!("{} {:>6} {:>5}", outcome.writes.len() + outcome.crossed + outcome.no_room, outcome.crossed, outcome.no_room)
+        });
+    }
+    compared.print();
     if let Some(path) = flag("--plot") {
         std::fs::write(&path, plot::drawing(&rows)).unwrap_or_else(|error| panic!("{path}: {error}"));
         println!("plot: {path}");
     }
 }
 
-fn print(row: &Row) {
-    println!(
-        "{:<12} {:>4} {:<14} {:<17} {:>7} {:>8.3} {:>5} {:>6} {:>8} {:>8}",
-        row.set.name(),
-        format!("0.{}", row.load),
-        if row.with_deletes { "delete, insert" } else { "insert only" },
-        row.planner.name(),
-        row.outcome.writes.len(),
-        row.outcome.mean(),
-        row.outcome.percentile_99(),
-        row.outcome.worst(),
-        row.outcome.crossed,
-        row.outcome.no_room
-    );
+fn print_heads(parts: &str) {
+    print!("{:<38}", "");
+    PLANNERS.iter().for_each(|planner| print!(" {:>18}", planner.name()));
+    print!("\n{:<11} {:<4} {:<14} {:<6}", "rules", "load", "operations", "free");
+    PLANNERS.iter().for_each(|_| print!(" {parts:>18}"));
+    println!();
+}
+
+fn print_row(row: &Row, cell: impl Fn(&Outcome) -> String) {
+    let operations = match row.operations {
+        Operations::DeleteInsert => "delete, insert",
+        Operations::InsertOnly => "insert only",
+    };
+    let free = match row.free {
+        Free::First => "first",
+        Free::Last => "last",
+    };
+    print!("{:<11} 0.{} {operations:<14} {free:<6}", row.set.name(), row.load);
+    row.outcomes.iter().for_each(|outcome| print!(" {:>18}", cell(outcome)));
+    println!();
 }
 
 /// Delete one, insert one: one long run. Insert only: from the load until the memory is full, as often as it takes.
+#[allow(clippy::too_many_arguments)]
 fn measure(
     set: RuleSet,
     load: usize,
-    with_deletes: bool,
+    operations: Operations,
+    free: Free,
     planner: Planner,
     inserts: usize,
     seed: u64,
@@ -103,10 +116,14 @@ fn measure(
 ) -> Outcome {
     let first = SLOTS * load / 100;
     let room = SLOTS - first;
-    let (runs, inserts) = if with_deletes { (1, inserts) } else { (inserts.div_ceil(room), room) };
+    let (runs, inserts) = match operations {
+        Operations::DeleteInsert => (1, inserts),
+        Operations::InsertOnly => (inserts.div_ceil(room), room),
+    };
+    let size = Size { slots: SLOTS, first, inserts };
     let mut outcome = Outcome::default();
     for run in 0..runs {
-        let workload = Workload::new(set, SLOTS, first, inserts, with_deletes, seed * 1_000_000 + run as u64);
+        let workload = Workload::new(set, size, operations, free, seed * 1_000_000 + run as u64);
         outcome.add(workload.run(planner, |memory, new, planned| {
             if planner == Planner::Ours {
                 compared.compare(memory, new, planned);
@@ -121,20 +138,30 @@ fn measure(
 struct Compared {
     plans: usize,
     rule_tris_same: usize,
+    rule_tris_same_chain: usize,
     fast_rule_more: usize,
 }
 
 impl Compared {
-    fn compare(&mut self, memory: &memory::Memory, new: &reference::table::Rule, ours: Result<usize, NoPlan>) {
-        let count = |planner: Planner| planner.plan(memory, new).map(|chain| chain.len());
-        let (rule_tris, fast_rule) = (count(Planner::RuleTris), count(Planner::FastRuleTwoWay));
-        let Ok(writes) = ours else {
+    fn compare(&mut self, memory: &Memory, new: &Rule, ours: Result<&[usize], NoPlan>) {
+        let rule_tris = Planner::RuleTris.plan(memory, new, Free::First);
+        let fast_rule = Planner::FastRuleTwoWay.plan(memory, new, Free::First);
+        let Ok(chain) = ours else {
             assert_eq!((rule_tris, fast_rule), (Err(NoPlan::Crossed), Err(NoPlan::Crossed)));
             return;
         };
+        let rule_tris = rule_tris.expect("what ours plans RuleTris plans");
         self.plans += 1;
-        self.rule_tris_same += usize::from(rule_tris == Ok(writes));
-        self.fast_rule_more += usize::from(fast_rule.map_or(true, |greedy| greedy > writes));
-        assert!(fast_rule.map_or(true, |greedy| greedy >= writes), "the greedy plan is in document 01's class");
+        self.rule_tris_same += usize::from(rule_tris.len() == chain.len());
+        self.rule_tris_same_chain += usize::from(rule_tris == chain);
+        let greedy = fast_rule.map_or(usize::MAX, |greedy| greedy.len());
+        self.fast_rule_more += usize::from(greedy > chain.len());
+        assert!(rule_tris.len() >= chain.len() && greedy >= chain.len(), "their plans are in document 01's class");
+    }
+
+    fn print(&self) {
+        println!("\nEach of our {} plans, made again by the others on our table, the very same one:", self.plans);
+        println!("  RuleTris: as many writes in {}, the same chain in {}", self.rule_tris_same, self.rule_tris_same_chain);
+        println!("  FastRule two-way: more writes in {}, fewer in none", self.fast_rule_more);
     }
 }

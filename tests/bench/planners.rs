@@ -4,6 +4,7 @@
 use crate::fast_rule::{greedy, Way};
 use crate::memory::{Chain, Memory, NoPlan};
 use crate::rule_tris::shortest_moving_chain;
+use crate::workload::Free;
 use reference::table::{Rule, CROSSED};
 
 #[derive(Clone, Copy, Debug, PartialEq, Eq, PartialOrd, Ord)]
@@ -29,12 +30,13 @@ impl Planner {
         }
     }
 
-    pub fn plan(self, memory: &Memory, new: &Rule) -> Result<Chain, NoPlan> {
+    /// `free` says to which end the free space is, for a planner that moves rules one way only.
+    pub fn plan(self, memory: &Memory, new: &Rule, free: Free) -> Result<Chain, NoPlan> {
         match self {
             Planner::Ours => plan_by_library(memory, new),
             Planner::RuleTris => shortest_moving_chain(memory, new),
             Planner::FastRuleTwoWay => greedy_two_way(memory, new),
-            Planner::FastRuleOneWay => greedy(memory, new, Way::Up),
+            Planner::FastRuleOneWay => greedy(memory, new, if free == Free::First { Way::Up } else { Way::Down }),
             Planner::PriorityOrder => Ok(shift_by_priority(memory, new)),
         }
     }

@@ -4,7 +4,7 @@
 use crate::memory::{Memory, NoPlan};
 use crate::planners::{Planner, PLANNERS};
 use crate::rule_sets::RULE_SETS;
-use crate::workload::Workload;
+use crate::workload::{Free, Operations, Size, Workload};
 use reference::plan::plan_insert;
 use reference::table::Rule;
 
@@ -13,26 +13,31 @@ const WORKLOADS: u64 = 40;
 pub fn run() {
     document_000_figure_2();
     document_01_five_slots();
-    let mut inserts = 0;
+    let mut compared = 0;
     let mut crossed = 0;
     for set in RULE_SETS {
         for seed in 0..WORKLOADS {
             let slots = 8 + seed as usize % 33;
             let first = slots - 1 - seed as usize % 4;
-            for with_deletes in [true, false] {
-                let count = if with_deletes { 60 } else { slots - first };
-                let workload = Workload::new(set, slots, first, count, with_deletes, seed);
+            for (operations, free) in [
+                (Operations::DeleteInsert, Free::First),
+                (Operations::DeleteInsert, Free::Last),
+                (Operations::InsertOnly, Free::First),
+                (Operations::InsertOnly, Free::Last),
+            ] {
+                let inserts = if operations == Operations::DeleteInsert { 60 } else { slots - first };
+                let workload = Workload::new(set, Size { slots, first, inserts }, operations, free, seed);
                 for planner in PLANNERS {
                     workload.run(planner, |memory, new, planned| {
-                        inserts += 1;
+                        compared += 1;
                         crossed += usize::from(planned == Err(NoPlan::Crossed));
-                        agrees_with_reference(memory, new, planner, planned);
+                        agrees_with_reference(memory, new, planner, planned.map(|chain| chain.len()));
                     });
                 }
             }
         }
     }
-    println!("bench: self-check: {inserts} inserts agree with the reference, {crossed} of them crossed");
+    println!("bench: self-check: {compared} inserts agree with the reference, {crossed} of them crossed");
 }
 
 /// On the same table: ours and RuleTris have the reference's count, the others no fewer; and who is crossed.
@@ -67,7 +72,7 @@ fn memory_of(entries: &[Option<Rule>]) -> Memory {
 
 fn expect(memory: &Memory, new: &Rule, expected: [Result<usize, NoPlan>; 5]) {
     for (planner, expected) in PLANNERS.into_iter().zip(expected) {
-        assert_eq!(planner.plan(memory, new).map(|chain| chain.len()), expected, "{planner:?}");
+        assert_eq!(planner.plan(memory, new, Free::First).map(|chain| chain.len()), expected, "{planner:?}");
     }
 }
 

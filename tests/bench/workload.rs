@@ -7,13 +7,38 @@ use crate::rule_sets::{make_rules, RuleSet};
 use reference::table::{first_out_of_order, Rule};
 use support::random::Random;
 
+/// Where the free space is at the start: the rules stand by falling priority in one block at the other end.
+#[derive(Clone, Copy, Debug, PartialEq, Eq)]
+pub enum Free {
+    /// At the winning end: document 001's "original layout".
+    First,
+    /// At the losing end, as in document 000's figure 2 and document 01's script.
+    Last,
+}
+
 pub struct Workload {
     slots: usize,
+    free: Free,
     /// Rules at the start; the rest are inserted in turn.
     first: usize,
     rules: Vec<Rule>,
     /// For each insert the number that chooses the rule to delete before it, if there are deletes.
     deletes: Option<Vec<u64>>,
+}
+
+#[derive(Clone, Copy, Debug, PartialEq, Eq)]
+pub enum Operations {
+    /// Delete one, insert one.
+    DeleteInsert,
+    InsertOnly,
+}
+
+#[derive(Clone, Copy)]
+pub struct Size {
+    pub slots: usize,
+    /// Rules at the start.
+    pub first: usize,
+    pub inserts: usize,
 }
 
 #[derive(Default, Clone)]
@@ -32,14 +57,19 @@ impl Outcome {
     }
 
     pub fn mean(&self) -> f64 {
-        self.writes.iter().sum::<usize>() as f64 / self.writes.len() as f64
+        self.writes.iter().sum::<usize>() as f64 / self.writes.len().max(1) as f64
     }
 
     /// The least number that 99 of 100 inserts don't exceed.
     pub fn percentile_99(&self) -> usize {
         let mut sorted = self.writes.clone();
         sorted.sort_unstable();
-        sorted[(sorted.len() * 99).div_ceil(100) - 1]
+        let place = (sorted.len() * 99).div_ceil(100);
+        if place == 0 {
+            0
+        } else {
+            sorted[place - 1]
+        }
     }
 
     pub fn worst(&self) -> usize {
@@ -48,27 +78,28 @@ impl Outcome {
 }
 
 impl Workload {
-    pub fn new(set: RuleSet, slots: usize, first: usize, inserts: usize, with_deletes: bool, seed: u64) -> Workload {
+    pub fn new(set: RuleSet, size: Size, operations: Operations, free: Free, seed: u64) -> Workload {
         let mut random = Random::new(seed, 0);
-        let rules = make_rules(set, first + inserts, &mut random);
-        let deletes = with_deletes.then(|| (0..inserts).map(|_| random.word()).collect());
-        Workload { slots, first, rules, deletes }
+        let rules = make_rules(set, size.first + size.inserts, &mut random);
+        let with_deletes = operations == Operations::DeleteInsert;
+        let deletes = with_deletes.then(|| (0..size.inserts).map(|_| random.word()).collect());
+        Workload { slots: size.slots, free, first: size.first, rules, deletes }
     }
 
-    /// The first rules by falling priority in the last slots: document 001's "original layout", free space at the winning end.
     fn first_memory(&self) -> Memory {
         let mut rules = self.rules[..self.first].to_vec();
         rules.sort_by_key(|rule| std::cmp::Reverse(rule.priority));
         let mut memory = Memory::new(self.slots);
+        let start = if self.free == Free::First { self.slots - self.first } else { 0 };
         for (place, rule) in rules.iter().enumerate() {
-            memory.set(self.slots - self.first + place, Some(*rule));
+            memory.set(start + place, Some(*rule));
         }
         memory
     }
 
     /// Runs all operations. A planner that had no plan for an insert deletes nothing before its next one, so that its
     /// memory is as full as the others'. `each` sees every insert before it is planned.
-    pub fn run(&self, planner: Planner, mut each: impl FnMut(&Memory, &Rule, Result<usize, NoPlan>)) -> Outcome {
+    pub fn run(&self, planner: Planner, mut each: impl FnMut(&Memory, &Rule, Result<&[usize], NoPlan>)) -> Outcome {
         let mut memory = self.first_memory();
         let mut present: Vec<u32> = self.rules[..self.first].iter().map(|rule| rule.id).collect();
         let mut outcome = Outcome::default();
@@ -79,8 +110,8 @@ impl Workload {
                     memory.delete(present.remove(chosen));
                 }
             }
-            let planned = planner.plan(&memory, new);
-            each(&memory, new, planned.as_ref().map(|chain| chain.len()).map_err(|&no_plan| no_plan));
+            let planned = planner.plan(&memory, new, self.free);
+            each(&memory, new, planned.as_deref().map_err(|&no_plan| no_plan));
             match planned {
                 Ok(chain) => {
                     memory.write_chain(&chain, new);
