@@ -18,7 +18,7 @@ pub enum Call {
     DeleteInFull,
 }
 
-#[derive(Clone, Debug)]
+#[derive(Clone, Debug, PartialEq, Eq)]
 pub struct Input {
     pub call: Call,
     pub table: Vec<u64>,
