@@ -22,12 +22,17 @@ const LOADS: [usize; 3] = [50, 90, 99];
 const INSERTS: usize = 2000;
 const SEED: u64 = 7;
 
-/// One line of the table: a workload, and what came out for each planner in turn.
-pub struct Row {
+#[derive(Clone, Copy)]
+pub struct Kind {
     pub set: RuleSet,
     pub load: usize,
     pub operations: Operations,
     pub free: Free,
+}
+
+/// One line of the table: a kind of workload, and what came out for each planner in turn.
+pub struct Row {
+    pub kind: Kind,
     pub outcomes: Vec<Outcome>,
 }
 
@@ -51,20 +56,11 @@ fn main() {
     print_heads("mean  p99 worst");
     let mut compared = Compared::default();
     let mut rows = Vec::new();
-    for operations in [Operations::DeleteInsert, Operations::InsertOnly] {
-        for free in [Free::First, Free::Last] {
-            for set in RULE_SETS {
-                for load in LOADS {
-                    let measure = |planner| measure(set, load, operations, free, planner, inserts, seed, &mut compared);
-                    let outcomes = PLANNERS.into_iter().map(measure).collect();
-                    let row = Row { set, load, operations, free, outcomes };
-                    print_row(&row, |outcome| {
-                        format!("{:.2} {:>4} {:>5}", outcome.mean(), outcome.percentile_99(), outcome.worst())
-                    });
-                    rows.push(row);
-                }
-            }
-        }
+    for kind in kinds() {
+        let outcomes = PLANNERS.into_iter().map(|planner| measure(kind, planner, inserts, seed, &mut compared)).collect();
+        let row = Row { kind, outcomes };
+        print_row(&row, |outcome| format!("{:.2} {:>4} {:>5}", outcome.mean(), outcome.percentile_99(), outcome.worst()));
+        rows.push(row);
     }
     println!("\nOf the inserts these were not planned, and are not in the numbers above: crossed, and no room the one way.");
     print_heads("of  cross  room");
@@ -80,6 +76,18 @@ fn main() {
     }
 }
 
+fn kinds() -> Vec<Kind> {
+    let mut kinds = Vec::new();
+    for operations in [Operations::DeleteInsert, Operations::InsertOnly] {
+        for free in [Free::First, Free::Last] {
+            for set in RULE_SETS {
+                kinds.extend(LOADS.map(|load| Kind { set, load, operations, free }));
+            }
+        }
+    }
+    kinds
+}
+
 fn print_heads(parts: &str) {
     print!("{:<38}", "");
     PLANNERS.iter().for_each(|planner| print!(" {:>18}", planner.name()));
@@ -89,41 +97,31 @@ fn print_heads(parts: &str) {
 }
 
 fn print_row(row: &Row, cell: impl Fn(&Outcome) -> String) {
-    let operations = match row.operations {
+    let operations = match row.kind.operations {
         Operations::DeleteInsert => "delete, insert",
         Operations::InsertOnly => "insert only",
     };
-    let free = match row.free {
+    let free = match row.kind.free {
         Free::First => "first",
         Free::Last => "last",
     };
-    print!("{:<11} 0.{} {operations:<14} {free:<6}", row.set.name(), row.load);
+    print!("{:<11} 0.{} {operations:<14} {free:<6}", row.kind.set.name(), row.kind.load);
     row.outcomes.iter().for_each(|outcome| print!(" {:>18}", cell(outcome)));
     println!();
 }
 
 /// Delete one, insert one: one long run. Insert only: from the load until the memory is full, as often as it takes.
-#[allow(clippy::too_many_arguments)]
-fn measure(
-    set: RuleSet,
-    load: usize,
-    operations: Operations,
-    free: Free,
-    planner: Planner,
-    inserts: usize,
-    seed: u64,
-    compared: &mut Compared,
-) -> Outcome {
-    let first = SLOTS * load / 100;
+fn measure(kind: Kind, planner: Planner, inserts: usize, seed: u64, compared: &mut Compared) -> Outcome {
+    let first = SLOTS * kind.load / 100;
     let room = SLOTS - first;
-    let (runs, inserts) = match operations {
+    let (runs, inserts) = match kind.operations {
         Operations::DeleteInsert => (1, inserts),
         Operations::InsertOnly => (inserts.div_ceil(room), room),
     };
     let size = Size { slots: SLOTS, first, inserts };
     let mut outcome = Outcome::default();
     for run in 0..runs {
-        let workload = Workload::new(set, size, operations, free, seed * 1_000_000 + run as u64);
+        let workload = Workload::new(kind.set, size, kind.operations, kind.free, seed * 1_000_000 + run as u64);
         outcome.add(workload.run(planner, |memory, new, planned| {
             if planner == Planner::Ours {
                 compared.compare(memory, new, planned);

@@ -68,12 +68,12 @@ fn band(rows: &[Row], free: Free) -> String {
         svg += &text(LEFT - 8.0, y + 4.0, "end", &format!("{}", 1 << power));
     }
     let group = (RIGHT - LEFT) / (RULE_SETS.len() * LOADS.len()) as f64;
-    let is_drawn = |row: &&Row| row.operations == Operations::DeleteInsert && row.free == free;
+    let is_drawn = |row: &&Row| row.kind.operations == Operations::DeleteInsert && row.kind.free == free;
     for (place, row) in rows.iter().filter(is_drawn).enumerate() {
         let x = LEFT + group * place as f64;
-        svg += &text(x + group / 2.0, FLOOR + 20.0, "middle", &format!("load 0.{}", row.load));
+        svg += &text(x + group / 2.0, FLOOR + 20.0, "middle", &format!("load 0.{}", row.kind.load));
         if place % LOADS.len() == 0 {
-            svg += &text(x + group * LOADS.len() as f64 / 2.0, FLOOR + 42.0, "middle", row.set.name());
+            svg += &text(x + group * LOADS.len() as f64 / 2.0, FLOOR + 42.0, "middle", row.kind.set.name());
             let low = FLOOR + 48.0;
             writeln!(svg, "<line x1=\"{x:.1}\" y1=\"{TOP}\" x2=\"{x:.1}\" y2=\"{low}\" stroke=\"#bbbbbb\"/>").unwrap();
         }

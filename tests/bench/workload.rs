@@ -106,7 +106,7 @@ impl Workload {
         for (place, new) in self.rules[self.first..].iter().enumerate() {
             if let Some(deletes) = &self.deletes {
                 if memory.count >= self.first {
-                    let chosen = (u128::from(deletes[place]) * present.len() as u128 >> 64) as usize;
+                    let chosen = ((u128::from(deletes[place]) * present.len() as u128) >> 64) as usize;
                     memory.delete(present.remove(chosen));
                 }
             }

@@ -79,7 +79,7 @@ fn report(library: &Guarded, seed: u64, number: u64, input: Input, mismatch: Mis
     println!("differential: MISMATCH at input {number} of seed {seed}: {}", mismatch.what);
     let fails = |smaller: &Input| check(library, smaller, &mut Tally::default()).is_err();
     let smallest = shrink::shrink(input, fails);
-    let mismatch = check(library, &smallest, &mut Tally::default()).err().expect("a smaller input fails too");
+    let mismatch = check(library, &smallest, &mut Tally::default()).expect_err("a smaller input fails too");
     println!("the smallest input found: {:?}, {}", smallest.call, mismatch.what);
     for (slot, record) in smallest.table.chunks(RECORD_WORDS).enumerate() {
         println!("  slot {slot}: {record:x?}");

@@ -126,7 +126,7 @@ impl<F: Fn(&Input) -> bool> Shrinker<F> {
 fn smaller_numbers(number: u64) -> Vec<u64> {
     let (high, low) = (number >> 32, number & 0xffff_ffff);
     let mut list = vec![0, 1, number / 2, number & number.wrapping_sub(1), number.wrapping_sub(1)];
-    list.extend([high << 32, (high / 2) << 32 | low, high.saturating_sub(1) << 32 | low, high << 32 | low / 2]);
+    list.extend([high << 32, ((high / 2) << 32) | low, (high.saturating_sub(1) << 32) | low, (high << 32) | (low / 2)]);
     list.retain(|&smaller| smaller < number);
     list
 }
