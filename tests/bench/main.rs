@@ -62,7 +62,10 @@ fn main() {
         print_row(&row, |outcome| format!("{:.2} {:>4} {:>5}", outcome.mean(), outcome.percentile_99(), outcome.worst()));
         rows.push(row);
     }
-    println!("\nOf the inserts these were not planned, and are not in the numbers above: crossed, and no room the one way.");
+    println!(
+        "\nOurs is least on each table it is given (in document 01's class), not over a run: layouts part as a run goes on."
+    );
+    println!("Of the inserts these were not planned, and are not in the numbers above: crossed, and no room the one way.");
     print_heads("of  cross  room");
     for row in &rows {
         print_row(row, |outcome| {
