@@ -191,6 +191,16 @@ impl Guarded {
         })
     }
 
+    #[cfg(not(image))]
+    pub fn save(&self, _: &Input) -> Seen {
+        panic!("the library has no tcam_save")
+    }
+
+    #[cfg(not(image))]
+    pub fn load(&self, _: &Input) -> Seen {
+        panic!("the library has no tcam_load")
+    }
+
     #[cfg(image)]
     fn on_image(
         &self,
