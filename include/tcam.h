@@ -46,6 +46,8 @@
  *     the plan may be null only where the length that goes with them is 0;
  *   - the lent cells, the progress record, the plan and the table are apart from each other;
  *   - nothing changes the table during a call, nor the plan or the progress record during tcam_carry_out;
+ *   - no other call is made on the table while tcam_carry_out runs, not from an interrupt handler or another
+ *     core either: a write is six stores, and what is promised of lookups is promised between calls;
  *   - the platform is x86-64 with the System V calling convention. SSE2 registers and the red zone are
  *     used: an interrupt handler saves those registers if it uses them, and steps over the 128 bytes
  *     below the stack pointer if it runs on the same stack;
@@ -229,7 +231,7 @@ typedef struct tcam_progress {
 
 /* The results of tcam_carry_out that are no refusal. */
 #define TCAM_WROTE 0
-#define TCAM_FINISHED 1
+#define TCAM_FINISHED 0xFFFFFFFF
 
 /*
  * Carries a plan out by one write: word progress->done of the plan is made in the table.
@@ -246,7 +248,8 @@ typedef struct tcam_progress {
  *
  * Result TCAM_WROTE: the write is made, in this one slot, and progress->done is one more.
  * Result TCAM_FINISHED: done equals total. Nothing is changed, however often the call is made.
- * Any other result is a refusal, its number * 2^32 + its spot: see tcam_carry_number, tcam_carry_spot.
+ * Any other result is a refusal, its number + its spot * 2^32: see tcam_carry_number, tcam_carry_spot. The
+ * lower 32 bits tell the three apart, so that nothing but the spot is lost where a result is cut to them.
  *
  * Refusals, in the order of checks:
  *   TCAM_SHAPE   words is not 6 * (1 to 1,024). The spot is 0.
@@ -271,15 +274,15 @@ uint64_t tcam_carry_out(uint64_t *table, size_t words, const uint32_t *plan, siz
                         uint32_t priority, uint64_t value_high, uint64_t value_low, uint64_t mask_high,
                         uint64_t mask_low, uint32_t action, tcam_progress *progress);
 
-/* The number of a refusal of tcam_carry_out, 0 (TCAM_OK) for TCAM_WROTE and TCAM_FINISHED, and its spot. */
+/* The number of a refusal of tcam_carry_out, and its spot. */
 static inline uint32_t tcam_carry_number(uint64_t result)
 {
-    return (uint32_t)(result >> 32);
+    return (uint32_t)result;
 }
 
 static inline uint32_t tcam_carry_spot(uint64_t result)
 {
-    return (uint32_t)result;
+    return (uint32_t)(result >> 32);
 }
 
 /* The two halves of a plan word. */

@@ -11,7 +11,7 @@
 #define COPY(from, to) ((uint32_t)(from) * 65536u + (uint32_t)(to))
 #define PUT(to) COPY(65535u, to)
 #define EMPTYING(to) COPY(65534u, to)
-#define REFUSED(number, spot) ((uint64_t)(number) * 4294967296u + (spot))
+#define REFUSED(number, spot) ((uint64_t)(spot) * 4294967296u + (number))
 
 /* ---- What is lent: a table, a plan, a rule as numbers and a progress record ---- */
 
@@ -112,7 +112,7 @@ static uint64_t ref_step(void)
     if (done > total || total > room)
         return REFUSED(12, done);
     if (done == total)
-        return 1;
+        return 4294967295u;
     uint32_t from = plan[done] / 65536, to = plan[done] % 65536;
     uint64_t record[6] = {0, 0, 0, 0, 0, 0};
     if (from == 65535) {
@@ -649,7 +649,7 @@ static void random_calls(unsigned long most)
 static void halves(void)
 {
     HERE;
-    CHECK(tcam_carry_number(TCAM_WROTE) == TCAM_OK && tcam_carry_number(TCAM_FINISHED) == TCAM_OK);
+    CHECK((uint32_t)TCAM_WROTE == 0 && (uint32_t)TCAM_FINISHED == 4294967295u);
     CHECK(tcam_carry_number(REFUSED(12, 4294967295u)) == TCAM_WRITE && tcam_carry_spot(REFUSED(12, 4294967295u)) == 4294967295u);
     CHECK(tcam_carry_number(REFUSED(2, 1023)) == TCAM_RECORD && tcam_carry_spot(REFUSED(2, 1023)) == 1023);
     CHECK(sizeof(tcam_progress) == 8);

@@ -196,7 +196,7 @@ int main(int arguments, char **words)
     try_carry("tcam_carry_out, a copy", 1022u * 65536 + 1023, TCAM_WROTE);
     try_carry("tcam_carry_out, a put-in", 65535u * 65536 + 1023, TCAM_WROTE);
     try_carry("tcam_carry_out, an emptying", 65534u * 65536 + 1022, TCAM_WROTE);
-    try_carry("tcam_carry_out, no fit", 65535u * 65536 + 1022, (uint64_t)TCAM_WRITE << 32);
+    try_carry("tcam_carry_out, no fit", 65535u * 65536 + 1022, TCAM_WRITE);
 
     if (failures != 0) {
         fprintf(stderr, "stack_test: %lu of %lu checks failed\n", failures, checks);

@@ -5,10 +5,8 @@ use mathlib.Core.List.{List, [], _∷_}
 use Prim.Native.Nat.{ℕ, _+_}
 use lib.Dec.{eqb, leb}
 use lib.ListN.{length, getD}
-use Rattle.search.specs.Search.{any}
 use Rattle.layout.specs.Write.{Write, copy, put, clear}
-use Rattle.records.specs.Record.{slotWords, soundRule}
-use Rattle.records.specs.Order.{slots, sameId}
+use Rattle.records.specs.Record.{soundRule}
 use Rattle.records.specs.Checks.{Told, success, refusal, unless, passes, orElse, slotChecks}
 use Rattle.records.specs.Writes.{writeOf, fitsWrite, applyWord}
 use Rattle.records.specs.declared.Rule.{Rule}
@@ -23,13 +21,6 @@ abbrev pub stepTold : StepAnswer → Told
 stepTold (Wrote info) = success (info .done ∷ [])
 stepTold Finished = success []
 stepTold (Refused cause spot) = refusal cause spot
-
--- another slot k holds slot j's id; slot j's id stands in another slot too
-unfoldable pub heldAt : ℕ → List ℕ → ℕ → ℕ → Bool
-heldAt w t j k = not (eqb k j) && sameId w (slotWords w t k) (slotWords w t j)
-
-unfoldable pub standsElsewhere : ℕ → List ℕ → ℕ → Bool
-standsElsewhere w t j = any (heldAt w t j) (slots w t)
 
 -- 1, 2; then 12 if done > in all or in all > the plan's words
 unfoldable pub progressChecks : ℕ → List ℕ → ℕ → ℕ → ℕ → Check

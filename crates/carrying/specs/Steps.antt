@@ -1,30 +1,33 @@
 -- What the definitions of a step say: the tests of one write as the code makes them, and the ways in which a step ends.
 -- A step that is refused or finished leaves the table and the writes done as they were.
-use mathlib.Core.Path.{_≡_, refl, sym, ap, subst, _∙_}
-use mathlib.Core.Bool.{Bool, true, false, not, cond, _&&_, Bool·not-not}
-use mathlib.Core.Logic.{_≢_}
+use mathlib.Core.Path.{_≡_, refl, sym, ap, ap₂, subst, _∙_}
+use mathlib.Core.Bool.{Bool, true, false, not, cond, _&&_, Bool·not-not, true≢false}
+use mathlib.Core.Logic.{_≢_, _⊎_}
+use mathlib.Core.Logic._⊎_.{inl, inr}
 use mathlib.Core.List.{List, [], _∷_}
 use Prim.Native.Nat.{ℕ, _+_, _/_, _%_, _≤_, _<_}
 use lib.Dec.{eqb, ltb, leb}
 use lib.ListN.{length, getD}
 use native.Mathlib.Decide.{ℕ-discrete}
+use native.Mathlib.Omega.{arith}
 use borrow.Author.Tests.{eq-eqb, ne-eqb, leb-true}
-use Rattle.search.specs.Search.{and-left, and-right}
+use Rattle.search.specs.Search.{decided, and-left, and-right}
 use Rattle.layout.specs.Write.{copy, put, clear}
 use Rattle.records.specs.Record.{slotWords, empty, occupied, soundRule, recordOf, putSlot, listed, recordWords, word}
 use Rattle.records.specs.Order.{slots}
 use Rattle.records.specs.Rules.{listed-words}
 use Rattle.records.specs.Checks.{Told, success, refusal, unless, passes, slotChecks}
 use Rattle.records.specs.Entries.{vacant, entryAt}
-use Rattle.records.specs.Laws.{or-else-pass, pass-law, cause-not-zero}
-use Rattle.records.specs.Writes.{writeOf, word-puts, word-clears, word-copies, freeAt, fitsWrite, fitsWord, applyWrite, applyWord, SlotsBelow, fits-below}
+use Rattle.records.specs.Laws.{or-else-pass, pass-law, cause-not-zero, cause-number-once}
+use Rattle.records.specs.Writes.{writeOf, word-puts, word-clears, word-copies, standsElsewhere, freeAt, fitsWrite, fitsWord, applyWrite, applyWord, SlotsBelow, fits-below}
 use Rattle.records.specs.declared.Rule.{Rule}
 use Rattle.records.specs.declared.Cause.{Cause}
 use Rattle.records.specs.declared.Cause.the-variants.{Rule as RuleCause, Write as WriteCause}
 use Rattle.records.specs.declared.Check.{Check}
 use Rattle.records.specs.declared.Check.the-variants.{Pass, Fail}
 use Rattle.carrying.specs.declared.StepAnswer.{StepAnswer}
-use Rattle.carrying.specs.Carrying.{stepTold, heldAt, standsElsewhere, progressChecks, putSound, writeChecks, stepAnswer, stepWrites, stepTable, stepDone}
+use Rattle.carrying.specs.declared.StepAnswer.the-variants.{Wrote, Finished, Refused}
+use Rattle.carrying.specs.Carrying.{stepTold, progressChecks, putSound, writeChecks, stepAnswer, stepWrites, stepTable, stepDone}
 
 -- a slot is free where it is empty, or where its id stands elsewhere
 pub free-empty : (w : ℕ) (t : List ℕ) (j : ℕ) → empty w (slotWords w t j) ≡ true → true ≡ freeAt w t j
@@ -32,7 +35,7 @@ unfolding freeAt
 free-empty w t j e = rw e
 
 pub free-occupied : (w : ℕ) (t : List ℕ) (j : ℕ) → empty w (slotWords w t j) ≡ false → standsElsewhere w t j ≡ freeAt w t j
-unfolding freeAt standsElsewhere heldAt
+unfolding freeAt
 free-occupied w t j e = rw e
 
 -- a copy's tests, in the code's order
@@ -147,6 +150,19 @@ module _ (w : ℕ) (t plan : List ℕ) (rule : Rule) (done total : ℕ) {x : Che
     unfolding stepAnswer stepTable stepDone stepWrites
     step-wrote i = let g = sym e ∙ f in let b = ne-eqb done total d in let j = sym h ∙ i in (rw (g, b, j), rw (g, b, j), rw (g, b, j))
 
+-- answers that tell the same are the same: the number and the values of a case lose nothing
+pub step-told-once : (a b : StepAnswer) → stepTold a ≡ stepTold b → a ≡ b
+step-told-once (Wrote x) (Wrote y) e = λ i. Wrote (record { done = ap (λ (t : Told). getD (t .values) 0 0) e i })
+step-told-once (Wrote x) Finished e = absurd (omega (arith, ap (λ (t : Told). length (t .values)) e))
+step-told-once (Wrote x) (Refused c s) e = absurd (true≢false (ap (λ (t : Told). eqb (t .number) 0) e ∙ cause-not-zero c))
+step-told-once Finished (Wrote y) e = absurd (omega (arith, ap (λ (t : Told). length (t .values)) e))
+step-told-once Finished Finished e = refl
+step-told-once Finished (Refused c s) e = absurd (true≢false (ap (λ (t : Told). eqb (t .number) 0) e ∙ cause-not-zero c))
+step-told-once (Refused c s) (Wrote y) e = absurd (true≢false (ap (λ (t : Told). eqb (t .number) 0) (sym e) ∙ cause-not-zero c))
+step-told-once (Refused c s) Finished e = absurd (true≢false (ap (λ (t : Told). eqb (t .number) 0) (sym e) ∙ cause-not-zero c))
+step-told-once (Refused c s) (Refused d u) e =
+    ap₂ Refused (cause-number-once c d (ap (λ (t : Told). t .number) e)) (ap (λ (t : Told). getD (t .values) 0 0) e)
+
 -- the writes done after an answer: those that a write tells, or as many as before
 abbrev pub doneTold : Told → ℕ → ℕ
 doneTold told before = cond (eqb (told .number) 0) (getD (told .values) 0 before) before
@@ -186,3 +202,24 @@ progress-within w t words done total e =
     let h = pass-law WriteCause done (leb done total && leb total words) .0
     (or-else-pass (slotChecks w t) (cond (leb done total && leb total words) Pass (Fail WriteCause done)) .0 e .1) in
     (leb-true done total (and-left (leb done total) (leb total words) h), leb-true total words (and-right (leb done total) (leb total words) h))
+
+-- a step that does not write answers the same again, and leaves the state as it is
+pub step-still : (w : ℕ) (t plan : List ℕ) (rule : Rule) (done total : ℕ) → stepWrites w t plan rule done total ≡ false
+    → (stepTable w t plan rule done total ≡ t) × (stepDone w t plan rule done total ≡ done)
+unfolding stepTable stepDone
+step-still w t plan rule done total e = (rw e, rw e)
+
+-- the writes done tell whether it wrote
+pub step-moved : (w : ℕ) (t plan : List ℕ) (rule : Rule) (done total next : ℕ) → next ≡ stepDone w t plan rule done total
+    → ((done < next) → (stepWrites w t plan rule done total ≡ true) × (next ≡ done + 1)) × ((next ≤ done) → stepWrites w t plan rule done total ≡ false)
+unfolding stepDone
+step-moved w t plan rule done total next e = pick (decided (stepWrites w t plan rule done total))
+  where
+    pick : (stepWrites w t plan rule done total ≡ true) ⊎ (stepWrites w t plan rule done total ≡ false)
+        → ((done < next) → (stepWrites w t plan rule done total ≡ true) × (next ≡ done + 1)) × ((next ≤ done) → stepWrites w t plan rule done total ≡ false)
+    pick (inl f) =
+        let more : next ≡ done + 1 = e ∙ ap (λ (x : Bool). cond x (done + 1) done) f in
+        (λ l. (f, more), λ l. absurd (omega arith))
+    pick (inr f) =
+        let same : next ≡ done = e ∙ ap (λ (x : Bool). cond x (done + 1) done) f in
+        (λ l. absurd (omega arith), λ l. f)

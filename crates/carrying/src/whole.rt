@@ -1,11 +1,11 @@
 // A plan carried out in full, for callers that look nothing up between its writes.
-// Step after step, as often as there are writes in all.
+// Step after step; it ends with the first that does not write.
 use crate::StepAnswer;
 use crate::step::step;
 use records::Rule;
 ghost use mathlib.Core.Path.{_≡_};
-ghost use Rattle.carrying.specs.Carrying.{stepTable, stepDone};
-ghost use Rattle.carrying.specs.Calls.{afterCalls};
+ghost use Rattle.carrying.specs.Carrying.{stepTold, stepTable, stepDone};
+ghost use Rattle.carrying.specs.Calls.{afterCalls, callAnswer};
 
 // One step: the writes done after it.
 fn advance(table: &mut [u64], plan: &[u32], rule: Rule, done: u32, total: u32) -> u32
@@ -19,16 +19,17 @@ fn advance(table: &mut [u64], plan: &[u32], rule: Rule, done: u32, total: u32) -
     }
 }
 
-// As many steps as writes in all, from none done: the writes done after them.
-pub fn carry_whole(table: &mut [u64], plan: &[u32], rule: Rule, total: u32) -> u32
-    ensures { λ r. ⌜ r ≡ afterCalls 2 (now (table .entry)) (now (plan .entry)) rule total total .done ⌝ }
+// Steps from none done until one does not write: its answer, "finished" or a refusal, which another step would give again.
+pub fn carry_whole(table: &mut [u64], plan: &[u32], rule: Rule, total: u32) -> StepAnswer
+    ensures { λ r. ⌜ stepTold r ≡ callAnswer 2 (now (table .entry)) (now (plan .entry)) rule total total ⌝ }
     ensures { λ _. ⌜ now (table .exit) ≡ afterCalls 2 (now (table .entry)) (now (plan .entry)) rule total total .table ⌝ }
 {
     let mut done = 0;
-    let mut calls = 0;
-    while calls < total {
-        done = advance(table, plan, rule, done, total);
-        calls += 1;
+    let mut wrote = true;
+    while wrote & (done < total) {
+        let next = advance(table, plan, rule, done, total);
+        wrote = done < next;
+        done = next;
     }
-    done
+    step(table, plan, rule, done, total)
 }

@@ -12,8 +12,7 @@ ghost use Prim.Native.Nat.{_<_, _/_};
 ghost use lib.ListN.{length};
 ghost use Rattle.layout.specs.Write.{copy, put, clear};
 ghost use Rattle.records.specs.Entries.{entryAt};
-ghost use Rattle.records.specs.Writes.{freeAt, fitsWrite, fitsWord, applyWord};
-ghost use Rattle.carrying.specs.Carrying.{heldAt, standsElsewhere};
+ghost use Rattle.records.specs.Writes.{heldAt, standsElsewhere, freeAt, fitsWrite, fitsWord, applyWord};
 
 // Whether another slot holds a slot's id.
 fn held_at(table: &[u64], slot: usize, other: usize) -> bool
@@ -82,7 +81,7 @@ fn copy_fits(table: &[u64], from: usize, to: usize) -> bool
 }
 
 // Whether the write of a plan word fits.
-pub fn word_fits(table: &[u64], word: u32) -> bool
+pub(crate) fn word_fits(table: &[u64], word: u32) -> bool
     ensures { λ r. ⌜ r ≡ fitsWord 2 (now (table .entry)) word ⌝ }
 {
     let from = (word / 65536) as usize;
@@ -112,7 +111,7 @@ fn record_at(table: &[u64], slot: usize) -> [u64; 6]
 }
 
 // Makes the write of a plan word that fits.
-pub fn write_word(table: &mut [u64], rule: Rule, word: u32)
+pub(crate) fn write_word(table: &mut [u64], rule: Rule, word: u32)
     requires { ⌜ fitsWord 2 (now table) word ≡ true ⌝ }
     ensures { λ _. ⌜ now (table .exit) ≡ applyWord 2 (now (table .entry)) rule word ⌝ }
 {

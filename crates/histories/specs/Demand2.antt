@@ -15,12 +15,13 @@ use borrow.Author.Tests.{eqb-true}
 use Rattle.search.specs.Search.{and-left, and-right}
 use Rattle.ternary.specs.Pattern.{Words}
 use Rattle.layout.specs.Held.{Held, emptied, held-removed}
+use Rattle.layout.specs.Valid.{Between}
 use Rattle.layout.specs.Write.{Write, copy, put, clear, writeWord}
 use Rattle.records.specs.Record.{word, slotWords, ident, occupied, soundRule, recordOf}
 use Rattle.records.specs.Rules.{record-ident}
 use Rattle.records.specs.Checks.{success, checkTwice, checkOrder, slotChecks}
 use Rattle.records.specs.Laws.{slot-checks-law, table-checks-law, same-id-law}
-use Rattle.records.specs.Entries.{vacant, entries, entryOccupied, entrySame, entries-length, entry-same, ident-cong, occupied-at, entry-laws, unique-entries, shaped-slots, refuted}
+use Rattle.records.specs.Entries.{vacant, entries, entryOccupied, entrySame, entryMisordered, entries-length, entry-same, ident-cong, occupied-at, entry-laws, unique-entries, shaped-slots, refuted}
 use Rattle.records.specs.Writes.{writeOf, write-of-word, fitsWord, applyWords, apply-entries}
 use Rattle.records.specs.ClassWords.{class-words-law}
 use Rattle.records.specs.declared.Rule.{Rule}
@@ -40,9 +41,12 @@ use Rattle.histories.specs.RuleSet.{Member, without, without-law, setRep
 use Rattle.histories.specs.Holding.{Replies, looked-up, Holding, holding-lookup}
 use Rattle.histories.specs.InTurn.{InTurn, calls-state, calls-write, calls-rest, calls-finished}
 
--- What demand 2 promises of a plan of so many writes for a change of the rules, from the table that it was drawn for; the number of a call
--- counts from 0.
-pub record Demand2 (w : ℕ) (t plan : List ℕ) (rule : Rule) (count : ℕ) (change : List Rule → List Rule) : Type 0 where
+-- What demand 2 promises of a plan for a change of the rules, with its words and its count, from the table that it was drawn for; the number of
+-- a call counts from 0.
+pub record Demand2 (w : ℕ) (t plan : List ℕ) (rule : Rule) (words : List ℕ) (count : ℕ) (change : List Rule → List Rule) : Type 0 where
+  -- the plan's words are as many as it counts, and after each number of calls as many of them are made
+  pub number : count ≡ length words
+  pub made : (k : ℕ) → k ≤ count → afterCalls w t plan rule count k .table ≡ applyWords w t rule (take k words)
   -- each call is accepted and makes one write, until all are made
   pub writes : (k : ℕ) → k < count → callAnswer w t plan rule count k ≡ success (suc k ∷ [])
   pub counted : (k : ℕ) → k ≤ count → afterCalls w t plan rule count k .done ≡ k
@@ -73,8 +77,10 @@ module _
   left : (rules : List Rule) → Holding w rules t → (k : ℕ) → length words ≤ k → Holding w (change rules) (afterCalls w t plan rule (length words) k .table)
   left rules h k l = subst (Holding w (change rules)) (sym (calls-rest w t rule words plan turn k l .0)) (leaves rules h)
 
-  pub demand-2 : Demand2 w t plan rule (length words) change
+  pub demand-2 : Demand2 w t plan rule words (length words) change
   demand-2 = record {
+    number = refl;
+    made = λ k h. calls-state w t rule words plan turn k h .0;
     writes = calls-write w t rule words plan turn;
     counted = λ k h. calls-state w t rule words plan turn k h .1;
     finished = λ k h. calls-finished w t rule words plan turn k (omega (arith, h));
@@ -142,7 +148,7 @@ module _ (w : ℕ) (t : List ℕ) (rule : Rule) (small : rule .action < 42949672
       few r (inl e) = let f : r .action ≡ rule .action = ap (λ (s : Rule). s .action) e in omega (arith, small)
       few r (inr m) = h .actions r m
 
-  insert-carries : (plan rest : List ℕ) → plan ≡ words ++ rest → Demand2 w t plan rule (length words) (λ rules. rule ∷ rules)
+  insert-carries : (plan rest : List ℕ) → plan ≡ words ++ rest → Demand2 w t plan rule words (length words) (λ rules. rule ∷ rules)
   unfolding words
   insert-carries plan rest e =
       demand-2 w t rule words plan (insert-turn plan rest e) (λ k h key. insert-keeps-reply w t rule small insertable key k h)
@@ -150,11 +156,11 @@ module _ (w : ℕ) (t : List ℕ) (rule : Rule) (small : rule .action < 42949672
 
 -- demand 2 of an insert: the rule is added
 pub demand-2-insert : (w : ℕ) (t : List ℕ) (rule : Rule) (plan : List ℕ) (count : ℕ) → rule .action < 4294967296
-    → insertAnswer w t rule (length plan) ≡ success (count ∷ []) → Demand2 w t (insertPlan w t rule plan) rule count (λ rules. rule ∷ rules)
+    → insertAnswer w t rule (length plan) ≡ success (count ∷ []) → Demand2 w t (insertPlan w t rule plan) rule (insertWords w t rule) count (λ rules. rule ∷ rules)
 unfolding words
 demand-2-insert w t rule plan count small e =
     let a = plan-accepted (insertChecks w t rule) (insertWords w t rule) plan count e in
-    subst (λ (n : ℕ). Demand2 w t (insertPlan w t rule plan) rule n (λ rules. rule ∷ rules)) (sym (a .1))
+    subst (λ (n : ℕ). Demand2 w t (insertPlan w t rule plan) rule (insertWords w t rule) n (λ rules. rule ∷ rules)) (sym (a .1))
     (insert-carries w t rule small (insertable-law w t rule .0 (a .0)) (insertPlan w t rule plan) (drop (length (insertWords w t rule)) plan) (a .2))
 
 -- the one write of an accepted delete
@@ -240,7 +246,7 @@ module _ (w : ℕ) (t : List ℕ) (id : ℕ) (checks : deleteChecks w t id ≡ P
               (sym (record-ident w r (h .actions r (m .0)))
               ∙ (ap (λ (y : List ℕ). ident w (word y)) e ∙ (same-id-law w (word x) (word entry) .0 f .2 ∙ entry-id)))
 
-  delete-carries : (plan rest : List ℕ) → plan ≡ deleteWords w t id ++ rest → Demand2 w t plan rule 1 (without id)
+  delete-carries : (plan rest : List ℕ) → plan ≡ deleteWords w t id ++ rest → Demand2 w t plan rule (deleteWords w t id) 1 (without id)
   delete-carries plan rest e = demand-2 w t rule (deleteWords w t id) plan (delete-turn plan rest e) first (without id) delete-leaves
     where
       first : (k : ℕ) → k < 1 → (key : Words) → reply w (applyWords w t rule (take k (deleteWords w t id))) key ≡ reply w t key
@@ -249,8 +255,24 @@ module _ (w : ℕ) (t : List ℕ) (id : ℕ) (checks : deleteChecks w t id ≡ P
 
 -- demand 2 of a delete, whatever the rule handed in with the step: the rules of the id are taken away
 pub demand-2-delete : (w : ℕ) (t : List ℕ) (id : ℕ) (plan : List ℕ) (count : ℕ) (rule : Rule)
-    → deleteAnswer w t id (length plan) ≡ success (count ∷ []) → Demand2 w t (deletePlan w t id plan) rule count (without id)
+    → deleteAnswer w t id (length plan) ≡ success (count ∷ []) → Demand2 w t (deletePlan w t id plan) rule (deleteWords w t id) count (without id)
 demand-2-delete w t id plan count rule e =
     let a = plan-accepted (deleteChecks w t id) (deleteWords w t id) plan count e in
-    subst (λ (n : ℕ). Demand2 w t (deletePlan w t id plan) rule n (without id)) (sym (a .1))
+    subst (λ (n : ℕ). Demand2 w t (deletePlan w t id plan) rule (deleteWords w t id) n (without id)) (sym (a .1))
     (delete-carries w t id (a .0) rule (deletePlan w t id plan) (drop 1 plan) (a .2))
+
+-- carried out in full, a plan has made every write of it
+pub carried-whole : {w : ℕ} {t plan : List ℕ} {rule : Rule} {words : List ℕ} {count : ℕ} {change : List Rule → List Rule}
+    → Demand2 w t plan rule words count change → afterCalls w t plan rule count count .table ≡ applyWords w t rule words
+carried-whole {w} {t} {plan} {rule} {words} {count} d =
+    d .made count (omega arith) ∙ ap (applyWords w t rule) (take-all count words (omega (arith, d .number)))
+
+-- until the last write of an insert the table holds the old rules, in order, at most one of them twice
+pub insert-between : (w : ℕ) (t : List ℕ) (rule : Rule) (plan : List ℕ) (count : ℕ) → rule .action < 4294967296
+    → insertAnswer w t rule (length plan) ≡ success (count ∷ []) → (k : ℕ) → k < count
+    → Between (vacant w) (entryOccupied w) (entrySame w) (entryMisordered w) (entries w t) (entries w (afterCalls w t (insertPlan w t rule plan) rule count k .table))
+insert-between w t rule plan count small e k h =
+    let d = demand-2-insert w t rule plan count small e in
+    let a = plan-accepted (insertChecks w t rule) (insertWords w t rule) plan count e in
+    subst (λ (u : List ℕ). Between (vacant w) (entryOccupied w) (entrySame w) (entryMisordered w) (entries w t) (entries w u)) (sym (d .made k (omega arith)))
+    (shortest-words w t rule small (insertable-law w t rule .0 (a .0)) .between k (omega (arith, d .number)))

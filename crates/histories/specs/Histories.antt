@@ -19,7 +19,7 @@ use Rattle.records.specs.declared.Check.the-variants.{Pass}
 use Rattle.table.specs.Inserts.{insertAnswer, insertPlan}
 use Rattle.table.specs.Deletes.{deleteAnswer, deletePlan}
 use Rattle.histories.specs.RuleSet.{Change, insert, delete, ruleSet, setReply}
-use Rattle.histories.specs.Holding.{Replies, Holding, holding-lookup}
+use Rattle.histories.specs.Holding.{Replies, Holding, holding-reply, holding-lookup}
 use Rattle.carrying.specs.Calls.{State, afterCalls, callAnswer}
 use Rattle.histories.specs.Demand2.{Demand2, demand-2-insert, demand-2-delete}
 
@@ -76,7 +76,7 @@ module _ (w n : ℕ) (some : 1 ≤ n) (few : n ≤ 1024) where
   }
 
 -- a plan that has answered "finished" is carried out in full
-finished-late : {w : ℕ} {t plan : List ℕ} {rule : Rule} {count : ℕ} {change : List Rule → List Rule} → Demand2 w t plan rule count change
+finished-late : {w : ℕ} {t plan : List ℕ} {rule : Rule} {words : List ℕ} {count : ℕ} {change : List Rule → List Rule} → Demand2 w t plan rule words count change
     → (calls : ℕ) → callAnswer w t plan rule count calls ≡ success [] → count ≤ calls
 finished-late {count = count} d calls e = pick (decLe count calls)
   where
@@ -85,7 +85,7 @@ finished-late {count = count} d calls e = pick (decLe count calls)
     pick (no h) =
         let n : _≡_ {A = ℕ} 1 0 = ap (λ (told : Told). length (told .values)) (sym (d .writes calls (omega arith)) ∙ e) in absurd (omega arith)
 
-carried : {w : ℕ} {t plan : List ℕ} {rule : Rule} {count : ℕ} {change : List Rule → List Rule} → Demand2 w t plan rule count change
+carried : {w : ℕ} {t plan : List ℕ} {rule : Rule} {words : List ℕ} {count : ℕ} {change : List Rule → List Rule} → Demand2 w t plan rule words count change
     → (rules : List Rule) → Holding w rules t → (calls : ℕ) → callAnswer w t plan rule count calls ≡ success []
     → Holding w (change rules) (afterCalls w t plan rule count calls .table)
 carried {w} {change = change} d rules h calls e =
@@ -107,3 +107,26 @@ reached-sound reached = reached-holding reached .checks
 pub reached-lookup : {w : ℕ} {history : List Change} {t : List ℕ} → Reached w history t → (key : Words)
     → Replies w t key (setReply w (ruleSet history) key)
 reached-lookup {w} {history} {t} reached = holding-lookup w (ruleSet history) t (reached-holding reached)
+
+-- an accepted insert or delete is carried out in full by as many calls as its plan counts, so that a history can always go on
+pub reached-insert : {w : ℕ} {history : List Change} {t : List ℕ} → Reached w history t → (rule : Rule) → rule .action < 4294967296
+    → (plan : List ℕ) (count : ℕ) → insertAnswer w t rule (length plan) ≡ success (count ∷ [])
+    → Reached w (insert rule ∷ history) (afterCalls w t (insertPlan w t rule plan) rule count count .table)
+reached-insert {w} {history} {t} reached rule small plan count accepted =
+    Reached.inserted history t reached rule small plan count accepted count (demand-2-insert w t rule plan count small accepted .finished count (omega arith))
+
+pub reached-delete : {w : ℕ} {history : List Change} {t : List ℕ} → Reached w history t → (id : ℕ) (plan : List ℕ) (count : ℕ)
+    → deleteAnswer w t id (length plan) ≡ success (count ∷ []) → (rule : Rule)
+    → Reached w (delete id ∷ history) (afterCalls w t (deletePlan w t id plan) rule count count .table)
+reached-delete {w} {history} {t} reached id plan count accepted rule =
+    Reached.deleted history t reached id plan count accepted rule count (demand-2-delete w t id plan count rule accepted .finished count (omega arith))
+
+-- demand 2 in one piece, within a plan of a history: the replies of its rules until the last write, and those of the changed rules from it on
+pub reached-within : {w : ℕ} {history : List Change} {t plan : List ℕ} {rule : Rule} {words : List ℕ} {count : ℕ} {change : List Rule → List Rule}
+    → Reached w history t → Demand2 w t plan rule words count change → (k : ℕ) (key : Words)
+    → (k < count → Replies w (afterCalls w t plan rule count k .table) key (setReply w (ruleSet history) key))
+    × (count ≤ k → Replies w (afterCalls w t plan rule count k .table) key (setReply w (change (ruleSet history)) key))
+reached-within {w} {history} {t} {plan} {rule} {count = count} reached d k key = (
+  λ h. subst (Replies w (afterCalls w t plan rule count k .table) key) (holding-reply w (ruleSet history) t (reached-holding reached) key) (d .kept k h key),
+  λ h. d .changed (ruleSet history) (reached-holding reached) k h key,
+)

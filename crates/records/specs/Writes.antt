@@ -156,9 +156,16 @@ apply-words-entries w t r (n ∷ ns) h =
     apply-words-entries w (applyWord w t r n) r ns (λ k l. rw one (h (suc k) (omega arith)))
     ∙ ap (λ (l : List (List ℕ)). carried (vacant w) (recordOf w r) l (map writeOf ns)) (apply-entries w t r (writeOf n) (h 0 (omega arith)))
 
+-- another slot k holds slot j's id; slot j's id stands in another slot too
+unfoldable pub heldAt : ℕ → List ℕ → ℕ → ℕ → Bool
+heldAt w t j k = not (eqb k j) && sameId w (slotWords w t k) (slotWords w t j)
+
+unfoldable pub standsElsewhere : ℕ → List ℕ → ℕ → Bool
+standsElsewhere w t j = any (heldAt w t j) (slots w t)
+
 -- a write to slot j loses no rule: the slot is empty, or its id stands in another slot too
 unfoldable pub freeAt : ℕ → List ℕ → ℕ → Bool
-freeAt w t j = empty w (slotWords w t j) || any (λ k. not (eqb k j) && sameId w (slotWords w t k) (slotWords w t j)) (slots w t)
+freeAt w t j = empty w (slotWords w t j) || standsElsewhere w t j
 
 -- document 01, "Carrying out": when a write fits
 abbrev pub fitsWrite : ℕ → List ℕ → Write → Bool
@@ -193,7 +200,7 @@ and-where false h = refl
 
 module _ (w : ℕ) (t : List ℕ) where
   pub free-entries : (j : ℕ) → j < slots w t → freeAt w t j ≡ entryFree w (entries w t) j
-  unfolding freeAt
+  unfolding freeAt standsElsewhere heldAt
   free-entries j h =
       let n = entries-length w t in
       ap₂ (λ (b : Bool) (m : ℕ). b || any (λ k. not (eqb k j) && sameId w (slotWords w t k) (slotWords w t j)) m)

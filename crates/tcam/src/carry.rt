@@ -1,9 +1,9 @@
 // Carrying a plan out from C: the progress record is lent to the call and advanced by one write.
-// The checks and the write are the step's; its answer crosses as one number.
+// The checks and the write are the step's; its answer crosses as one number: the cause's in the lower half, the spot in the upper.
 ghost use mathlib.Core.Path.{_≡_};
 ghost use Rattle.carrying.specs.Carrying.{stepTable};
 ghost use Rattle.tcam.specs.Cells.{ruleFrom};
-ghost use Rattle.tcam.specs.Carried.{carryMoved, CarryLeft};
+ghost use Rattle.tcam.specs.Carried.{carriedStep, CarryLeft};
 use crate::rule_from;
 use carrying::StepAnswer;
 use carrying::step::step;
@@ -16,10 +16,10 @@ pub struct Progress {
     pub total: u32,
 }
 
-// The writes done after a step, and the number of its answer.
-pub struct Moved {
+// The writes done after a step, and its answer as one number.
+pub struct Carried {
     pub done: u32,
-    pub number: u64,
+    pub result: u64,
 }
 
 // One step, on the progress as numbers.
@@ -35,8 +35,8 @@ fn carry(
     action: u32,
     done: u32,
     total: u32,
-) -> Moved
-    ensures { λ r. ⌜ (r ≡ carryMoved (now (table .entry)) (now (plan .entry)) (ruleFrom id priority «value_high» «value_low» «mask_high» «mask_low» action) done total)
+) -> Carried
+    ensures { λ r. ⌜ (r ≡ carriedStep (now (table .entry)) (now (plan .entry)) (ruleFrom id priority «value_high» «value_low» «mask_high» «mask_low» action) done total)
         × (now (table .exit) ≡ stepTable 2 (now (table .entry)) (now (plan .entry)) (ruleFrom id priority «value_high» «value_low» «mask_high» «mask_low» action) done total) ⌝ }
 {
     let rule = rule_from(
@@ -48,15 +48,16 @@ fn carry(
         mask_low,
         action,
     );
+    let finished = 4294967295;
     match step(table, plan, rule, done, total) {
-        StepAnswer::Wrote(info) => Moved {
+        StepAnswer::Wrote(info) => Carried {
             done: info.done,
-            number: 0,
+            result: 0,
         },
-        StepAnswer::Finished => Moved { done, number: 1 },
-        StepAnswer::Refused(cause, spot) => Moved {
+        StepAnswer::Finished => Carried { done, result: finished },
+        StepAnswer::Refused(cause, spot) => Carried {
             done,
-            number: cause_number(cause) as u64 * 4294967296 + spot as u64,
+            result: cause_number(cause) as u64 + spot as u64 * 4294967296,
         },
     }
 }
@@ -79,7 +80,7 @@ pub extern "C" fn tcam_carry_out(
 {
     let done = progress.done;
     let total = progress.total;
-    let moved = carry(
+    let carried = carry(
         table,
         plan,
         id,
@@ -92,6 +93,6 @@ pub extern "C" fn tcam_carry_out(
         done,
         total,
     );
-    progress.done = moved.done;
-    moved.number
+    progress.done = carried.done;
+    carried.result
 }

@@ -1,6 +1,6 @@
 -- `carrying::writes::held_at` meets its contract.
 -- The ids are compared whatever the other slot is.
-use Rattle.carrying.specs.Carrying.{heldAt}
+use Rattle.records.specs.Writes.{heldAt}
 use borrow.Author.Needs.{needs}
 use Rattle.carrying.proofs.writes.held_at.Statement.{statement}
 use Rattle.carrying.proofs.writes.held_at.Tie as tie

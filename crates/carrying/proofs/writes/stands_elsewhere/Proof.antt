@@ -4,7 +4,7 @@ use Prim.Native.Nat.{_-_}
 use mathlib.Core.Path.{sym, _∙_}
 use native.Mathlib.Omega.{arith}
 use Rattle.search.specs.Search.{NoneBelow, none-start, none-more, any-some, any-none}
-use Rattle.carrying.specs.Carrying.{heldAt, standsElsewhere}
+use Rattle.records.specs.Writes.{heldAt, standsElsewhere}
 use Rattle.carrying.proofs.writes.stands_elsewhere.Statement.{statement}
 use Rattle.carrying.proofs.writes.stands_elsewhere.Tie as tie
 

@@ -4,7 +4,7 @@ use mathlib.Core.Path.{refl, sym, ap, _∙_}
 use denote.Ref.{now}
 use borrow.Author.Needs.{needs}
 use Rattle.carrying.specs.Carrying.{stepTold}
-use Rattle.tcam.specs.Carried.{moved-refused, carry-ends}
+use Rattle.tcam.specs.Carried.{carried-refused, carry-ends}
 use Rattle.tcam.proofs.carry.carry.Statement.{statement}
 use Rattle.tcam.proofs.carry.carry.Tie as tie
 
@@ -26,17 +26,17 @@ enum-known-cause c = search needs
 cause-number-requires : tie.Need-cause-number-requires
 cause-number-requires c κs = search needs
 
-cast-t21 : tie.Need-cast-t21
-cast-t21 c = search needs
-
-mul-t22 : tie.Need-mul-t22
-mul-t22 c = search needs
+cast-t22 : tie.Need-cast-t22
+cast-t22 c = search needs
 
 cast-t23 : tie.Need-cast-t23
 cast-t23 c = search needs
 
-add-t24 : tie.Need-add-t24
-add-t24 c = search needs
+mul-t24 : tie.Need-mul-t24
+mul-t24 c = search needs
+
+add-t25 : tie.Need-add-t25
+add-t25 c = search needs
 
 same-length : tie.Need-same-length
 same-length c = search needs
@@ -66,7 +66,7 @@ returns-3 c =
     let a = c .before .before .before .before .before .before .before .before .before .before .before .args in
     let told = c .before .before .before .before .before .before .step .ensures in
     carry-ends (now (a .table)) (now (a .plan)) (a .done) (a .total) (c .before .before .before .before .before .before .before .before .rule-from .ensures)
-    (sym (ap stepTold (c .before .before .cause .given .1)) ∙ told .0) (told .1) (moved-refused (c .before .before .cause .given .0 .0) _ (a .done) (c .cause-number .ensures))
+    (sym (ap stepTold (c .before .before .cause .given .1)) ∙ told .0) (told .1) (carried-refused (c .before .before .cause .given .0 .0) _ (a .done) (c .cause-number .ensures))
 
 pub carry-spec : {M : Type 1} → statement M
 carry-spec =
@@ -78,10 +78,10 @@ carry-spec =
     enum-told
     enum-known-cause
     cause-number-requires
-    cast-t21
-    mul-t22
+    cast-t22
     cast-t23
-    add-t24
+    mul-t24
+    add-t25
     same-length
     returns
     same-length-2

@@ -43,11 +43,11 @@ use denote.Exit.{yes}
 use Rattle.carrying.specs.Carrying.{stepTable}
 use Rattle.records.specs.declared.Rule.{Rule}
 use Rattle.tcam.specs.Cells.{ruleFrom}
-use Rattle.tcam.specs.Carried.{carryMoved, CarryLeft}
+use Rattle.tcam.specs.Carried.{carriedStep, CarryLeft}
 use Rattle.tcam.specs.declared.carry.Progress.{Progress}
-use Rattle.tcam.specs.declared.carry.Moved.{Moved}
-use Rattle.tcam.proofs.carry.Moved as S
-use Rattle.tcam.proofs.carry.Moved.Laws as S′
+use Rattle.tcam.specs.declared.carry.Carried.{Carried}
+use Rattle.tcam.proofs.carry.Carried as S
+use Rattle.tcam.proofs.carry.Carried.Laws as S′
 use Rattle.tcam.proofs.carry.Progress as T
 use Rattle.tcam.proofs.carry.Progress.Laws as T′
 use Rattle.tcam.proofs.carry.carry as callee
@@ -110,11 +110,11 @@ module _ {M : Type 1} (𝓤 : URA M) (H : Heap 𝓤) (A : Atoms 𝓤) (W : Given
   Plan = ShrSlice (named 1) κ₁ u32 .own p (v ∷ [])
 
   -- what `carry` ensures, and what it comes to
-  abbrev Said : Moved → List ℕ → Type 0
-  Said m zs = (m ≡ carryMoved ys (p .now) rule (h .done) (h .total)) × (zs ≡ stepTable 2 ys (p .now) rule (h .done) (h .total))
+  abbrev Said : Carried → List ℕ → Type 0
+  Said m zs = (m ≡ carriedStep ys (p .now) rule (h .done) (h .total)) × (zs ≡ stepTable 2 ys (p .now) rule (h .done) (h .total))
 
-  left : (m : Moved) (zs : List ℕ) → Said m zs → CarryLeft ys (p .now) rule h (m .number) zs (at (m .done))
-  left m zs e = record { number = ap (λ (k : Moved). k .number) (e .0); table = e .1; advanced = ap (λ (k : Moved). k .done) (e .0); in-all = refl }
+  left : (m : Carried) (zs : List ℕ) → Said m zs → CarryLeft ys (p .now) rule h (m .result) zs (at (m .done))
+  left m zs e = record { told = ap (λ (k : Carried). k .result) (e .0); table = e .1; advanced = ap (λ (k : Carried). k .done) (e .0); in-all = refl }
 
   -- what `carry` is called on, and what its triple binds outside
   abbrev Sent : Type 0
@@ -175,21 +175,21 @@ module _ {M : Type 1} (𝓤 : URA M) (H : Heap 𝓤) (A : Atoms 𝓤) (W : Given
   made : {d : ℕ} → d < 2 ^ 32 → Is T.the-row h (LL.vals T.the-type T′.the-laws h) → Is T.the-row (at d) (mach d ∷ [])
   made {d} fits was = LL.owes T.the-type T′.the-laws (at d) ((refl, fits), LL.owed T.the-type T′.the-laws h (LL.vals T.the-type T′.the-laws h) was .1)
 
-  -- what whoever holds a `Moved` knows of its fields
-  parts : (m : Moved) {z : Val} → Is S.the-row m (z ∷ []) → (m .done < 2 ^ 32) × (m .number < 2 ^ 64)
+  -- what whoever holds a `Carried` knows of its fields
+  parts : (m : Carried) {z : Val} → Is S.the-row m (z ∷ []) → (m .done < 2 ^ 32) × (m .result < 2 ^ 64)
   parts m is = let fields = LL.owed S.the-type S′.the-laws m _ is in (fields .0 .1, fields .1 .0 .1)
 
-  exits : (m : Moved) (zs : List ℕ) → Said m zs → length zs ≡ length ys → m .number < 2 ^ 64
-      → ent 𝓤 (⋆ 𝓤 H A (‵ (fobs γ′ (T.the-row .coded .code (at (m .done)))) ∷ ‵ (fbor κ₂ (Body (mem T.the-row) b′ o′ γ′)) ∷ ‵ (flft κ₂ q₂) ∷ (‵ (flft κ q) ⊛ ‵ (flft κ₁ q₁) ⊛ ‵ ftrue) ∷ ‵ (finally u64 γ zs) ∷ ‵ Plan ∷ [])) (Post (vint w64 (m .number)))
+  exits : (m : Carried) (zs : List ℕ) → Said m zs → length zs ≡ length ys → m .result < 2 ^ 64
+      → ent 𝓤 (⋆ 𝓤 H A (‵ (fobs γ′ (T.the-row .coded .code (at (m .done)))) ∷ ‵ (fbor κ₂ (Body (mem T.the-row) b′ o′ γ′)) ∷ ‵ (flft κ₂ q₂) ∷ (‵ (flft κ q) ⊛ ‵ (flft κ₁ q₁) ⊛ ‵ ftrue) ∷ ‵ (finally u64 γ zs) ∷ ‵ Plan ∷ [])) (Post (vint w64 (m .result)))
   exits m zs e l n-fits =
       qed W (‵ (fobs γ′ (T.the-row .coded .code (at (m .done)))) ∷ ‵ (fbor κ₂ (Body (mem T.the-row) b′ o′ γ′)) ∷ ‵ (flft κ₂ q₂) ∷ (‵ (flft κ q) ⊛ ‵ (flft κ₁ q₁) ⊛ ‵ ftrue) ∷ ‵ (finally u64 γ zs) ∷ ‵ Plan ∷ []) ∵
-      suffices ! _ (ends-at 𝓤 H A f.ended stayed (f.clauses 𝓤 H A at-mem run) W (((κ, (κ₁, (κ₂, tt))), (q, (q₁, (q₂, tt))), tt, a, vals), tt) (vint w64 (m .number)) (m .number)
+      suffices ! _ (ends-at 𝓤 H A f.ended stayed (f.clauses 𝓤 H A at-mem run) W (((κ, (κ₁, (κ₂, tt))), (q, (q₁, (q₂, tt))), tt, a, vals), tt) (vint w64 (m .result)) (m .result)
       (zs, (tt, (tt, (tt, (tt, (tt, (tt, (tt, (tt, (at (m .done), tt)))))))))) (l, (tt, (tt, (tt, (tt, (tt, (tt, (tt, (tt, (tt, tt))))))))))) $
       says ! (left m zs e) $
       move ! (3 ∷ []) $ split ! $ move ! (1 ∷ []) $ split ! $ move ! (5 ∷ 1 ∷ []) $ join ! $ move ! (1 ∷ 0 ∷ []) $ join ! $ move ! (1 ∷ 0 ∷ []) $ join ! $ frame ! $
       feqI ! (List Val) (vptr b′ o′ ∷ []) (vptr b′ o′ ∷ []) refl $ fjoin3 ! $ nothing ! $ move ! (1 ∷ 0 ∷ []) $ fjoin ! $
       use1 W (‵ (Numbers (Lent (m .done)))) (numbers (Lent (m .done))) $ move ! (2 ∷ 0 ∷ []) $ fjoin ! $ move ! (1 ∷ 0 ∷ []) $ fjoin ! $
-      owned ! u64 (Is u64) (uint-makes 𝓤 H A W w64) (m .number) _ (refl, n-fits) $ move ! (1 ∷ 0 ∷ []) $ done !
+      owned ! u64 (Is u64) (uint-makes 𝓤 H A W w64) (m .result) _ (refl, n-fits) $ move ! (1 ∷ 0 ∷ []) $ done !
 
   module _ (C : Calls 𝓤 H) (Λ : Loops 𝓤 H) (fm : FmC 𝓤 H (W .laws) C) (known : Triple 𝓤 (C #carry) (Carry 𝓤 H A at-mem run)) where
     walk : Room u64 (length ys) → Is (ShrSlice (named 1) κ₁ u32) p (v ∷ [])
@@ -228,7 +228,7 @@ module _ {M : Type 1} (𝓤 : URA M) (H : Heap 𝓤) (A : Atoms 𝓤) (W : Given
         calls-at ! fm (Carry 𝓤 H A at-mem run) known to (and-then ! (load ! (from ! (stop !)) (look ! 8 refl)) (and-then ! (load ! (from ! (stop !)) (look ! 34 refl)) (and-then ! (load ! (from ! (stop !)) (look ! 32 refl)) (and-then ! (load ! (from ! (stop !)) (look ! 30 refl)) (
         and-then ! (load ! (from ! (stop !)) (look ! 28 refl)) (and-then ! (load ! (from ! (stop !)) (look ! 26 refl)) (and-then ! (load ! (from ! (stop !)) (look ! 24 refl)) (and-then ! (load ! (from ! (stop !)) (look ! 22 refl)) (
         and-then ! (load ! (from ! (stop !)) (look ! 20 refl)) (and-then ! (load ! (from ! (stop !)) (look ! 16 refl)) (and-then ! (load ! (from ! (stop !)) (look ! 14 refl)) (no-more !)))))))))))) (λ z.
-        use1 W (later (some (λ (m : Moved). ((‵ (flft κ q) ⊛ ‵ (flft κ₁ q₁) ⊛ ‵ ftrue) ⊛ ‵ (S.the-row .own m (z ∷ []))) ⊛ raw (ensured 𝓤 H A callee.ended (callee.clauses 𝓤 H A at-mem run) (κ, (κ₁, tt)) sent tt m)))) (id⊢ 𝓤 _) $ await ! tt $ pick ! (λ m.
+        use1 W (later (some (λ (m : Carried). ((‵ (flft κ q) ⊛ ‵ (flft κ₁ q₁) ⊛ ‵ ftrue) ⊛ ‵ (S.the-row .own m (z ∷ []))) ⊛ raw (ensured 𝓤 H A callee.ended (callee.clauses 𝓤 H A at-mem run) (κ, (κ₁, tt)) sent tt m)))) (id⊢ 𝓤 _) $ await ! tt $ pick ! (λ m.
         -- what `carry` ensures, at some last table
         split ! $ move ! (1 ∷ []) $ use1 W (some (λ (zs : List ℕ × (Unit {0} × (Unit {0} × (Unit {0} × (Unit {0} × (Unit {0} × (Unit {0} × (Unit {0} × (Unit {0} × (Unit {0} × (Unit {0} × Unit {0}))))))))))). ‵ (lasts callee.ended (κ, (κ₁, tt)) sent zs) ⊛ raw (fact 𝓤 (Said m (zs .0))))) (id⊢ 𝓤 _) $ pick ! (λ zs.
         split ! $ move ! (1 ∷ []) $ heard ! (Said m (zs .0)) (λ e. fsplit ! $ fsplit ! $ move ! (1 ∷ []) $ feqL ! (λ l.
