@@ -13,6 +13,9 @@ use reference::table::{first_out_of_order, read_slots, Refusal, Rule, Slot, RECO
 /// Tables of up to this many slots are tested for order after every write; larger ones now and then.
 const SLOTS_ALWAYS_TESTED: usize = 64;
 
+/// The result of tcam_carry_out that says "finished": the header's number, since document 01 has none.
+const FINISHED: u64 = 0xffff_ffff;
+
 pub struct Mismatch {
     pub what: String,
     pub library: String,
@@ -143,8 +146,8 @@ fn check_carry_out(library: &Guarded, input: &mut Input, tally: &mut Tally) -> R
     let answer = carry_out(&mut table, &input.plan, &input.rule, &mut progress);
     let result = match answer {
         Ok(Carried::Wrote) => 0,
-        Ok(Carried::Finished) => 1,
-        Err(refusal) => u64::from(refusal.number) << 32 | refusal.spot,
+        Ok(Carried::Finished) => FINISHED,
+        Err(refusal) => u64::from(refusal.number) + (refusal.spot << 32),
     };
     tally.carried(input, &answer);
     let mut expected = untouched(input, 0);
