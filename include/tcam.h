@@ -1,6 +1,6 @@
 /*
- * tcam.h: looking up keys in a table of ternary rules, planning how rules are put in and taken out, and carrying
- * the plans out write by write.
+ * tcam.h: looking up keys in a table of ternary rules, planning how rules are put in and taken out, carrying
+ * the plans out write by write, and saving and loading tables.
  *
  * THE TABLE is an array of 64-bit words that the caller owns and lends to each call. It has 1 to
  * 1,024 slots, numbered from 0, of six words each. Slot i is the words 6 * i to 6 * i + 5, its record:
@@ -36,27 +36,38 @@
  * the middle of a plan a rule may stand twice: no planning call takes such a table; tcam_lookup and
  * tcam_carry_out do.
  *
- * REPLIES. The result is 0 (TCAM_OK), or the number of the refusal. Data goes to the lent cells and the
- * lent plan. On a refusal only *spot is written and everything else is left as it was; on a success *spot
- * is left as it was. tcam_slot_record refuses nothing, and its result is a number of words. The result of
- * tcam_carry_out holds number and spot together, and a refusal writes nothing at all.
+ * AN IMAGE is a table as bytes, to be kept and loaded again. Its numbers are big-endian:
+ *
+ *     slots (2 bytes), rules e (2)
+ *     for each rule, in rising slot order: id (4), slot (2), offset of its body from the image's first byte (4)
+ *     for each rule, in the same order, its body: value (16), mask (16), priority (4), action (4)
+ *
+ * So it has 4 + 50 * e bytes, at any address. A saved image loads, into any table of as many slots, to the
+ * table it was saved from; and an image that loads is saved again to the same bytes.
+ *
+ * REPLIES. The result is 0 (TCAM_OK), or the number of the refusal. Data goes to the lent cells, the lent
+ * plan and the lent image, and a load's to the lent table. On a refusal only *spot is written and everything
+ * else is left as it was; on a success *spot is left as it was. tcam_slot_record refuses nothing, and its
+ * result is a number of words. The result of tcam_carry_out holds number and spot together, and a refusal
+ * writes nothing at all.
  *
  * THE CALLER OWES, since no call can test it:
- *   - every pointer is valid for what it points to, aligned, and not null; the pointers of the table and of
- *     the plan may be null only where the length that goes with them is 0;
- *   - the lent cells, the progress record, the plan and the table are apart from each other;
- *   - nothing changes the table during a call, nor the plan or the progress record during tcam_carry_out;
- *   - no other call is made on the table while tcam_carry_out runs, not from an interrupt handler or another
- *     core either: a write is six stores, and what is promised of lookups is promised between calls;
+ *   - every pointer is valid for what it points to, aligned, and not null; the pointers of the table, of the
+ *     plan and of the image may be null only where the length that goes with them is 0;
+ *   - the lent cells, the progress record, the plan, the image and the table are apart from each other;
+ *   - nothing changes the table or the image during a call, nor the plan or the progress record during
+ *     tcam_carry_out;
+ *   - no other call is made on the table while tcam_carry_out or tcam_load runs, not from an interrupt handler
+ *     or another core either: a write is six stores, and what is promised of lookups is promised between calls;
  *   - the platform is x86-64 with the System V calling convention. SSE2 registers and the red zone are
  *     used: an interrupt handler saves those registers if it uses them, and steps over the 128 bytes
  *     below the stack pointer if it runs on the same stack;
- *   - the program has a memset, as in C's string.h: tcam_plan_insert calls it;
+ *   - the program has a memset and a memcpy, as in C's string.h: tcam_plan_insert calls memset, tcam_load both;
  *   - there is stack enough.
  *
- * No call but tcam_carry_out changes the table, and none keeps anything for later. Each call checks the
- * whole table first, so its time grows with the number of slots; that of the planning calls with its
- * square, since they compare rules in pairs.
+ * No call but tcam_carry_out and tcam_load changes the table, and none keeps anything for later. Each call
+ * checks the whole table first, so its time grows with the number of slots; that of the planning calls, of
+ * tcam_save and of tcam_load with its square, since they compare rules in pairs.
  *
  * STACK, measured on this build at 1,024 slots, rounded up, with the arguments that the caller pushes:
  *
@@ -64,6 +75,8 @@
  *     tcam_plan_delete                256 bytes
  *     tcam_carry_out                  192 bytes
  *     tcam_plan_insert                6,656 bytes, and 96 for each word of the plan
+ *     tcam_save                       256 bytes
+ *     tcam_load                       49,664 bytes
  *
  * The longest plan, of 1,024 words, takes 104,960 bytes, 102.5 KiB. A plan that does not fit its buffer is
  * not written out, so that a buffer of n words bounds the stack at 6,656 + 96 * n bytes.
@@ -82,6 +95,9 @@ extern "C" {
 #define TCAM_SLOT_WORDS 6
 #define TCAM_MAX_SLOTS 1024
 
+/* Bytes of an image of so many rules. */
+#define TCAM_IMAGE_BYTES(rules) (4 + (size_t)50 * (rules))
+
 /* Word 4 of a record. Also for initializers of constant tables. */
 #define TCAM_ID_ACTION(id, action) ((uint64_t)(uint32_t)(id) << 32 | (uint64_t)(uint32_t)(action))
 
@@ -95,20 +111,20 @@ extern "C" {
  */
 enum tcam_cause {
     TCAM_OK = 0,       /* not a refusal */
-    TCAM_SHAPE = 1,    /* the words are not 6 * (1 to 1,024). lookup, plan_insert, plan_delete, carry_out */
-    TCAM_RECORD = 2,   /* a slot is neither empty nor a sound rule. lookup, plan_insert, plan_delete, carry_out */
-    TCAM_TWICE = 3,    /* an id stands in an earlier slot too. plan_insert, plan_delete */
-    TCAM_ORDER = 4,    /* an earlier overlapping rule has no higher priority. plan_insert, plan_delete */
+    TCAM_SHAPE = 1,    /* the words are not 6 * (1 to 1,024). lookup, plan_insert, plan_delete, carry_out, save, load */
+    TCAM_RECORD = 2,   /* a slot is neither empty nor a sound rule. lookup, plan_insert, plan_delete, carry_out, save */
+    TCAM_TWICE = 3,    /* an id stands in an earlier slot too. plan_insert, plan_delete, save, load */
+    TCAM_ORDER = 4,    /* an earlier overlapping rule has no higher priority. plan_insert, plan_delete, save, load */
     TCAM_RULE = 5,     /* the rule given is unsound: plan_insert, carry_out. The id to delete is 0: plan_delete */
     TCAM_KNOWN = 6,    /* the id to insert is present. plan_insert */
     TCAM_UNKNOWN = 7,  /* the id to delete is absent. plan_delete */
     TCAM_TIE = 8,      /* the rule overlaps one of equal priority. plan_insert */
     TCAM_FULL = 9,     /* no slot is empty. plan_insert */
     TCAM_CROSSED = 10, /* a rule that depends on the new one stands before one that precedes it. plan_insert */
-    TCAM_SHORT = 11,   /* the plan or image buffer is too short. plan_insert, plan_delete */
+    TCAM_SHORT = 11,   /* the plan or image buffer is too short. plan_insert, plan_delete, save */
     TCAM_WRITE = 12,   /* the progress record or the next write does not fit. carry_out */
     TCAM_LINE = 13,    /* the script line is malformed */
-    TCAM_IMAGE = 14    /* the image is wrong */
+    TCAM_IMAGE = 14    /* the image is wrong. load */
 };
 
 /*
@@ -284,6 +300,58 @@ static inline uint32_t tcam_carry_spot(uint64_t result)
 {
     return (uint32_t)(result >> 32);
 }
+
+/*
+ * Saves a table as an image.
+ *
+ *   table, words        the table and its length in words
+ *   image, image_bytes  buffer for the image and its length in bytes
+ *   bytes               cell for the number of bytes that the call wrote
+ *   spot                cell for a refusal's spot
+ *
+ * Result TCAM_OK: the image is the bytes 0 to *bytes - 1 of the buffer, and *bytes is 4 + 50 * e for a table
+ * of e rules. The other bytes of the buffer are left as they were. A buffer of 51,204 bytes always does,
+ * TCAM_IMAGE_BYTES(TCAM_MAX_SLOTS).
+ *
+ * Refusals, in the order of checks:
+ *   TCAM_SHAPE, TCAM_RECORD, TCAM_TWICE, TCAM_ORDER  as for tcam_plan_insert.
+ *   TCAM_SHORT    image_bytes is less than the image's bytes. *spot is the bytes needed.
+ * On these the buffer and *bytes are left as they were.
+ *
+ * Left as it was, always: the table. On a success: *spot.
+ */
+uint32_t tcam_save(const uint64_t *table, size_t words, uint8_t *image, size_t image_bytes, uint32_t *bytes,
+                   uint32_t *spot);
+
+/*
+ * Loads an image into a table of as many slots.
+ *
+ *   image, image_bytes  the image and its length in bytes: exactly as many as it has, 4 + 50 * e
+ *   table, words        the table that is written, and its length in words. What stands in it does not count.
+ *   spot                cell for a refusal's spot
+ *
+ * Result TCAM_OK: every word of the table is written. The slots that the image names have their rules, every
+ * other slot is empty, and the table is sound: it passes the checks of tcam_save.
+ *
+ * Refusals, in the order of checks:
+ *   TCAM_SHAPE  words is not 6 * (1 to 1,024). *spot is 0.
+ *   TCAM_IMAGE  a field of the image is wrong. *spot is its offset, of the first such field:
+ *                 0                   image_bytes is below 4, or the image's slots are not the table's
+ *                 2                   e is above slots, or image_bytes is not 4 + 50 * e
+ *                 4 + 10 * k          the id of entry k is 0
+ *                 4 + 10 * k + 4      the slot of entry k is not below slots, or not above that of the entry before
+ *                 4 + 10 * k + 6      the offset of entry k is not 4 + 10 * e + 40 * k
+ *                 4 + 10 * e + 40 * k body k is unsound: its priority is above 65,535, or its value has a bit
+ *                                     outside the mask
+ *               All entries come before all bodies.
+ *   TCAM_TWICE  an id stands in an earlier slot too. *spot is the lowest slot with such an id.
+ *   TCAM_ORDER  an earlier overlapping rule has no higher priority. *spot is the lowest slot with such an
+ *               earlier rule.
+ * On these the table is left as it was.
+ *
+ * Left as it was, always: the image. On a success: *spot.
+ */
+uint32_t tcam_load(const uint8_t *image, size_t image_bytes, uint64_t *table, size_t words, uint32_t *spot);
 
 /* The two halves of a plan word. */
 static inline uint32_t tcam_write_from(uint32_t word)

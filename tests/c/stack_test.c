@@ -21,8 +21,10 @@
 #define CARRY_BYTES 192
 #define INSERT_BYTES 6656 /* and, */
 #define WRITE_BYTES 96    /* for each word of the plan */
+#define SAVE_BYTES 256
+#define LOAD_BYTES 49664
 
-/* tcam_plan_insert calls memset, and a sanitizer's takes more stack than C's. A long plan's chain takes more than either. */
+/* tcam_plan_insert calls memset, tcam_load memset and memcpy; a sanitizer's take more stack than C's. A long plan's chain takes more. */
 #ifdef __SANITIZE_ADDRESS__
 #define MEMSET_BYTES 4096
 #else
@@ -31,6 +33,7 @@
 
 static uint64_t table[WORDS];
 static uint32_t plan[SLOTS];
+static uint8_t image[TCAM_IMAGE_BYTES(SLOTS)];
 static size_t room;
 static struct rule {
     uint32_t id, priority;
@@ -40,7 +43,7 @@ static tcam_progress progress;
 
 static unsigned char *stack;
 static uint64_t carried;
-static uint32_t result, first, slot, id, action, count, spot;
+static uint32_t result, first, slot, id, action, count, bytes_saved, spot;
 static unsigned char *top; /* the stack of the function that calls */
 
 /* Each runs on the painted stack. What it uses counts from its own frame, with the arguments that it pushes. */
@@ -74,6 +77,18 @@ ON_OWN_STACK run_carry_out(void)
 {
     top = __builtin_frame_address(0);
     carried = tcam_carry_out(table, WORDS, plan, room, rule.id, rule.priority, 0, 0, 0, 0, 7, &progress);
+}
+
+ON_OWN_STACK run_save(void)
+{
+    top = __builtin_frame_address(0);
+    result = tcam_save(table, WORDS, image, sizeof image, &bytes_saved, &spot);
+}
+
+ON_OWN_STACK run_load(void)
+{
+    top = __builtin_frame_address(0);
+    result = tcam_load(image, bytes_saved, table, WORDS, &spot);
 }
 
 /* Calls a function with the stack pointer at the end of the painted stack. */
@@ -197,6 +212,13 @@ int main(int arguments, char **words)
     try_carry("tcam_carry_out, a put-in", 65535u * 65536 + 1023, TCAM_WROTE);
     try_carry("tcam_carry_out, an emptying", 65534u * 65536 + 1022, TCAM_WROTE);
     try_carry("tcam_carry_out, no fit", 65535u * 65536 + 1022, TCAM_WRITE);
+
+    make_chain(5);
+    bytes = used(run_save);
+    check(result == TCAM_OK && bytes_saved == TCAM_IMAGE_BYTES(1023) && bytes <= SAVE_BYTES, "tcam_save", bytes, SAVE_BYTES);
+    run_load(); /* finds memcpy, so that the loader's stack is not counted */
+    bytes = used(run_load);
+    check(result == TCAM_OK && bytes <= LOAD_BYTES + MEMSET_BYTES, "tcam_load", bytes, LOAD_BYTES + MEMSET_BYTES);
 
     if (failures != 0) {
         fprintf(stderr, "stack_test: %lu of %lu checks failed\n", failures, checks);

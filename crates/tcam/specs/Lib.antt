@@ -2,3 +2,4 @@
 -- The answers themselves are the table library's and the step's.
 pub mod Cells
 pub mod Carried
+pub mod Images

@@ -1,0 +1,81 @@
+-- The definitions computed on a table of three slots: its image byte by byte, the image loaded, and fields of it made wrong one by one.
+-- Each is checked by computation alone.
+use mathlib.Core.Path.{_≡_, refl}
+use mathlib.Core.List.{List, [], _∷_}
+use Prim.Native.Nat.{ℕ}
+use lib.ListN.{set, replicate}
+use Rattle.search.specs.Search.{all, any, least}
+use Rattle.ternary.specs.Word.{agree, inside, both}
+use Rattle.ternary.specs.Pattern.{within, overlaps}
+use Rattle.records.specs.Record.{listed, empty, soundParts, putSlot}
+use Rattle.records.specs.Order.{distinct, sameId, misordered}
+use Rattle.records.specs.Checks.{Told, success, refusal, lowest, shaped, checkShape, twiceAt, checkTwice, disorderAt, checkOrder}
+use Rattle.records.specs.declared.Cause.the-variants.{Order, Image}
+use Rattle.image.specs.Bytes.{bytesOf, numberAt, pieces}
+use Rattle.image.specs.Indices.{indices}
+use Rattle.image.specs.Format.{entryOf, bodyOf, entryBytes, ruleBytes, imageOf, recordAt}
+use Rattle.image.specs.Checks.{inTurn, checkHeader, checkEntry, checkBody, checkContents, checkBodies, imageChecks, filled, meant, loadChecks}
+use Rattle.image.specs.Answers.{loadAnswer, loadTable}
+
+-- slot 0: rule 258, action 3, priority 30, that cares for the lowest bit; slot 2: rule 7, action 9, priority 20, that cares for none
+abbrev table : List ℕ
+table = 0 ∷ 1 ∷ 0 ∷ 1 ∷ 1108101562371 ∷ 30 ∷ 0 ∷ 0 ∷ 0 ∷ 0 ∷ 0 ∷ 0 ∷ 0 ∷ 0 ∷ 0 ∷ 0 ∷ 30064771081 ∷ 20 ∷ []
+
+abbrev image : List ℕ
+image = 0 ∷ 3 ∷ 0 ∷ 2 ∷ 0 ∷ 0 ∷ 1 ∷ 2 ∷ 0 ∷ 0 ∷ 0 ∷ 0 ∷ 0 ∷ 24 ∷ 0 ∷ 0 ∷ 0 ∷ 7 ∷ 0 ∷ 2 ∷ 0 ∷ 0 ∷ 0 ∷ 64 ∷ 0 ∷ 0 ∷ 0 ∷ 0 ∷ 0 ∷ 0 ∷ 0 ∷ 0 ∷ 0 ∷ 0 ∷ 0 ∷ 0 ∷ 0 ∷ 0 ∷ 0 ∷ 1 ∷ 0 ∷ 0 ∷ 0 ∷ 0 ∷ 0 ∷ 0 ∷ 0 ∷ 0 ∷ 0 ∷ 0 ∷ 0 ∷ 0 ∷ 0 ∷ 0 ∷ 0 ∷ 1 ∷ 0 ∷ 0 ∷ 0 ∷ 30 ∷ 0 ∷ 0 ∷ 0 ∷ 3 ∷ 0 ∷ 0 ∷ 0 ∷ 0 ∷ 0 ∷ 0 ∷ 0 ∷ 0 ∷ 0 ∷ 0 ∷ 0 ∷ 0 ∷ 0 ∷ 0 ∷ 0 ∷ 0 ∷ 0 ∷ 0 ∷ 0 ∷ 0 ∷ 0 ∷ 0 ∷ 0 ∷ 0 ∷ 0 ∷ 0 ∷ 0 ∷ 0 ∷ 0 ∷ 0 ∷ 0 ∷ 0 ∷ 0 ∷ 0 ∷ 0 ∷ 20 ∷ 0 ∷ 0 ∷ 0 ∷ 9 ∷ []
+
+saved : imageOf 2 table ≡ image
+unfolding imageOf indices empty all entryBytes ruleBytes entryOf bodyOf pieces bytesOf
+saved = refl
+
+loaded : loadTable 2 image (replicate 18 5) ≡ table
+unfolding loadAnswer loadTable loadChecks checkShape shaped imageChecks checkHeader checkContents checkBodies inTurn checkEntry checkBody numberAt recordAt listed soundParts within all inside meant filled putSlot checkTwice twiceAt lowest least any sameId empty checkOrder disorderAt misordered overlaps distinct agree both
+loaded = refl
+
+-- what a lent table of three slots is answered with byte i of the image changed to n
+answer : ℕ → ℕ → Told
+answer i n = loadAnswer 2 (set image i n) (replicate 18 5)
+
+right : answer 3 2 ≡ success []
+unfolding answer loadAnswer loadTable loadChecks checkShape shaped imageChecks checkHeader checkContents checkBodies inTurn checkEntry checkBody numberAt recordAt listed soundParts within all inside meant filled putSlot checkTwice twiceAt lowest least any sameId empty checkOrder disorderAt misordered overlaps distinct agree both
+right = refl
+
+-- another number of slots
+other-slots : answer 1 4 ≡ refusal Image 0
+unfolding answer loadAnswer loadTable loadChecks checkShape shaped imageChecks checkHeader checkContents checkBodies inTurn checkEntry checkBody numberAt recordAt listed soundParts within all inside meant filled putSlot checkTwice twiceAt lowest least any sameId empty checkOrder disorderAt misordered overlaps distinct agree both
+other-slots = refl
+
+-- too many bytes for one rule
+too-long : answer 3 1 ≡ refusal Image 2
+unfolding answer loadAnswer loadTable loadChecks checkShape shaped imageChecks checkHeader checkContents checkBodies inTurn checkEntry checkBody numberAt recordAt listed soundParts within all inside meant filled putSlot checkTwice twiceAt lowest least any sameId empty checkOrder disorderAt misordered overlaps distinct agree both
+too-long = refl
+
+-- id 0, of the second entry
+no-id : answer 17 0 ≡ refusal Image 14
+unfolding answer loadAnswer loadTable loadChecks checkShape shaped imageChecks checkHeader checkContents checkBodies inTurn checkEntry checkBody numberAt recordAt listed soundParts within all inside meant filled putSlot checkTwice twiceAt lowest least any sameId empty checkOrder disorderAt misordered overlaps distinct agree both
+no-id = refl
+
+-- a slot not above the entry before
+slot-falls : answer 19 0 ≡ refusal Image 18
+unfolding answer loadAnswer loadTable loadChecks checkShape shaped imageChecks checkHeader checkContents checkBodies inTurn checkEntry checkBody numberAt recordAt listed soundParts within all inside meant filled putSlot checkTwice twiceAt lowest least any sameId empty checkOrder disorderAt misordered overlaps distinct agree both
+slot-falls = refl
+
+-- an offset that is not exact
+offset-off : answer 13 25 ≡ refusal Image 10
+unfolding answer loadAnswer loadTable loadChecks checkShape shaped imageChecks checkHeader checkContents checkBodies inTurn checkEntry checkBody numberAt recordAt listed soundParts within all inside meant filled putSlot checkTwice twiceAt lowest least any sameId empty checkOrder disorderAt misordered overlaps distinct agree both
+offset-off = refl
+
+-- a value bit outside the mask
+value-outside : answer 31 1 ≡ refusal Image 24
+unfolding answer loadAnswer loadTable loadChecks checkShape shaped imageChecks checkHeader checkContents checkBodies inTurn checkEntry checkBody numberAt recordAt listed soundParts within all inside meant filled putSlot checkTwice twiceAt lowest least any sameId empty checkOrder disorderAt misordered overlaps distinct agree both
+value-outside = refl
+
+-- priority 65,556
+priority-high : answer 97 1 ≡ refusal Image 64
+unfolding answer loadAnswer loadTable loadChecks checkShape shaped imageChecks checkHeader checkContents checkBodies inTurn checkEntry checkBody numberAt recordAt listed soundParts within all inside meant filled putSlot checkTwice twiceAt lowest least any sameId empty checkOrder disorderAt misordered overlaps distinct agree both
+priority-high = refl
+
+-- the later rule no lower
+out-of-order : answer 99 30 ≡ refusal Order 2
+unfolding answer loadAnswer loadTable loadChecks checkShape shaped imageChecks checkHeader checkContents checkBodies inTurn checkEntry checkBody numberAt recordAt listed soundParts within all inside meant filled putSlot checkTwice twiceAt lowest least any sameId empty checkOrder disorderAt misordered overlaps distinct agree both
+out-of-order = refl

@@ -1,0 +1,78 @@
+-- Document 01's saved image: where each field of an image stands, and the image of a table.
+-- w is the number of words of a value; document 01 has two, so that a body has 40 bytes and an image 4 + 50 × e.
+use mathlib.Core.Bool.{Bool}
+use mathlib.Core.List.{List, [], _∷_, _++_}
+use Prim.Native.Nat.{ℕ, _+_, _*_}
+use lib.ListN.{length}
+use Rattle.ternary.specs.Pattern.{Words}
+use Rattle.records.specs.Record.{listed, slotWords, ident, action, rank, occupied}
+use Rattle.records.specs.Order.{slots}
+use Rattle.image.specs.Bytes.{bytesOf, numberAt, pieces}
+use Rattle.image.specs.Indices.{indices, index}
+
+-- sizes: a body has 16 bytes for each word of a value, and 8 more
+abbrev pub bodyBytes : ℕ → ℕ
+bodyBytes w = 16 * w + 8
+
+abbrev pub imageBytes : ℕ → ℕ → ℕ
+imageBytes w e = 4 + e * (10 + bodyBytes w)
+
+-- offsets: entry k of the contents, and body k of an image of e rules
+abbrev pub entryPlace : ℕ → ℕ
+entryPlace k = 4 + k * 10
+
+abbrev pub bodyPlace : ℕ → ℕ → ℕ → ℕ
+bodyPlace w e k = 4 + e * 10 + k * bodyBytes w
+
+-- an entry of the contents: id, slot, offset of the body
+unfoldable pub entryOf : ℕ → ℕ → ℕ → List ℕ
+entryOf id slot body = bytesOf 4 id ++ bytesOf 2 slot ++ bytesOf 4 body
+
+-- a record's body: value, mask, priority, action
+unfoldable pub bodyOf : ℕ → Words → List ℕ
+bodyOf w x = pieces (λ j. bytesOf 8 (x j)) (2 * w) ++ bytesOf 4 (rank w x) ++ bytesOf 4 (action w x)
+
+-- slot i holds a rule
+abbrev pub holds : ℕ → List ℕ → ℕ → Bool
+holds w t i = occupied w (slotWords w t i)
+
+-- how many rules a table holds, and the slot of rule k, in rising slot order
+abbrev pub tableRules : ℕ → List ℕ → ℕ
+tableRules w t = length (indices (holds w t) (slots w t))
+
+abbrev pub ruleSlot : ℕ → List ℕ → ℕ → ℕ
+ruleSlot w t k = index (holds w t) (slots w t) k
+
+-- rule k's entry and body
+unfoldable pub entryBytes : ℕ → List ℕ → ℕ → List ℕ
+entryBytes w t k = entryOf (ident w (slotWords w t (ruleSlot w t k))) (ruleSlot w t k) (bodyPlace w (tableRules w t) k)
+
+unfoldable pub ruleBytes : ℕ → List ℕ → ℕ → List ℕ
+ruleBytes w t k = bodyOf w (slotWords w t (ruleSlot w t k))
+
+-- document 01's saved image of a table: slots, rules, contents, bodies
+unfoldable pub imageOf : ℕ → List ℕ → List ℕ
+imageOf w t =
+    bytesOf 2 (slots w t) ++ bytesOf 2 (tableRules w t) ++ pieces (entryBytes w t) (tableRules w t) ++ pieces (ruleBytes w t) (tableRules w t)
+
+-- the fields of an image as they are read
+abbrev pub slotsIn : List ℕ → ℕ
+slotsIn b = numberAt b 0 2
+
+abbrev pub rulesIn : List ℕ → ℕ
+rulesIn b = numberAt b 2 2
+
+abbrev pub idAt : List ℕ → ℕ → ℕ
+idAt b k = numberAt b (entryPlace k) 4
+
+abbrev pub slotAt : List ℕ → ℕ → ℕ
+slotAt b k = numberAt b (entryPlace k + 4) 2
+
+abbrev pub offsetAt : List ℕ → ℕ → ℕ
+offsetAt b k = numberAt b (entryPlace k + 6) 4
+
+-- the record that entry and body k mean, in an image of e rules
+unfoldable pub recordAt : ℕ → List ℕ → ℕ → ℕ → List ℕ
+recordAt w b e k =
+    listed (2 * w) (λ j. numberAt b (bodyPlace w e k + j * 8) 8)
+    ++ (idAt b k * 4294967296 + numberAt b (bodyPlace w e k + (2 * w * 8 + 4)) 4) ∷ numberAt b (bodyPlace w e k + 2 * w * 8) 4 ∷ []

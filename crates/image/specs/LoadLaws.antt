@@ -1,0 +1,91 @@
+-- The table that an image means, slot by slot, and how a load ends.
+-- A rule's slot has its record, every other slot is empty.
+use mathlib.Core.Path.{_≡_, refl, sym, ap, ap₂, _∙_}
+use mathlib.Core.Bool.{cond}
+use mathlib.Core.List.{List, [], _∷_}
+use Prim.Native.Nat.{ℕ, zero, suc, _+_, _-_, _*_, _/_, _≤_}
+use native.Mathlib.Nat.{sub-zero}
+use native.Mathlib.Omega.{arith}
+use lib.ListN.{length, take, replicate, length-append}
+use Rattle.records.specs.Record.{recordWords, listed}
+use Rattle.records.specs.Order.{slots}
+use Rattle.records.specs.Checks.{success, refusal, unless, passes, orElse, shaped, checkShape, checkTwice, checkOrder}
+use Rattle.records.specs.Laws.{or-else-pass, failed, passed}
+use Rattle.records.specs.Rules.{length-listed}
+use Rattle.records.specs.declared.Cause.{Cause}
+use Rattle.records.specs.declared.Check.{Check}
+use Rattle.records.specs.declared.Check.the-variants.{Pass, Fail}
+use Rattle.image.specs.Bytes.{numberAt}
+use Rattle.image.specs.Format.{bodyPlace, rulesIn, idAt, recordAt}
+use Rattle.image.specs.Checks.{imageChecks, filled, meant, loadChecks}
+use Rattle.image.specs.CheckLaws.{Sound, image-law}
+use Rattle.image.specs.Answers.{loadAnswer, loadTable}
+
+pub record-at-length : (w : ℕ) (b : List ℕ) (e k : ℕ) → length (recordAt w b e k) ≡ recordWords w
+unfolding recordAt
+record-at-length w b e k =
+    let words = listed (2 * w) (λ j. numberAt b (bodyPlace w e k + j * 8) 8) in
+    length-append words ((idAt b k * 4294967296 + numberAt b (bodyPlace w e k + (2 * w * 8 + 4)) 4) ∷ numberAt b (bodyPlace w e k + 2 * w * 8) 4 ∷ [])
+    ∙ omega (arith, length-listed (2 * w) (λ j. numberAt b (bodyPlace w e k + j * 8) 8))
+
+-- the working table after every rule of the image is the table meant
+pub meant-built : (w : ℕ) (b : List ℕ) (size : ℕ) {e : ℕ} {working after : List ℕ} → e ≡ rulesIn b → working ≡ replicate size 0
+    → after ≡ filled w b e working e → after ≡ meant w b size
+unfolding meant
+meant-built w b size f z e =
+    e ∙ ap₂ (λ (n : ℕ) (t : List ℕ). filled w b n t n) f z
+
+-- a load ends in one of three ways: its fields are wrong, the table meant fails 3 or 4, or that table is written
+module _ (w : ℕ) (b t : List ℕ) where
+  pub fields-shape : orElse (checkShape w t) (imageChecks w b (slots w t)) ≡ Pass → checkShape w t ≡ Pass
+  fields-shape p = or-else-pass (checkShape w t) (imageChecks w b (slots w t)) .0 p .0
+
+  pub fields-sound : orElse (checkShape w t) (imageChecks w b (slots w t)) ≡ Pass → Sound w b (slots w t)
+  fields-sound p = image-law w b (slots w t) .0 (or-else-pass (checkShape w t) (imageChecks w b (slots w t)) .0 p .1)
+
+  load-refused : {cause : Cause} {spot : ℕ} → Fail cause spot ≡ loadChecks w b t → (refusal cause spot ≡ loadAnswer w b t) × (t ≡ loadTable w b t)
+  unfolding loadAnswer loadTable
+  load-refused e = (ap (λ (c : Check). unless c (success [])) e, ap (λ (c : Check). cond (passes c) (meant w b (length t)) t) e)
+
+  pub load-wrong : {x : Check} {cause : Cause} {spot : ℕ} → x ≡ orElse (checkShape w t) (imageChecks w b (slots w t)) → x ≡ Fail cause spot
+      → (refusal cause spot ≡ loadAnswer w b t) × (t ≡ loadTable w b t)
+  unfolding loadChecks
+  load-wrong e f = load-refused (failed _ e f)
+
+  pub load-unsound : {x : Check} {cause : Cause} {spot : ℕ} → orElse (checkShape w t) (imageChecks w b (slots w t)) ≡ Pass
+      → x ≡ orElse (checkTwice w (meant w b (length t))) (checkOrder w (meant w b (length t))) → x ≡ Fail cause spot
+      → (refusal cause spot ≡ loadAnswer w b t) × (t ≡ loadTable w b t)
+  unfolding loadChecks
+  load-unsound p e f = load-refused (passed refl p (sym f ∙ e))
+
+  pub load-written : {x : Check} → orElse (checkShape w t) (imageChecks w b (slots w t)) ≡ Pass
+      → x ≡ orElse (checkTwice w (meant w b (length t))) (checkOrder w (meant w b (length t))) → x ≡ Pass
+      → (success [] ≡ loadAnswer w b t) × (meant w b (length t) ≡ loadTable w b t)
+  unfolding loadChecks loadAnswer loadTable
+  load-written p e f =
+      let all = passed refl p (sym f ∙ e) in
+      (ap (λ (c : Check). unless c (success [])) all, ap (λ (c : Check). cond (passes c) (meant w b (length t)) t) all)
+
+-- the front of a working table of zeros
+take-zeros : (n m : ℕ) → n ≤ m → take {A = ℕ} n (replicate m 0) ≡ replicate n 0
+take-zeros zero m h = refl
+take-zeros (suc n) zero h = absurd (omega arith)
+take-zeros (suc n) (suc m) h = ap (λ (l : List ℕ). 0 ∷ l) (take-zeros n m (omega arith))
+
+pub front-zeros : (n m : ℕ) → n ≤ m → take {A = ℕ} (n - 0) (replicate m 0) ≡ replicate n 0
+front-zeros n m h = ap (λ (k : ℕ). take k (replicate m 0)) (sub-zero n) ∙ take-zeros n m h
+
+-- of the lent table only the length counts
+pub shape-same : (w : ℕ) (t u : List ℕ) → length u ≡ length t → checkShape w u ≡ checkShape w t
+unfolding checkShape shaped
+shape-same w t u e = rw e
+
+pub lent-checks : (w : ℕ) (b t u : List ℕ) → length u ≡ length t → loadChecks w b u ≡ loadChecks w b t
+unfolding loadChecks
+lent-checks w b t u e =
+    ap₂ (λ (shape : Check) (n : ℕ). orElse (orElse shape (imageChecks w b (n / recordWords w))) (orElse (checkTwice w (meant w b n)) (checkOrder w (meant w b n))))
+    (shape-same w t u e) e
+
+pub lent-answer : (w : ℕ) (b t u : List ℕ) → length u ≡ length t → loadAnswer w b u ≡ loadAnswer w b t
+unfolding loadAnswer
+lent-answer w b t u e = ap (λ (check : Check). unless check (success [])) (lent-checks w b t u e)

@@ -1,0 +1,141 @@
+-- Saving and loading undo each other: a saved image loads to the table it was saved from, and an image that loads is saved again to the same bytes.
+-- So sound tables and the images that load correspond one to one. Stated of the functions that the contracts of save and load cite.
+use mathlib.Core.Path.{_≡_, refl, sym, ap, ap₂, subst, _∙_}
+use mathlib.Core.Bool.{true, cond, true≢false}
+use mathlib.Core.List.{List, [], _∷_, _++_}
+use Prim.Native.Nat.{ℕ, _+_, _*_, _≤_}
+use native.Mathlib.Omega.{arith}
+use lib.Dec.{eqb, ltb}
+use lib.ListN.{length, getD, take, drop}
+use lib.Seq.{take-at}
+use borrow.Author.Tests.{ltb-false}
+use Rattle.records.specs.Record.{recordWords, sound}
+use Rattle.records.specs.Order.{slots}
+use Rattle.records.specs.Checks.{Told, success, unless, passes, orElse, checkShape, checkRecords, checkTwice, checkOrder, slotChecks, tableChecks}
+use Rattle.records.specs.Laws.{cause-not-zero, or-else-pass, cond-pass}
+use Rattle.records.specs.Entries.{shaped-slots}
+use Rattle.records.specs.declared.Cause.the-variants.{Short}
+use Rattle.records.specs.declared.Check.{Check}
+use Rattle.records.specs.declared.Check.the-variants.{Pass, Fail}
+use Rattle.table.specs.Plans.{checkRoom, planAnswer, plan-written}
+use Rattle.image.specs.ByteLaws.{Bytes}
+use Rattle.image.specs.Format.{imageBytes, tableRules, imageOf, slotsIn}
+use Rattle.image.specs.Checks.{imageChecks, meant, loadChecks}
+use Rattle.image.specs.Answers.{saveAnswer, saveBuffer, loadAnswer, loadTable}
+use Rattle.image.specs.SaveLaws.{image-length, save-answer}
+use Rattle.image.specs.CheckLaws.{Sound, image-law}
+use Rattle.image.specs.LoadLaws.{shape-same}
+use Rattle.image.specs.Meaning.{meant-length}
+use Rattle.image.specs.Reading.{Words64, Numbered, slots-read}
+use Rattle.image.specs.Reloading.{saved-size, image-loads}
+use Rattle.image.specs.Resaving.{image-back, meant-records, meant-words}
+
+-- which answers are successes
+told-pass : (check : Check) (values other : List ℕ) → unless check (success values) ≡ success other → (check ≡ Pass) × (values ≡ other)
+told-pass Pass values other e = (refl, ap (λ (told : Told). told .values) e)
+told-pass (Fail cause spot) values other e = absurd (true≢false (ap (λ (told : Told). eqb (told .number) 0) (sym e) ∙ cause-not-zero cause))
+
+-- a save succeeds exactly on a sound table with room for its image, and tells the image's bytes
+pub save-succeeds : (w : ℕ) (t : List ℕ) (room bytes : ℕ) → saveAnswer w t room ≡ success (bytes ∷ [])
+    → (tableChecks w t ≡ Pass) × (length (imageOf w t) ≤ room) × (bytes ≡ length (imageOf w t))
+unfolding planAnswer checkRoom
+save-succeeds w t room bytes e =
+    let told = told-pass (orElse (tableChecks w t) (checkRoom (imageBytes w (tableRules w t)) room)) (imageBytes w (tableRules w t) ∷ []) (bytes ∷ []) e in
+    let both = or-else-pass (tableChecks w t) (checkRoom (imageBytes w (tableRules w t)) room) .0 (told .0) in
+    let needed = ap (λ (l : List ℕ). getD l 0 0) (told .1) in
+    let fits : imageBytes w (tableRules w t) ≤ room = ltb-false _ _ (cond-pass Short (imageBytes w (tableRules w t)) (ltb room (imageBytes w (tableRules w t))) (both .1)) in
+    (both .0, omega (arith, image-length w t), omega (arith, image-length w t))
+
+-- document 01's tables are narrow enough: an image of two words a value has at most 51,204 bytes
+pub narrow-two : Numbered 2
+narrow-two = omega arith
+
+-- Demand 2: a saved image loads, into any lent table of as many slots, to the table it was saved from.
+pub saved-loads : (w : ℕ) (t image : List ℕ) (bytes : ℕ) → Numbered w → Words64 t → saveAnswer w t (length image) ≡ success (bytes ∷ [])
+    → (lent : List ℕ) → length lent ≡ length t
+    → (loadAnswer w (take bytes (saveBuffer w t image)) lent ≡ success []) × (loadTable w (take bytes (saveBuffer w t image)) lent ≡ t)
+saved-loads w t image bytes narrow sixty-four e lent size =
+    let done = save-succeeds w t (length image) bytes e in
+    let written = plan-written (imageOf w t) image refl (done .0) (done .1) .1 in
+    let same : take bytes (saveBuffer w t image) ≡ imageOf w t =
+    ap₂ take (done .2) (sym written) ∙ take-at (imageOf w t) (drop (length (imageOf w t)) image) (length (imageOf w t)) refl in
+    let loads = image-loads w t narrow sixty-four (done .0) lent size in
+    (ap (λ (b : List ℕ). loadAnswer w b lent) same ∙ loads .0, ap (λ (b : List ℕ). loadTable w b lent) same ∙ loads .1)
+
+-- What a load that succeeds leaves: a sound table of the lent table's length, whose image is the one that was loaded.
+pub record Loads (w : ℕ) (b lent : List ℕ) : Type 0 where
+  pub sound : tableChecks w (loadTable w b lent) ≡ Pass
+  pub words : Words64 (loadTable w b lent)
+  pub size : length (loadTable w b lent) ≡ length lent
+  pub image : imageOf w (loadTable w b lent) ≡ b
+
+pub load-leaves : (w : ℕ) (b lent : List ℕ) → Bytes b → loadAnswer w b lent ≡ success [] → Loads w b lent
+unfolding loadAnswer loadTable loadChecks tableChecks slotChecks
+load-leaves w b lent bytes told = record {
+  sound = ap (tableChecks w) table ∙ or-else-pass (slotChecks w m) (orElse (checkTwice w m) (checkOrder w m)) .1 (
+    or-else-pass (checkShape w m) (checkRecords w m) .1 (shape-same w lent m (meant-length w b n s ∙ sym size) ∙ fields .0, meant-records w b n s bytes),
+    or-else-pass (checkTwice w m) (checkOrder w m) .1 (ap (checkTwice w) (sym meant-same) ∙ order .0, ap (checkOrder w) (sym meant-same) ∙ order .1),
+  );
+  words = subst Words64 (sym table) (meant-words w b n s bytes);
+  size = ap length table ∙ (meant-length w b n s ∙ sym size);
+  image = ap (imageOf w) table ∙ image-back w b n s bytes;
+}
+  where
+    n : ℕ
+    n = slots w lent
+
+    m : List ℕ
+    m = meant w b (n * recordWords w)
+
+    passing : loadChecks w b lent ≡ Pass
+    passing = told-pass (loadChecks w b lent) [] [] told .0
+
+    halves : (orElse (checkShape w lent) (imageChecks w b n) ≡ Pass) × (orElse (checkTwice w (meant w b (length lent))) (checkOrder w (meant w b (length lent))) ≡ Pass)
+    halves = or-else-pass _ _ .0 passing
+
+    fields : (checkShape w lent ≡ Pass) × (imageChecks w b n ≡ Pass)
+    fields = or-else-pass (checkShape w lent) (imageChecks w b n) .0 (halves .0)
+
+    order : (checkTwice w (meant w b (length lent)) ≡ Pass) × (checkOrder w (meant w b (length lent)) ≡ Pass)
+    order = or-else-pass (checkTwice w (meant w b (length lent))) (checkOrder w (meant w b (length lent))) .0 (halves .1)
+
+    size : length lent ≡ n * recordWords w
+    size = shaped-slots w lent (fields .0) .2
+
+    s : Sound w b n
+    s = image-law w b n .0 (fields .1)
+
+    meant-same : meant w b (length lent) ≡ m
+    meant-same = ap (meant w b) size
+
+    table : loadTable w b lent ≡ m
+    table = ap (λ (check : Check). cond (passes check) (meant w b (length lent)) lent) passing ∙ meant-same
+
+-- Document 01: an image that loads is saved again to the same bytes; what stands past it stays.
+pub loaded-saves : (w : ℕ) (b lent : List ℕ) → Bytes b → loadAnswer w b lent ≡ success [] → (image : List ℕ) → length b ≤ length image
+    → (saveAnswer w (loadTable w b lent) (length image) ≡ success (length b ∷ []))
+    × (saveBuffer w (loadTable w b lent) image ≡ b ++ drop (length b) image)
+loaded-saves w b lent bytes told image room =
+    let left = load-leaves w b lent bytes told in
+    let t = loadTable w b lent in
+    let size : length (imageOf w t) ≡ length b = ap length (left .image) in
+    let done = plan-written (imageOf w t) image refl (left .sound) (omega arith) in (
+      sym (save-answer w t (length image)) ∙ (sym (done .0) ∙ ap (λ (k : ℕ). success (k ∷ [])) size),
+      sym (done .1) ∙ ap (λ (bytes : List ℕ). bytes ++ drop (length bytes) image) (left .image),
+    )
+
+-- So sound tables and the images that load correspond one to one: different tables have different images,
+pub one-image : (w : ℕ) (t u : List ℕ) → Numbered w → Words64 t → Words64 u → tableChecks w t ≡ Pass → tableChecks w u ≡ Pass → imageOf w t ≡ imageOf w u → t ≡ u
+one-image w t u narrow left right p q same =
+    let slots-same : slots w t ≡ slots w u =
+    sym (slots-read w t narrow left p) ∙ (ap slotsIn same ∙ slots-read w u narrow right q) in
+    let a = saved-size w t narrow left p in
+    let c = saved-size w u narrow right q in
+    let long : length t ≡ length u = a ∙ (ap (λ (n : ℕ). n * recordWords w) slots-same ∙ sym c) in
+    sym (image-loads w t narrow left p t refl .1) ∙ (ap (λ (b : List ℕ). loadTable w b t) same ∙ image-loads w u narrow right q t long .1)
+
+-- and different images load to different tables.
+pub one-table : (w : ℕ) (b c lent other : List ℕ) → Bytes b → Bytes c → loadAnswer w b lent ≡ success [] → loadAnswer w c other ≡ success []
+    → loadTable w b lent ≡ loadTable w c other → b ≡ c
+one-table w b c lent other left right p q same =
+    sym (load-leaves w b lent left p .image) ∙ (ap (imageOf w) same ∙ load-leaves w c other right q .image)

@@ -1,0 +1,581 @@
+/*
+ * Saves tables and loads images as firmware would, and checks every answer: first cases whose answers are written
+ * here, then random tables, whose images and refusals come from a reference that goes byte by byte. Each image is
+ * damaged one byte at a time: a load refuses it, or loads a sound table that saves back to the damaged bytes.
+ *
+ *     image_test [seed [tables]]
+ */
+#define _DEFAULT_SOURCE /* for mmap without a file */
+#include "testing.h"
+
+#define MOST_BYTES TCAM_IMAGE_BYTES(TCAM_MAX_SLOTS)
+
+/* ---- The reference: byte by byte, in the words of the rules for images ---- */
+
+/* A refusal's number and spot; or 0 and, for a save, the bytes. */
+struct told {
+    uint32_t number, spot, bytes;
+};
+
+#define SAVED(bytes) ((struct told){TCAM_OK, 0, (bytes)})
+#define LOADED ((struct told){TCAM_OK, 0, 0})
+#define REFUSED(number, spot) ((struct told){(number), (spot), 0})
+
+/* One of the 128 bits of two words, the highest bit of the first word being bit 0. */
+static int bit_of(const uint64_t *two, int index)
+{
+    return (int)(two[index / 64] >> (63 - index % 64) & 1);
+}
+
+static int ref_empty(const uint64_t *record)
+{
+    for (int word = 0; word < 6; word++)
+        if (record[word] != 0)
+            return 0;
+    return 1;
+}
+
+static int ref_value_sound(const uint64_t *record)
+{
+    for (int index = 0; index < 128; index++)
+        if (bit_of(record + 2, index) == 0 && bit_of(record, index) == 1)
+            return 0;
+    return 1;
+}
+
+static int ref_sound(const uint64_t *record)
+{
+    return record[4] / 4294967296u != 0 && record[5] <= 65535 && ref_value_sound(record);
+}
+
+static int ref_overlap(const uint64_t *record, const uint64_t *other)
+{
+    for (int index = 0; index < 128; index++)
+        if (bit_of(record + 2, index) == 1 && bit_of(other + 2, index) == 1 && bit_of(record, index) != bit_of(other, index))
+            return 0;
+    return 1;
+}
+
+/* Checks 3 and 4. */
+static struct told ref_pairs(const uint64_t *table, uint32_t slots)
+{
+    for (uint32_t slot = 1; slot < slots; slot++)
+        for (uint32_t earlier = 0; earlier < slot; earlier++) {
+            const uint64_t *a = table + 6 * earlier, *b = table + 6 * slot;
+            if (!ref_empty(a) && !ref_empty(b) && a[4] / 4294967296u == b[4] / 4294967296u)
+                return REFUSED(3, slot);
+        }
+    for (uint32_t slot = 1; slot < slots; slot++)
+        for (uint32_t earlier = 0; earlier < slot; earlier++) {
+            const uint64_t *a = table + 6 * earlier, *b = table + 6 * slot;
+            if (!ref_empty(a) && !ref_empty(b) && a[5] <= b[5] && ref_overlap(a, b))
+                return REFUSED(4, slot);
+        }
+    return LOADED;
+}
+
+/* The number of slots; 0 where the words are not 6 times 1 to 1,024. */
+static uint32_t ref_slots(size_t words)
+{
+    return words % 6 == 0 && words / 6 >= 1 && words / 6 <= 1024 ? (uint32_t)(words / 6) : 0;
+}
+
+/* Checks 1 to 4. */
+static struct told ref_checks(const uint64_t *table, size_t words)
+{
+    uint32_t slots = ref_slots(words);
+    if (slots == 0)
+        return REFUSED(1, 0);
+    for (uint32_t slot = 0; slot < slots; slot++)
+        if (!ref_empty(table + 6 * slot) && !ref_sound(table + 6 * slot))
+            return REFUSED(2, slot);
+    return ref_pairs(table, slots);
+}
+
+static uint8_t *ref_put(uint8_t *at, int bytes, uint64_t number)
+{
+    for (int byte = bytes - 1; byte >= 0; byte--, number /= 256)
+        at[byte] = (uint8_t)(number % 256);
+    return at + bytes;
+}
+
+static uint64_t ref_get(const uint8_t *at, int bytes)
+{
+    uint64_t number = 0;
+    while (bytes-- > 0)
+        number = number * 256 + *at++;
+    return number;
+}
+
+/* The image of a table, whatever is in it: how many bytes. */
+static uint32_t ref_image(const uint64_t *table, uint32_t slots, uint8_t *image)
+{
+    uint32_t rules = 0, body = 0;
+    for (uint32_t slot = 0; slot < slots; slot++)
+        rules += !ref_empty(table + 6 * slot);
+    uint8_t *at = ref_put(ref_put(image, 2, slots), 2, rules);
+    for (uint32_t slot = 0; slot < slots; slot++)
+        if (!ref_empty(table + 6 * slot)) {
+            at = ref_put(at, 4, table[6 * slot + 4] / 4294967296u);
+            at = ref_put(at, 2, slot);
+            at = ref_put(at, 4, 4 + 10 * rules + 40 * body++);
+        }
+    for (uint32_t slot = 0; slot < slots; slot++)
+        if (!ref_empty(table + 6 * slot)) {
+            for (int word = 0; word < 4; word++)
+                at = ref_put(at, 8, table[6 * slot + word]);
+            at = ref_put(at, 4, table[6 * slot + 5]);
+            at = ref_put(at, 4, table[6 * slot + 4] % 4294967296u);
+        }
+    return (uint32_t)(at - image);
+}
+
+static struct told ref_save(const uint64_t *table, size_t words, size_t room, uint8_t *image)
+{
+    struct told answer = ref_checks(table, words);
+    if (answer.number != 0)
+        return answer;
+    uint32_t bytes = ref_image(table, ref_slots(words), image);
+    return room < bytes ? REFUSED(11, bytes) : SAVED(bytes);
+}
+
+/* Loads into `table`, which is all zero: what it holds counts where the answer is 0. */
+static struct told ref_load(const uint8_t *image, size_t bytes, uint64_t *table, size_t words)
+{
+    uint32_t slots = ref_slots(words), next = 0;
+    if (slots == 0)
+        return REFUSED(1, 0);
+    if (bytes < 4 || ref_get(image, 2) != slots)
+        return REFUSED(14, 0);
+    uint32_t rules = (uint32_t)ref_get(image + 2, 2);
+    if (rules > slots || bytes != 4 + 50 * (size_t)rules)
+        return REFUSED(14, 2);
+    for (uint32_t rule = 0; rule < rules; rule++) {
+        uint32_t at = 4 + 10 * rule, slot = (uint32_t)ref_get(image + at + 4, 2);
+        if (ref_get(image + at, 4) == 0)
+            return REFUSED(14, at);
+        if (slot >= slots || slot < next)
+            return REFUSED(14, at + 4);
+        if (ref_get(image + at + 6, 4) != 4 + 10 * rules + 40 * rule)
+            return REFUSED(14, at + 6);
+        next = slot + 1;
+    }
+    for (uint32_t rule = 0; rule < rules; rule++) {
+        uint32_t at = 4 + 10 * rules + 40 * rule;
+        uint64_t *record = table + 6 * ref_get(image + 4 + 10 * rule + 4, 2);
+        for (int word = 0; word < 4; word++)
+            record[word] = ref_get(image + at + 8 * word, 8);
+        record[4] = ref_get(image + 4 + 10 * rule, 4) * 4294967296u + ref_get(image + at + 36, 4);
+        record[5] = ref_get(image + at + 32, 4);
+        if (record[5] > 65535 || !ref_value_sound(record))
+            return REFUSED(14, at);
+    }
+    return ref_pairs(table, slots);
+}
+
+/* ---- Lent images and cells ---- */
+
+/*
+ * An image is a part of a larger buffer, at any address. The bytes before and behind it are marks, and so are the
+ * image's own bytes before a save. The pages before and behind the buffer cannot be touched; `shift` moves the image.
+ */
+#define MARGIN 16
+
+static struct pages image_pages;
+
+static uint8_t mark_of(size_t index)
+{
+    return (uint8_t)(index * 167 + 13);
+}
+
+static uint8_t *lend_image(size_t bytes, unsigned shift)
+{
+    uint8_t *buffer = (uint8_t *)image_pages.start;
+    for (size_t index = 0; index < bytes + 2 * MARGIN; index++)
+        buffer[index] = mark_of(index);
+    return buffer + shift % MARGIN;
+}
+
+/* The buffer's bytes are marks but for `bytes` of them at `image`. */
+static void check_marks(const uint8_t *image, size_t bytes, size_t lent)
+{
+    const uint8_t *buffer = (const uint8_t *)image_pages.start;
+    int stay = 1;
+    for (size_t index = 0; index < lent + 2 * MARGIN; index++)
+        if (buffer + index < image || buffer + index >= image + bytes)
+            stay &= buffer[index] == mark_of(index);
+    CHECK(stay);
+}
+
+enum { BYTES = 1, SPOT = 3, CELLS = 5 };
+
+static void mark_cells(uint32_t *cell, uint32_t *before)
+{
+    static uint32_t mark = 0xA5A5A5A5u;
+    for (int index = 0; index < CELLS; index++) {
+        mark = mark * 1664525u + 1013904223u;
+        cell[index] = before[index] = mark | 0x40000000u;
+    }
+}
+
+static void check_cell_guards(const uint32_t *cell, const uint32_t *before)
+{
+    CHECK(cell[0] == before[0] && cell[2] == before[2] && cell[4] == before[4]);
+}
+
+/* ---- One call, with all that it promises ---- */
+
+static uint8_t wanted[MOST_BYTES + 4 * 50];
+
+/* Saves from a lent copy into a lent buffer of `room` bytes. `want` bytes are in `wanted` where it succeeds. */
+static void call_save(const uint64_t *table, size_t words, size_t room, unsigned shift, struct told want)
+{
+    uint32_t cell[CELLS], before[CELLS];
+    struct lent lent = lend(table, words, (int)(shift % 2));
+    uint8_t *image = lend_image(room, shift);
+    mark_cells(cell, before);
+    protect_table(0);
+    uint32_t number = tcam_save(lent.table, words, image, room, &cell[BYTES], &cell[SPOT]);
+    protect_table(1);
+    CHECK(number == want.number);
+    check_cell_guards(cell, before);
+    check_lent(&lent);
+    if (want.number == TCAM_OK) {
+        CHECK(cell[BYTES] == want.bytes);
+        CHECK(cell[SPOT] == before[SPOT]);
+        CHECK(memcmp(image, wanted, want.bytes) == 0);
+        check_marks(image, want.bytes, room);
+    } else {
+        CHECK(cell[BYTES] == before[BYTES]);
+        CHECK(cell[SPOT] == want.spot);
+        check_marks(image, 0, room);
+    }
+}
+
+static uint64_t scratch[SLOTS(MOST_SLOTS)];
+
+/* Loads a lent copy of an image into a lent table with `stood` in it. `want` is the table where it succeeds. */
+static void call_load(const uint8_t *bytes, size_t count, const uint64_t *stood, size_t words, unsigned shift, struct told want,
+                      const uint64_t *loaded)
+{
+    uint32_t cell[CELLS], before[CELLS];
+    struct lent lent = lend(stood, words, (int)(shift % 2));
+    uint8_t *image = lend_image(count, shift);
+    memcpy(image, bytes, count);
+    mark_cells(cell, before);
+    uint32_t number = tcam_load(image, count, lent.table, words, &cell[SPOT]);
+    CHECK(number == want.number);
+    CHECK(cell[BYTES] == before[BYTES]);
+    check_cell_guards(cell, before);
+    CHECK(memcmp(image, bytes, count) == 0);
+    check_marks(image, count, count);
+    CHECK(cell[SPOT] == (want.number == TCAM_OK ? before[SPOT] : want.spot));
+    if (want.number == TCAM_OK)
+        lent.original = loaded;
+    check_lent(&lent);
+}
+
+/* What stands in a table that is loaded over: anything. */
+static const uint64_t *rubbish(size_t words)
+{
+    static uint64_t table[SLOTS(MOST_SLOTS)];
+    for (size_t index = 0; index < words; index++)
+        table[index] = index % 5 == 0 ? ALL : random_word() >> below(64);
+    return table;
+}
+
+/* ---- Written cases: saving ---- */
+
+static void save_case(int line, const uint64_t *table, size_t words, size_t room, struct told want)
+{
+    case_line = line;
+    if (want.number == TCAM_OK)
+        ref_image(table, ref_slots(words), wanted);
+    for (unsigned shift = 0; shift < 3; shift++)
+        call_save(table, words, room, shift, want);
+}
+
+#define SAVE_CASE(table, words, room, want) save_case(__LINE__, (table), (words), (room), (want))
+
+/* Three slots, a rule in the first and the last, and the bytes of its image as they must be. */
+static const uint64_t three_slots[SLOTS(3)] = {
+    0x0A00000000000000u, 0x0000000000000001u, 0xFF00000000000000u, 0x0000000000000003u, TCAM_ID_ACTION(0x01020304, 0xA1A2A3A4), 300,
+    0, 0, 0, 0, 0, 0,
+    0, 0, 0, 0x8000000000000000u, TCAM_ID_ACTION(0x00000007, 9), 65535 - 65236,
+};
+
+static const uint8_t three_slots_image[] = {
+    0x00, 0x03, 0x00, 0x02,
+    0x01, 0x02, 0x03, 0x04, 0x00, 0x00, 0x00, 0x00, 0x00, 0x18,
+    0x00, 0x00, 0x00, 0x07, 0x00, 0x02, 0x00, 0x00, 0x00, 0x40,
+    0x0A, 0, 0, 0, 0, 0, 0, 0, 0, 0, 0, 0, 0, 0, 0, 0x01, 0xFF, 0, 0, 0, 0, 0, 0, 0, 0, 0, 0, 0, 0, 0, 0, 0x03,
+    0x00, 0x00, 0x01, 0x2C, 0xA1, 0xA2, 0xA3, 0xA4,
+    0, 0, 0, 0, 0, 0, 0, 0, 0, 0, 0, 0, 0, 0, 0, 0, 0, 0, 0, 0, 0, 0, 0, 0, 0x80, 0, 0, 0, 0, 0, 0, 0,
+    0x00, 0x00, 0x01, 0x2B, 0x00, 0x00, 0x00, 0x09,
+};
+
+static void save_cases(void)
+{
+    static const uint64_t empty[SLOTS(TCAM_MAX_SLOTS + 1)];
+    static const uint8_t empty_image[] = {0x00, 0x01, 0x00, 0x00}, widest_image[] = {0x04, 0x00, 0x00, 0x00};
+    uint64_t table[SLOTS(3)];
+
+    HERE;
+    CHECK(ref_image(empty, 1, wanted) == 4 && memcmp(wanted, empty_image, 4) == 0);
+    CHECK(ref_image(empty, 1024, wanted) == 4 && memcmp(wanted, widest_image, 4) == 0);
+    CHECK(sizeof three_slots_image == TCAM_IMAGE_BYTES(2));
+    CHECK(ref_image(three_slots, 3, wanted) == sizeof three_slots_image);
+    CHECK(memcmp(wanted, three_slots_image, sizeof three_slots_image) == 0);
+
+    SAVE_CASE(empty, SLOTS(1), 4, SAVED(4));
+    SAVE_CASE(empty, SLOTS(1), 500, SAVED(4));
+    SAVE_CASE(empty, SLOTS(1024), 4, SAVED(4));
+    SAVE_CASE(three_slots, SLOTS(3), 104, SAVED(104));
+    SAVE_CASE(three_slots, SLOTS(3), 105, SAVED(104));
+
+    /* 1: no slot, part of a slot, 1,025 slots; a short buffer comes later */
+    SAVE_CASE(three_slots, 0, 104, REFUSED(TCAM_SHAPE, 0));
+    SAVE_CASE(three_slots, 5, 104, REFUSED(TCAM_SHAPE, 0));
+    SAVE_CASE(three_slots, 17, 0, REFUSED(TCAM_SHAPE, 0));
+    SAVE_CASE(empty, SLOTS(1025), 104, REFUSED(TCAM_SHAPE, 0));
+
+    /* 2: id 0, priority 65,536, a value bit outside the mask; the lowest slot */
+    memcpy(table, three_slots, sizeof table);
+    table[16] = 9;
+    SAVE_CASE(table, SLOTS(3), 104, REFUSED(TCAM_RECORD, 2));
+    table[11] = 65536;
+    SAVE_CASE(table, SLOTS(3), 104, REFUSED(TCAM_RECORD, 1));
+    table[1] |= 4;
+    SAVE_CASE(table, SLOTS(3), 0, REFUSED(TCAM_RECORD, 0));
+
+    /* 3 before 4, and 4 before 11 */
+    memcpy(table, three_slots, sizeof table);
+    table[16] = TCAM_ID_ACTION(0x01020304, 1);
+    table[17] = 400;
+    SAVE_CASE(table, SLOTS(3), 104, REFUSED(TCAM_TWICE, 2));
+    table[16] = TCAM_ID_ACTION(8, 1);
+    SAVE_CASE(table, SLOTS(3), 0, REFUSED(TCAM_ORDER, 2));
+    table[17] = 300;
+    SAVE_CASE(table, SLOTS(3), 104, REFUSED(TCAM_ORDER, 2));
+    table[17] = 299;
+    SAVE_CASE(table, SLOTS(3), 104, SAVED(104));
+
+    /* 11: the bytes needed */
+    SAVE_CASE(three_slots, SLOTS(3), 103, REFUSED(TCAM_SHORT, 104));
+    SAVE_CASE(three_slots, SLOTS(3), 0, REFUSED(TCAM_SHORT, 104));
+    SAVE_CASE(empty, SLOTS(1), 3, REFUSED(TCAM_SHORT, 4));
+    SAVE_CASE(empty, SLOTS(1), 0, REFUSED(TCAM_SHORT, 4));
+}
+
+/* ---- Written cases: loading ---- */
+
+static uint8_t image[sizeof three_slots_image + 1];
+
+static void load_case(int line, size_t bytes, size_t words, struct told want)
+{
+    case_line = line;
+    memset(scratch, 0, sizeof scratch);
+    struct told told = ref_load(image, bytes, scratch, words);
+    CHECK(told.number == want.number && told.spot == want.spot);
+    for (unsigned shift = 0; shift < 3; shift++)
+        call_load(image, bytes, rubbish(words), words, shift, want, scratch);
+    memcpy(image, three_slots_image, sizeof three_slots_image);
+}
+
+#define LOAD_CASE(bytes, words, want) load_case(__LINE__, (bytes), (words), (want))
+#define BODY(k) (24 + 40 * (k))
+
+static void load_cases(void)
+{
+    memcpy(image, three_slots_image, sizeof three_slots_image);
+    LOAD_CASE(104, SLOTS(3), LOADED);
+    CHECK(memcmp(scratch, three_slots, sizeof three_slots) == 0);
+
+    /* 1, whatever the image */
+    LOAD_CASE(104, 0, REFUSED(TCAM_SHAPE, 0));
+    LOAD_CASE(104, 17, REFUSED(TCAM_SHAPE, 0));
+    LOAD_CASE(0, 19, REFUSED(TCAM_SHAPE, 0));
+    LOAD_CASE(104, SLOTS(1025), REFUSED(TCAM_SHAPE, 0));
+
+    /* at 0: shorter than 4 bytes, other slots */
+    for (size_t bytes = 0; bytes < 4; bytes++)
+        LOAD_CASE(bytes, SLOTS(3), REFUSED(TCAM_IMAGE, 0));
+    LOAD_CASE(104, SLOTS(2), REFUSED(TCAM_IMAGE, 0));
+    LOAD_CASE(104, SLOTS(4), REFUSED(TCAM_IMAGE, 0));
+    image[0] = 1;
+    LOAD_CASE(104, SLOTS(3), REFUSED(TCAM_IMAGE, 0));
+    image[1] = 0;
+    LOAD_CASE(104, SLOTS(3), REFUSED(TCAM_IMAGE, 0));
+
+    /* at 2: more rules than slots, another length */
+    image[3] = 4;
+    LOAD_CASE(104, SLOTS(3), REFUSED(TCAM_IMAGE, 2));
+    image[2] = 1;
+    LOAD_CASE(104, SLOTS(3), REFUSED(TCAM_IMAGE, 2));
+    image[2] = image[3] = 255;
+    LOAD_CASE(104, SLOTS(3), REFUSED(TCAM_IMAGE, 2));
+    LOAD_CASE(103, SLOTS(3), REFUSED(TCAM_IMAGE, 2));
+    LOAD_CASE(105, SLOTS(3), REFUSED(TCAM_IMAGE, 2));
+    LOAD_CASE(4, SLOTS(3), REFUSED(TCAM_IMAGE, 2));
+    image[3] = 1;
+    LOAD_CASE(104, SLOTS(3), REFUSED(TCAM_IMAGE, 2));
+
+    /* each field of each entry, the first wrong one */
+    memset(image + 4, 0, 4);
+    LOAD_CASE(104, SLOTS(3), REFUSED(TCAM_IMAGE, 4));
+    image[9] = 3;
+    image[17] = 0;
+    LOAD_CASE(104, SLOTS(3), REFUSED(TCAM_IMAGE, 8));
+    image[8] = 1;
+    LOAD_CASE(104, SLOTS(3), REFUSED(TCAM_IMAGE, 8));
+    image[13]++;
+    LOAD_CASE(104, SLOTS(3), REFUSED(TCAM_IMAGE, 10));
+    image[10] = 1;
+    LOAD_CASE(104, SLOTS(3), REFUSED(TCAM_IMAGE, 10));
+    image[17] = 0;
+    LOAD_CASE(104, SLOTS(3), REFUSED(TCAM_IMAGE, 14));
+    image[19] = 3;
+    LOAD_CASE(104, SLOTS(3), REFUSED(TCAM_IMAGE, 18));
+    image[19] = 0;
+    LOAD_CASE(104, SLOTS(3), REFUSED(TCAM_IMAGE, 18));
+    image[9] = 2;
+    image[19] = 1;
+    LOAD_CASE(104, SLOTS(3), REFUSED(TCAM_IMAGE, 18));
+    image[23]--;
+    image[BODY(0) + 33] = 1;
+    LOAD_CASE(104, SLOTS(3), REFUSED(TCAM_IMAGE, 20));
+
+    /* each body, at its start: value or priority */
+    image[BODY(0)] |= 0x80;
+    image[BODY(0) + 16] = 0x7F;
+    LOAD_CASE(104, SLOTS(3), REFUSED(TCAM_IMAGE, BODY(0)));
+    image[BODY(0) + 15] = 4;
+    LOAD_CASE(104, SLOTS(3), REFUSED(TCAM_IMAGE, BODY(0)));
+    image[BODY(0) + 33] = 1;
+    image[BODY(1) + 32] = 1;
+    LOAD_CASE(104, SLOTS(3), REFUSED(TCAM_IMAGE, BODY(0)));
+    image[BODY(1) + 32] = 1;
+    LOAD_CASE(104, SLOTS(3), REFUSED(TCAM_IMAGE, BODY(1)));
+    image[BODY(1)] = 1;
+    LOAD_CASE(104, SLOTS(3), REFUSED(TCAM_IMAGE, BODY(1)));
+    image[BODY(1) + 34] = image[BODY(1) + 35] = 255;
+    image[BODY(1) + 24] = 0;
+    LOAD_CASE(104, SLOTS(3), REFUSED(TCAM_ORDER, 2));
+
+    /* 3 and 4 of the table meant: spot is a slot */
+    memcpy(image + 14, image + 4, 4);
+    LOAD_CASE(104, SLOTS(3), REFUSED(TCAM_TWICE, 2));
+    memcpy(image + 14, image + 4, 4);
+    image[19] = 1;
+    image[BODY(1) + 34] = 2;
+    LOAD_CASE(104, SLOTS(3), REFUSED(TCAM_TWICE, 1));
+    image[BODY(1) + 35]++;
+    LOAD_CASE(104, SLOTS(3), REFUSED(TCAM_ORDER, 2));
+    image[19] = 1;
+    image[BODY(1) + 35]++;
+    LOAD_CASE(104, SLOTS(3), REFUSED(TCAM_ORDER, 1));
+    image[19] = 1;
+    LOAD_CASE(104, SLOTS(3), LOADED);
+}
+
+/* ---- Made tables ---- */
+
+/* A sound table: of `rules` rules with priorities that fall from slot to slot, in slots at random. */
+static uint32_t make_table(uint64_t *table, uint32_t slots, uint32_t rules)
+{
+    uint32_t left = rules, priority = 65535;
+    memset(table, 0, SLOTS(slots) * sizeof *table);
+    for (uint32_t slot = 0; slot < slots; slot++) {
+        if (below(slots - slot) >= left)
+            continue;
+        uint64_t *record = table + 6 * slot;
+        for (int word = 0; word < 2; word++) {
+            record[2 + word] = below(3) == 0 ? 0 : random_word() >> below(64);
+            record[word] = random_word() & record[2 + word];
+        }
+        record[4] = TCAM_ID_ACTION(slot * 4194304 + 1 + below(4194304), random_word());
+        priority -= below(2) + (slot == 0 ? 0 : 1);
+        record[5] = priority;
+        left--;
+    }
+    return rules;
+}
+
+/* A load of the image's bytes, as the reference has it; where it succeeds the table saves back to them. */
+static int load_and_save(const uint8_t *bytes, size_t count, size_t words, unsigned shift)
+{
+    memset(scratch, 0, words * sizeof *scratch);
+    struct told told = ref_load(bytes, count, scratch, words);
+    call_load(bytes, count, rubbish(words), words, shift, told, scratch);
+    if (told.number != TCAM_OK)
+        return 0;
+    CHECK(ref_checks(scratch, words).number == TCAM_OK);
+    memcpy(wanted, bytes, count);
+    call_save(scratch, words, count + below(3), shift, SAVED((uint32_t)count));
+    return 1;
+}
+
+static unsigned long damaged_refused, damaged_loaded;
+
+/* Every byte of the image, changed in several ways, one at a time. */
+static void damage(const uint8_t *saved, size_t count, size_t words, size_t step)
+{
+    static uint8_t bytes[MOST_BYTES];
+    memcpy(bytes, saved, count);
+    for (size_t at = below((uint32_t)step); at < count; at += step) {
+        uint8_t changes[] = {0, 1, 255, (uint8_t)(saved[at] + 1), (uint8_t)(saved[at] - 1), (uint8_t)(saved[at] ^ 1u << below(8))};
+        for (size_t change = 0; change < sizeof changes; change++) {
+            if (changes[change] == saved[at])
+                continue;
+            bytes[at] = changes[change];
+            if (load_and_save(bytes, count, words, (unsigned)at))
+                damaged_loaded++;
+            else
+                damaged_refused++;
+        }
+        bytes[at] = saved[at];
+    }
+}
+
+static void made_table(uint32_t slots, uint32_t rules, size_t step)
+{
+    static uint64_t table[SLOTS(TCAM_MAX_SLOTS)];
+    static uint8_t saved[MOST_BYTES];
+    size_t words = SLOTS(slots);
+    make_table(table, slots, rules);
+    struct told told = ref_save(table, words, MOST_BYTES, wanted);
+    CHECK(told.number == TCAM_OK && told.bytes == TCAM_IMAGE_BYTES(rules));
+    memcpy(saved, wanted, told.bytes);
+    call_save(table, words, told.bytes, below(16), told);
+    memcpy(wanted, saved, told.bytes);
+    call_save(table, words, told.bytes + 1 + below(100), below(16), told);
+    call_save(table, words, told.bytes - 1 - below(4), below(16), REFUSED(TCAM_SHORT, told.bytes));
+    call_load(saved, told.bytes, rubbish(words), words, below(16), LOADED, table);
+    CHECK(load_and_save(saved, told.bytes, words, below(16)));
+    if (told.bytes > 4)
+        CHECK(!load_and_save(saved, told.bytes - 1 - below(told.bytes - 4), words, below(16)));
+    if (step != 0)
+        damage(saved, told.bytes, words, step);
+}
+
+int main(int arguments, char **words)
+{
+    unsigned long tables = arguments > 2 ? strtoul(words[2], NULL, 10) : 40;
+    seed = arguments > 1 ? strtoull(words[1], NULL, 10) : seed;
+    random_state = seed;
+    open_pages(&table_pages, (SLOTS(MOST_SLOTS) + GUARDS) * sizeof(uint64_t));
+    open_pages(&image_pages, MOST_BYTES + 4 * MARGIN + 200);
+    save_cases();
+    load_cases();
+    case_line = 0;
+    for (turn = 0; turn < tables; turn++) {
+        uint32_t slots = 1 + below(turn % 4 == 0 ? 24 : 6);
+        made_table(slots, below(slots + 1), 1);
+    }
+    made_how = "large";
+    made_table(1024, 1024, 0);
+    made_table(1024, 1, 5);
+    made_table(1023, 40, 101);
+    CHECK(damaged_refused > 0 && damaged_loaded > 0);
+    return verdict("image_test");
+}
