@@ -2,9 +2,7 @@
 // A call gives back everything that can be seen of it: the result, the cells and the buffers as they are afterwards.
 
 use crate::fence::Fence;
-#[cfg(image)]
-use crate::input::initial_bytes;
-use crate::input::{initial_words, Input, CELL_START};
+use crate::input::{initial_bytes, initial_words, Input, CELL_START};
 use reference::table::SLOTS_MOST;
 use support::calls::*;
 
@@ -52,19 +50,13 @@ impl Cells {
 pub struct Guarded {
     table: Fence,
     plan: Fence,
-    #[cfg(image)]
     image: Fence,
 }
 
 impl Guarded {
     pub fn new() -> Guarded {
         let most_words = 6 * SLOTS_MOST + 64;
-        Guarded {
-            table: Fence::new(8 * most_words),
-            plan: Fence::new(4 * most_words),
-            #[cfg(image)]
-            image: Fence::new(60 * SLOTS_MOST + 4096),
-        }
+        Guarded { table: Fence::new(8 * most_words), plan: Fence::new(4 * most_words), image: Fence::new(60 * SLOTS_MOST + 4096) }
     }
 
     pub fn lookup(&self, input: &Input, key: u128) -> Seen {
@@ -176,32 +168,16 @@ impl Guarded {
             guards_hold: guards_hold && guarded[0] == CELL_GUARD && guarded[3] == CELL_GUARD,
         }
     }
-
-    #[cfg(image)]
     pub fn save(&self, input: &Input) -> Seen {
         self.on_image(input, &initial_bytes(input.room), 2, |table, words, image, bytes, cells| unsafe {
             tcam_save(table, words, image, bytes, cells.cell(0), cells.cell(1))
         })
     }
-
-    #[cfg(image)]
     pub fn load(&self, input: &Input) -> Seen {
         self.on_image(input, &input.image, 1, |table, words, image, bytes, cells| unsafe {
             tcam_load(image, bytes, table, words, cells.cell(0))
         })
     }
-
-    #[cfg(not(image))]
-    pub fn save(&self, _: &Input) -> Seen {
-        panic!("the library has no tcam_save")
-    }
-
-    #[cfg(not(image))]
-    pub fn load(&self, _: &Input) -> Seen {
-        panic!("the library has no tcam_load")
-    }
-
-    #[cfg(image)]
     fn on_image(
         &self,
         input: &Input,

@@ -68,9 +68,6 @@ fn main() {
     }
     println!("differential: {} inputs, seed {seed}, {} s", range.end - range.start, start.elapsed().as_secs());
     tally.print();
-    if !cfg!(image) {
-        println!("  not compared: tcam_save and tcam_load, which this library doesn't have");
-    }
     let missing = tally.missing();
     if range.end - range.start > 1 && !missing.is_empty() {
         eprintln!("differential: never reached: {}", missing.join("; "));

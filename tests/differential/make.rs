@@ -56,8 +56,7 @@ pub fn make_input(random: &mut Random) -> Input {
     input
 }
 
-/// The calls that are made, by how often. Save and load are there only where the library has them: an input that nothing
-/// is compared on is no input.
+/// The calls that are made, by how often.
 const CALLS: &[Call] = &[
     Call::Lookup,
     Call::SlotRecord,
@@ -71,9 +70,7 @@ const CALLS: &[Call] = &[
     Call::InsertInFull,
     Call::InsertInFull,
     Call::DeleteInFull,
-    #[cfg(image)]
     Call::Save,
-    #[cfg(image)]
     Call::Load,
 ];
 

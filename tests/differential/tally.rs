@@ -32,16 +32,10 @@ fn wanted() -> Vec<(Call, String)> {
     want(Call::PlanDelete, &[], &[RULE, UNKNOWN, SHORT]);
     want(Call::CarryOut, &["copied", "put in", "emptied", "finished"], &[SHAPE, RECORD, RULE]);
     want(Call::CarryOut, &["12 done > total", "12 total > words", "12 copy", "12 put-in", "12 emptying"], &[]);
-    if cfg!(image) {
-        want(Call::Save, &["saved"], &table);
-        want(Call::Save, &[], &[SHORT]);
-        want(
-            Call::Load,
-            &["loaded", "14 at 0", "14 at 2", "14 at an id", "14 at a slot", "14 at an offset", "14 at a body"],
-            &[],
-        );
-        want(Call::Load, &[], &[SHAPE, TWICE, ORDER]);
-    }
+    want(Call::Save, &["saved"], &table);
+    want(Call::Save, &[], &[SHORT]);
+    want(Call::Load, &["loaded", "14 at 0", "14 at 2", "14 at an id", "14 at a slot", "14 at an offset", "14 at a body"], &[]);
+    want(Call::Load, &[], &[SHAPE, TWICE, ORDER]);
     wanted
 }
 

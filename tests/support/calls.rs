@@ -59,9 +59,7 @@ extern "C" {
         action: u32,
         progress: *mut ProgressRecord,
     ) -> u64;
-    #[cfg(image)]
     pub fn tcam_save(table: *const u64, words: usize, image: *mut u8, bytes: usize, count: *mut u32, spot: *mut u32) -> u32;
-    #[cfg(image)]
     pub fn tcam_load(image: *const u8, image_bytes: usize, table: *mut u64, words: usize, spot: *mut u32) -> u32;
 }
 
