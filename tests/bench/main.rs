@@ -1,0 +1,168 @@
+// The bench: writes per insert of our planner, those of documents 000 and 001, and a priority-ordered firmware.
+// Flags: --self-check (small, for the gate), --inserts N, --seed S, --plot PATH. Counts of writes only, no times.
+
+mod fast_rule;
+mod memory;
+mod planners;
+mod plot;
+mod rule_sets;
+mod rule_tris;
+mod self_check;
+mod workload;
+
+use crate::memory::{Memory, NoPlan};
+use crate::planners::{Planner, PLANNERS};
+use crate::rule_sets::{RuleSet, RULE_SETS};
+use crate::workload::{Free, Operations, Outcome, Size, Workload};
+use reference::table::Rule;
+
+const SLOTS: usize = 1024;
+/// Loads in hundredths.
+const LOADS: [usize; 3] = [50, 90, 99];
+const INSERTS: usize = 2000;
+const SEED: u64 = 7;
+
+#[derive(Clone, Copy)]
+pub struct Kind {
+    pub set: RuleSet,
+    pub load: usize,
+    pub operations: Operations,
+    pub free: Free,
+}
+
+/// One line of the table: a kind of workload, and what came out for each planner in turn.
+pub struct Row {
+    pub kind: Kind,
+    pub outcomes: Vec<Outcome>,
+}
+
+fn flag(name: &str) -> Option<String> {
+    let words: Vec<String> = std::env::args().collect();
+    let place = words.iter().position(|word| word == name)?;
+    Some(words.get(place + 1).cloned().unwrap_or_default())
+}
+
+fn number_flag(name: &str, otherwise: u64) -> u64 {
+    flag(name).map_or(otherwise, |word| word.parse().unwrap_or_else(|_| panic!("{name} takes a number")))
+}
+
+fn main() {
+    if flag("--self-check").is_some() {
+        return self_check::run();
+    }
+    let inserts = number_flag("--inserts", INSERTS as u64) as usize;
+    let seed = number_flag("--seed", SEED);
+    println!("Writes per insert, {SLOTS} slots, seed {seed}: mean, 99th percentile, worst. Each planner on its own memory.");
+    print_heads("mean  p99 worst");
+    let mut compared = Compared::default();
+    let mut rows = Vec::new();
+    for kind in kinds() {
+        let outcomes = PLANNERS.into_iter().map(|planner| measure(kind, planner, inserts, seed, &mut compared)).collect();
+        let row = Row { kind, outcomes };
+        print_row(&row, |outcome| format!("{:.2} {:>4} {:>5}", outcome.mean(), outcome.percentile_99(), outcome.worst()));
+        rows.push(row);
+    }
+    println!(
+        "\nOurs is least on each table it is given (in document 01's class), not over a run: layouts part as a run goes on."
+    );
+    println!("Of the inserts these were not planned, and are not in the numbers above: crossed, and no room the one way.");
+    print_heads("of  cross  room");
+    for row in &rows {
+        print_row(row, |outcome| {
+            format!("{} {:>6} {:>5}", outcome.writes.len() + outcome.crossed + outcome.no_room, outcome.crossed, outcome.no_room)
+        });
+    }
+    compared.print();
+    if let Some(path) = flag("--plot") {
+        std::fs::write(&path, plot::drawing(&rows)).unwrap_or_else(|error| panic!("{path}: {error}"));
+        println!("plot: {path}");
+    }
+}
+
+fn kinds() -> Vec<Kind> {
+    let mut kinds = Vec::new();
+    for operations in [Operations::DeleteInsert, Operations::InsertOnly] {
+        for free in [Free::First, Free::Last] {
+            for set in RULE_SETS {
+                kinds.extend(LOADS.map(|load| Kind { set, load, operations, free }));
+            }
+        }
+    }
+    kinds
+}
+
+fn print_heads(parts: &str) {
+    print!("{:<38}", "");
+    PLANNERS.iter().for_each(|planner| print!(" {:>18}", planner.name()));
+    print!("\n{:<11} {:<4} {:<14} {:<6}", "rules", "load", "operations", "free");
+    PLANNERS.iter().for_each(|_| print!(" {parts:>18}"));
+    println!();
+}
+
+fn print_row(row: &Row, cell: impl Fn(&Outcome) -> String) {
+    let operations = match row.kind.operations {
+        Operations::DeleteInsert => "delete, insert",
+        Operations::InsertOnly => "insert only",
+    };
+    let free = match row.kind.free {
+        Free::First => "first",
+        Free::Last => "last",
+    };
+    print!("{:<11} 0.{} {operations:<14} {free:<6}", row.kind.set.name(), row.kind.load);
+    row.outcomes.iter().for_each(|outcome| print!(" {:>18}", cell(outcome)));
+    println!();
+}
+
+/// Delete one, insert one: one long run. Insert only: from the load until the memory is full, as often as it takes.
+fn measure(kind: Kind, planner: Planner, inserts: usize, seed: u64, compared: &mut Compared) -> Outcome {
+    let first = SLOTS * kind.load / 100;
+    let room = SLOTS - first;
+    let (runs, inserts) = match kind.operations {
+        Operations::DeleteInsert => (1, inserts),
+        Operations::InsertOnly => (inserts.div_ceil(room), room),
+    };
+    let size = Size { slots: SLOTS, first, inserts };
+    let mut outcome = Outcome::default();
+    for run in 0..runs {
+        let workload = Workload::new(kind.set, size, kind.operations, kind.free, seed * 1_000_000 + run as u64);
+        outcome.add(workload.run(planner, |memory, new, planned| {
+            if planner == Planner::Ours {
+                compared.compare(memory, new, planned);
+            }
+        }));
+    }
+    outcome
+}
+
+/// The papers' planners on the very tables that ours planned for.
+#[derive(Default)]
+struct Compared {
+    plans: usize,
+    rule_tris_same: usize,
+    rule_tris_same_chain: usize,
+    fast_rule_more: usize,
+}
+
+impl Compared {
+    fn compare(&mut self, memory: &Memory, new: &Rule, ours: Result<&[usize], NoPlan>) {
+        let rule_tris = Planner::RuleTris.plan(memory, new, Free::First);
+        let fast_rule = Planner::FastRuleTwoWay.plan(memory, new, Free::First);
+        let Ok(chain) = ours else {
+            assert_eq!((rule_tris, fast_rule), (Err(NoPlan::Crossed), Err(NoPlan::Crossed)));
+            return;
+        };
+        let rule_tris = rule_tris.expect("what ours plans RuleTris plans");
+        self.plans += 1;
+        self.rule_tris_same += usize::from(rule_tris.len() == chain.len());
+        self.rule_tris_same_chain += usize::from(rule_tris == chain);
+        let greedy = fast_rule.map_or(usize::MAX, |greedy| greedy.len());
+        self.fast_rule_more += usize::from(greedy > chain.len());
+        assert!(rule_tris.len() >= chain.len() && greedy >= chain.len(), "their plans are in document 01's class");
+    }
+
+    fn print(&self) {
+        println!("\nEach of our {} plans, made again by the others on our table, the very same one:", self.plans);
+        println!("  RuleTris: as many writes in {}, the same chain in {}", self.rule_tris_same, self.rule_tris_same_chain);
+        println!("  FastRule two-way: more writes in {}, fewer in none", self.fast_rule_more);
+    }
+}

@@ -1,0 +1,261 @@
+// What the reference says a call must show, and the comparison of one input with what the library showed.
+// Cells and buffers that a call leaves as they were are expected with their first contents.
+
+use crate::guarded::{Guarded, Seen};
+use crate::input::{initial_bytes, initial_words, Call, Input, CELL_START};
+use crate::tally::Tally;
+use reference::carry::{carry_out, Carried, Progress};
+use reference::image::{load, save};
+use reference::lookup::{lookup, slot_record, Found};
+use reference::plan::{plan_delete, plan_insert};
+use reference::table::{first_out_of_order, read_slots, Refusal, Rule, Slot, RECORD_WORDS};
+
+/// Tables of up to this many slots are tested for order after every write; larger ones now and then.
+const SLOTS_ALWAYS_TESTED: usize = 64;
+
+/// The result of tcam_carry_out that says "finished": the header's number, since document 01 has none.
+const FINISHED: u64 = 0xffff_ffff;
+
+pub struct Mismatch {
+    pub what: String,
+    pub library: String,
+    pub reference: String,
+}
+
+impl Mismatch {
+    fn of(what: String, library: impl std::fmt::Debug, reference: impl std::fmt::Debug) -> Mismatch {
+        Mismatch { what, library: format!("{library:x?}"), reference: format!("{reference:x?}") }
+    }
+}
+
+/// Makes the input's call on both sides.
+pub fn check(library: &Guarded, input: &Input, tally: &mut Tally) -> Result<(), Mismatch> {
+    match input.call {
+        Call::Lookup => input.keys.iter().try_for_each(|&key| check_lookup(library, input, key, tally).map(|_| ())),
+        Call::SlotRecord => {
+            let expected = expected_slot_record(input);
+            tally.count(input.call, if expected.result == 0 { "empty part" } else { "record" });
+            same("slot_record", library.slot_record(input), expected)
+        }
+        Call::PlanInsert => check_plan(library, input, tally).map(|_| ()),
+        Call::PlanDelete => check_plan(library, input, tally).map(|_| ()),
+        Call::CarryOut => check_carry_out(library, &mut input.clone(), tally).map(|_| ()),
+        Call::Save => check_save(library, input, tally),
+        Call::Load => check_load(library, input, tally),
+        Call::InsertInFull | Call::DeleteInFull => check_in_full(library, input, tally),
+    }
+}
+
+fn same(what: &str, seen: Seen, expected: Seen) -> Result<(), Mismatch> {
+    if seen == expected {
+        return Ok(());
+    }
+    let mut parts = Vec::new();
+    let mut note = |part: &str, differs: bool| {
+        if differs {
+            parts.push(part.to_string());
+        }
+    };
+    note("result", seen.result != expected.result);
+    note("cells", seen.cells != expected.cells);
+    note("table", seen.table != expected.table);
+    note("plan", seen.plan != expected.plan);
+    note("image", seen.image != expected.image);
+    note("guards", seen.guards_hold != expected.guards_hold);
+    Err(Mismatch::of(format!("{what}: {}", parts.join(", ")), seen, expected))
+}
+
+/// What is seen of a call that changes nothing; `cells` cells with their first contents.
+fn untouched(input: &Input, cells: usize) -> Seen {
+    Seen {
+        result: 0,
+        cells: (0..cells).map(|cell| CELL_START + cell as u32).collect(),
+        table: input.table.clone(),
+        plan: Vec::new(),
+        image: Vec::new(),
+        guards_hold: true,
+    }
+}
+
+/// A refusal of a call whose last cell is the spot.
+fn refused(mut seen: Seen, refusal: Refusal) -> Seen {
+    seen.result = u64::from(refusal.number);
+    *seen.cells.last_mut().unwrap() = refusal.spot as u32;
+    seen
+}
+
+fn check_lookup(library: &Guarded, input: &Input, key: u128, tally: &mut Tally) -> Result<Option<Found>, Mismatch> {
+    let answer = lookup(&input.table, key);
+    let mut expected = untouched(input, 4);
+    match answer {
+        Ok(Found::Hit { slot, id, action }) => {
+            expected.cells[..3].copy_from_slice(&[slot as u32, id, action]);
+            tally.count(Call::Lookup, "hit");
+        }
+        Ok(Found::Miss) => {
+            expected.cells[..3].copy_from_slice(&[0, 0, 0]);
+            tally.count(Call::Lookup, "miss");
+        }
+        Err(refusal) => {
+            expected = refused(expected, refusal);
+            tally.refusal(Call::Lookup, refusal.number);
+        }
+    }
+    same("lookup", library.lookup(input, key), expected)?;
+    Ok(answer.ok())
+}
+
+fn expected_slot_record(input: &Input) -> Seen {
+    let part = slot_record(&input.table, u64::from(input.slot));
+    let mut expected = untouched(input, 1);
+    expected.result = part.len() as u64;
+    expected.cells[0] = part.start as u32;
+    expected
+}
+
+/// An insert's or a delete's plan, as far as the call is the one or the other.
+fn check_plan(library: &Guarded, input: &Input, tally: &mut Tally) -> Result<Option<Vec<u32>>, Mismatch> {
+    let is_insert = matches!(input.call, Call::PlanInsert | Call::InsertInFull);
+    let (call, answer) = if is_insert {
+        (Call::PlanInsert, plan_insert(&input.table, &input.rule, input.room))
+    } else {
+        (Call::PlanDelete, plan_delete(&input.table, input.rule.id, input.room))
+    };
+    let mut expected = untouched(input, 2);
+    expected.plan = initial_words(input.room);
+    match &answer {
+        Ok(writes) => {
+            expected.cells[0] = writes.len() as u32;
+            expected.plan[..writes.len()].copy_from_slice(writes);
+            tally.plan(call, writes);
+        }
+        Err(refusal) => {
+            expected = refused(expected, *refusal);
+            tally.refusal(call, refusal.number);
+        }
+    }
+    let seen = if is_insert { library.plan_insert(input) } else { library.plan_delete(input) };
+    same(if is_insert { "plan_insert" } else { "plan_delete" }, seen, expected)?;
+    Ok(answer.ok())
+}
+
+/// One write; table and progress of the input are advanced as the reference says.
+fn check_carry_out(library: &Guarded, input: &mut Input, tally: &mut Tally) -> Result<Option<Carried>, Mismatch> {
+    let mut progress = Progress { done: input.done, total: input.total };
+    let mut table = input.table.clone();
+    let answer = carry_out(&mut table, &input.plan, &input.rule, &mut progress);
+    let result = match answer {
+        Ok(Carried::Wrote) => 0,
+        Ok(Carried::Finished) => FINISHED,
+        Err(refusal) => u64::from(refusal.number) + (refusal.spot << 32),
+    };
+    tally.carried(input, &answer);
+    let mut expected = untouched(input, 0);
+    expected.result = result;
+    expected.cells = vec![progress.done, progress.total];
+    expected.table = table.clone();
+    expected.plan = input.plan.clone();
+    same("carry_out", library.carry_out(input), expected)?;
+    input.table = table;
+    input.done = progress.done;
+    Ok(answer.ok())
+}
+
+fn check_save(library: &Guarded, input: &Input, tally: &mut Tally) -> Result<(), Mismatch> {
+    let mut expected = untouched(input, 2);
+    expected.image = initial_bytes(input.room);
+    match save(&input.table, input.room) {
+        Ok(bytes) => {
+            expected.cells[0] = bytes.len() as u32;
+            expected.image[..bytes.len()].copy_from_slice(&bytes);
+            tally.count(Call::Save, "saved");
+        }
+        Err(refusal) => {
+            expected = refused(expected, refusal);
+            tally.refusal(Call::Save, refusal.number);
+        }
+    }
+    same("save", library.save(input), expected)
+}
+
+/// A table that loads is saved again to the same bytes, on the reference.
+fn check_load(library: &Guarded, input: &Input, tally: &mut Tally) -> Result<(), Mismatch> {
+    let mut expected = untouched(input, 1);
+    expected.image = input.image.clone();
+    match load(&input.image, input.table.len()) {
+        Ok(table) => {
+            let again = save(&table, input.image.len());
+            if again.as_ref() != Ok(&input.image) {
+                return Err(Mismatch::of("the reference saves other bytes".to_string(), &input.image, again));
+            }
+            expected.table = table;
+            tally.count(Call::Load, "loaded");
+        }
+        Err(refusal) => {
+            expected = refused(expected, refusal);
+            tally.loading(refusal, &input.image);
+        }
+    }
+    same("load", library.load(input), expected)
+}
+
+/// The reply that the demands promise: the highest-priority matching rule of a set, whatever the layout.
+fn reply_of_rules<'a>(rules: impl Iterator<Item = &'a Rule>, key: u128) -> Option<(u32, u32)> {
+    rules.filter(|rule| rule.matches(key)).max_by_key(|rule| rule.priority).map(|rule| (rule.id, rule.action))
+}
+
+/// Plans, then carries out write by write. Before the last write each key has its old reply, after it its new one.
+fn check_in_full(library: &Guarded, input: &Input, tally: &mut Tally) -> Result<(), Mismatch> {
+    let Some(writes) = check_plan(library, input, tally)? else { return Ok(()) };
+    let old_rules: Vec<Rule> = read_slots(&input.table).expect("a planned table is sound").into_iter().flatten().collect();
+    let is_delete = input.call == Call::DeleteInFull;
+    let mut new_rules: Vec<Rule> = old_rules.iter().filter(|rule| !is_delete || rule.id != input.rule.id).copied().collect();
+    if !is_delete {
+        new_rules.push(input.rule);
+    }
+    let mut state = input.clone();
+    state.call = Call::CarryOut;
+    state.plan = initial_words(input.room);
+    state.plan[..writes.len()].copy_from_slice(&writes);
+    state.done = 0;
+    state.total = writes.len() as u32;
+    loop {
+        let rules = if state.done < state.total { &old_rules } else { &new_rules };
+        check_state(library, &state, rules, tally)?;
+        match check_carry_out(library, &mut state, tally)? {
+            Some(Carried::Wrote) => {}
+            Some(Carried::Finished) => break,
+            None => {
+                return Err(Mismatch::of(
+                    "the library's plan does not fit, by the reference".to_string(),
+                    &state.plan,
+                    state.done,
+                ))
+            }
+        }
+    }
+    if state.done != state.total {
+        return Err(Mismatch::of("finished too early".to_string(), state.done, state.total));
+    }
+    Ok(())
+}
+
+/// Order and replies between two writes.
+fn check_state(library: &Guarded, state: &Input, rules: &[Rule], tally: &mut Tally) -> Result<(), Mismatch> {
+    let slots: Vec<Slot> = read_slots(&state.table).expect("copies of sound records are sound");
+    let is_small = state.table.len() <= SLOTS_ALWAYS_TESTED * RECORD_WORDS;
+    if is_small || state.done % 256 == 0 || state.done == state.total {
+        if let Some(slot) = first_out_of_order(&slots) {
+            return Err(Mismatch::of(format!("out of order after {} writes", state.done), slot, &state.plan));
+        }
+        for &key in &state.keys {
+            let found = check_lookup(library, state, key, tally)?.expect("the records are sound");
+            tally.lookups_between += 1;
+            let promised = reply_of_rules(rules.iter(), key);
+            if found.reply() != promised {
+                return Err(Mismatch::of(format!("reply after {} writes", state.done), found, promised));
+            }
+        }
+    }
+    Ok(())
+}

@@ -1,0 +1,66 @@
+// One input of the differential test: a call and everything handed to it, in one flat record that can be made smaller.
+// Buffers that a call only writes start with known contents, so that words left as they were can be told.
+
+use reference::table::Rule;
+
+#[derive(Clone, Copy, Debug, PartialEq, Eq, PartialOrd, Ord)]
+pub enum Call {
+    Lookup,
+    SlotRecord,
+    PlanInsert,
+    PlanDelete,
+    CarryOut,
+    Save,
+    Load,
+    /// An insert planned and carried out write by write, with lookups between the writes.
+    InsertInFull,
+    /// The same for a delete.
+    DeleteInFull,
+}
+
+#[derive(Clone, Debug, PartialEq, Eq)]
+pub struct Input {
+    pub call: Call,
+    pub table: Vec<u64>,
+    /// The new rule; its id is also the id to delete.
+    pub rule: Rule,
+    pub keys: Vec<u128>,
+    pub slot: u32,
+    /// Length of the lent plan buffer in words, or of the image buffer in bytes.
+    pub room: usize,
+    pub plan: Vec<u32>,
+    pub done: u32,
+    pub total: u32,
+    pub image: Vec<u8>,
+    pub fence_after: bool,
+}
+
+impl Input {
+    pub fn new(call: Call, table: Vec<u64>, fence_after: bool) -> Input {
+        let rule = Rule { id: 0, priority: 0, value: 0, mask: 0, action: 0 };
+        Input {
+            call,
+            table,
+            rule,
+            keys: Vec::new(),
+            slot: 0,
+            room: 0,
+            plan: Vec::new(),
+            done: 0,
+            total: 0,
+            image: Vec::new(),
+            fence_after,
+        }
+    }
+}
+
+/// Cell number k starts with this plus k.
+pub const CELL_START: u32 = 0xce11_0000;
+
+pub fn initial_words(count: usize) -> Vec<u32> {
+    (0..count).map(|place| 0xb0ff_0000 + place as u32).collect()
+}
+
+pub fn initial_bytes(count: usize) -> Vec<u8> {
+    (0..count).map(|place| (place % 251) as u8 ^ 0xb0).collect()
+}

@@ -1,0 +1,469 @@
+// How inputs are made: sound tables of every fill and layout, damage to them, arbitrary words, plans and images.
+// Rules use few bit positions, so that overlaps, ties and crossings are frequent and plans long.
+
+use crate::input::{Call, Input};
+use reference::image::save;
+use reference::plan::{plan_insert, write_word, EMPTYING, PUT_IN};
+use reference::table::{read_slots, words_of, Rule, Slot, RECORD_WORDS};
+use support::random::Random;
+
+/// How the patterns of a table are made.
+#[derive(Clone, Copy, PartialEq)]
+enum Style {
+    /// Rule k overlaps rules k - 1 and k + 1 only: two neighbours of a Gray code, the bit that differs uncared for.
+    Path,
+    /// Prefixes of few values: nested or apart.
+    Prefix,
+    /// Each bit 0, 1 or uncared for.
+    Mixed,
+    /// Mask 0 or nearly: every pair overlaps.
+    Wild,
+    /// Random words of 128 bits, few bits cared for.
+    Wide,
+}
+
+struct Maker<'a> {
+    random: &'a mut Random,
+    style: Style,
+    /// The bit positions in use.
+    bits: Vec<u32>,
+}
+
+pub fn make_input(random: &mut Random) -> Input {
+    let fence_after = random.one_in(2);
+    let slots = slot_count(random);
+    let style = random.pick(&[Style::Path, Style::Path, Style::Prefix, Style::Mixed, Style::Mixed, Style::Wild, Style::Wide]);
+    let mut maker = Maker { bits: bit_positions(random), style, random };
+    let mut table = maker.sound_table(slots);
+    let new = maker.new_rule(&table);
+    let call = maker.random.pick(CALLS);
+    if call == Call::InsertInFull || call == Call::DeleteInFull {
+        let mut input = Input::new(call, words_of(&table), fence_after);
+        input.rule = if call == Call::DeleteInFull { maker.present_rule(&table).unwrap_or(new) } else { new };
+        input.keys = (0..4).map(|_| maker.key(&table, &input.rule)).collect();
+        input.room = slots + maker.random.below(3);
+        return input;
+    }
+    if matches!(call, Call::Lookup | Call::SlotRecord | Call::CarryOut) && maker.random.one_in(2) {
+        maker.add_copies(&mut table);
+    }
+    let mut input = Input::new(call, words_of(&table), fence_after);
+    input.rule = new;
+    if maker.random.one_in(3) {
+        maker.damage(&mut input.table);
+    }
+    maker.fill_in(&mut input, &table);
+    input
+}
+
+/// The calls that are made, by how often.
+const CALLS: &[Call] = &[
+    Call::Lookup,
+    Call::SlotRecord,
+    Call::PlanInsert,
+    Call::PlanInsert,
+    Call::PlanInsert,
+    Call::PlanDelete,
+    Call::CarryOut,
+    Call::CarryOut,
+    Call::InsertInFull,
+    Call::InsertInFull,
+    Call::InsertInFull,
+    Call::DeleteInFull,
+    Call::Save,
+    Call::Load,
+];
+
+fn slot_count(random: &mut Random) -> usize {
+    if random.one_in(1500) {
+        return random.pick(&[1022, 1023, 1024, 1024, 1024]);
+    }
+    if random.one_in(25) {
+        return random.between(13, 64);
+    }
+    random.between(1, 12)
+}
+
+/// Up to seven positions, often the ends of the words.
+fn bit_positions(random: &mut Random) -> Vec<u32> {
+    let mut bits: Vec<u32> = Vec::new();
+    let count = random.pick(&[1, 2, 3, 3, 4, 4, 5, 7]);
+    while bits.len() < count {
+        let bit = if random.one_in(2) { random.pick(&[0, 1, 31, 32, 63, 64, 65, 126, 127]) } else { random.below(128) as u32 };
+        if !bits.contains(&bit) {
+            bits.push(bit);
+        }
+    }
+    bits
+}
+
+impl Maker<'_> {
+    /// A number over the positions in use: bit k of `small` at position k.
+    fn spread(&self, small: usize) -> u128 {
+        self.bits.iter().enumerate().filter(|(place, _)| small >> place & 1 == 1).map(|(_, &bit)| 1u128 << bit).sum()
+    }
+
+    /// Any number over the positions in use.
+    fn some_bits(&mut self) -> u128 {
+        let small = self.random.below(1 << self.bits.len());
+        self.spread(small)
+    }
+
+    /// Value and mask of a rule; `place` is where it stands among the rules of a path.
+    fn pattern(&mut self, place: usize) -> (u128, u128) {
+        let all = 1 << self.bits.len();
+        match self.style {
+            Style::Path => {
+                let gray = |number: usize| number ^ number >> 1;
+                let (here, next) = (gray(place % all), gray((place + 1) % all));
+                let mask = self.spread(all - 1) & !self.spread(here ^ next);
+                (self.spread(here) & mask, mask)
+            }
+            Style::Prefix => {
+                let length = self.random.below(self.bits.len() + 1);
+                let mask = self.spread((1 << length) - 1);
+                (self.some_bits() & mask, mask)
+            }
+            Style::Mixed => {
+                let mask = self.some_bits();
+                (self.some_bits() & mask, mask)
+            }
+            Style::Wild => {
+                let mask = if self.random.one_in(4) { self.spread(1) } else { 0 };
+                (self.some_bits() & mask, mask)
+            }
+            Style::Wide => {
+                let mask = self.random.wide() & self.random.wide() & self.random.wide() & self.random.wide();
+                (self.random.wide() & mask, mask)
+            }
+        }
+    }
+
+    /// A sound table: patterns and ids at random, then priorities from the last slot to the first, each higher than
+    /// those of the later rules it overlaps.
+    fn sound_table(&mut self, slots: usize) -> Vec<Slot> {
+        let occupied = self.occupied(slots);
+        let mut ids: Vec<u32> = (1..=slots as u32).collect();
+        self.random.shuffle(&mut ids);
+        let id_step = self.random.pick(&[1, 1, 1, 65_536, 4_194_303]);
+        let path_start = self.random.below(4);
+        let mut table: Vec<Slot> = vec![None; slots];
+        let spread = self.random.pick(&[1, 1, 2, 3, 20]);
+        let mut path_place = path_start;
+        for slot in 0..slots {
+            if occupied[slot] {
+                let (value, mask) = self.pattern(path_place);
+                let action = if self.random.one_in(3) { self.random.word() as u32 } else { self.random.below(4) as u32 };
+                table[slot] = Some(Rule { id: ids[slot] * id_step, priority: 0, value, mask, action });
+                path_place += if self.random.one_in(8) { 2 } else { 1 };
+            }
+        }
+        self.give_priorities(&mut table, spread);
+        table
+    }
+
+    fn give_priorities(&mut self, table: &mut [Slot], spread: usize) {
+        let mut highest = 0;
+        for slot in (0..table.len()).rev() {
+            let Some(rule) = table[slot] else { continue };
+            let above =
+                table[slot + 1..].iter().flatten().filter(|later| later.overlaps(&rule)).map(|later| later.priority + 1).max();
+            let priority = above.unwrap_or(0) + self.random.below(spread) as u64;
+            table[slot].as_mut().unwrap().priority = priority;
+            highest = highest.max(priority);
+        }
+        let factor = self.random.pick(&[1, 2, 2, 2, 10]);
+        if highest * factor <= 65_535 {
+            let top = if self.random.one_in(8) { 65_535 - highest * factor } else { 0 };
+            for rule in table.iter_mut().flatten() {
+                rule.priority = rule.priority * factor + top;
+            }
+        }
+    }
+
+    /// Which slots hold a rule: none, all, all but one or two, a block, or each by chance.
+    fn occupied(&mut self, slots: usize) -> Vec<bool> {
+        match self.random.below(16) {
+            0 => vec![false; slots],
+            1 => vec![true; slots],
+            2..=10 => {
+                let mut occupied = vec![true; slots];
+                let any = self.random.below(slots);
+                occupied[self.random.pick(&[0, slots - 1, any])] = false;
+                if self.random.one_in(4) {
+                    let other = self.random.below(slots);
+                    occupied[other] = false;
+                }
+                occupied
+            }
+            11 => {
+                let first = self.random.below(slots);
+                let last = self.random.between(first, slots - 1);
+                (0..slots).map(|slot| slot >= first && slot <= last).collect()
+            }
+            _ => {
+                let fill = self.random.between(1, 9);
+                (0..slots).map(|_| self.random.below(10) < fill).collect()
+            }
+        }
+    }
+
+    /// A rule to insert: mostly of the table's style and of a priority that leaves it uncrossed somewhere.
+    fn new_rule(&mut self, table: &[Slot]) -> Rule {
+        let place = self.random.below(table.len() + 2);
+        let (value, mask) = self.pattern(place);
+        let mut rule = Rule { id: 0, priority: 0, value, mask, action: self.random.word() as u32 };
+        rule.id = self.new_id(table);
+        let priorities: Vec<u64> =
+            table.iter().flatten().filter(|other| other.overlaps(&rule)).map(|other| other.priority).collect();
+        let near = if priorities.is_empty() { self.random.below(40) as u64 } else { self.random.pick(&priorities) };
+        rule.priority = match self.random.below(12) {
+            0 => near,
+            1 => self.random.pick(&[0, 1, 65_534, 65_535, 65_535, 65_536, 65_537, 1 << 17, u64::from(u32::MAX)]),
+            2 => self.random.below(65_536) as u64,
+            3..=7 => near + 1,
+            _ => near.saturating_sub(1),
+        };
+        if self.random.one_in(60) {
+            rule.value ^= 1 << self.random.below(128);
+        }
+        rule
+    }
+
+    fn new_id(&mut self, table: &[Slot]) -> u32 {
+        if self.random.one_in(80) {
+            return 0;
+        }
+        if self.random.one_in(30) {
+            if let Some(rule) = self.present_rule(table) {
+                return rule.id;
+            }
+        }
+        let mut id = if self.random.one_in(2) { u32::MAX } else { self.random.word() as u32 | 1 };
+        while table.iter().flatten().any(|rule| rule.id == id) {
+            id = id.wrapping_sub(2);
+        }
+        id
+    }
+
+    fn present_rule(&mut self, table: &[Slot]) -> Option<Rule> {
+        let rules: Vec<Rule> = table.iter().flatten().copied().collect();
+        if rules.is_empty() {
+            None
+        } else {
+            Some(self.random.pick(&rules))
+        }
+    }
+
+    /// A key that matches some rule, nearly matches one, or is anything.
+    fn key(&mut self, table: &[Slot], new: &Rule) -> u128 {
+        let rule = self.present_rule(table).unwrap_or(*new);
+        let rule = if self.random.one_in(3) { *new } else { rule };
+        let some_bits = self.some_bits();
+        let elsewhere = if self.random.one_in(2) { self.random.wide() } else { 0 };
+        match self.random.below(6) {
+            0 => self.random.wide(),
+            1 => some_bits,
+            2 => rule.value ^ 1 << self.random.below(128),
+            _ => rule.value | (some_bits | elsewhere) & !rule.mask,
+        }
+    }
+
+    /// Copies of rules in empty slots or over other copies, as in the middle of a plan.
+    fn add_copies(&mut self, table: &mut [Slot]) {
+        for _ in 0..self.random.between(1, 3) {
+            let (from, to) = (self.random.below(table.len()), self.random.below(table.len()));
+            if table[to].is_none() || self.random.one_in(3) {
+                table[to] = table[from];
+            }
+        }
+    }
+
+    fn damage(&mut self, words: &mut Vec<u64>) {
+        let slots = words.len() / RECORD_WORDS;
+        let record = RECORD_WORDS * self.random.below(slots);
+        match self.random.below(14) {
+            0..=3 => {
+                let word = self.random.below(words.len());
+                words[word] ^= 1 << self.random.below(64);
+            }
+            4 => words.truncate(words.len() - self.random.between(1, 6)),
+            5 => words.extend(vec![0; self.random.between(1, 6)]),
+            6 => *words = vec![0; self.random.pick(&[0, 1, 5, 7, 6 * 1024 + 1, 6 * 1025, 6 * 1024 - 1])],
+            7 => words[record + 4] &= 0xffff_ffff,
+            8 => words[record + 5] = self.random.pick(&[65_535, 65_536, 1 << 32, 1 << 63, u64::MAX]),
+            9 => {
+                let other = RECORD_WORDS * self.random.below(slots);
+                for word in 0..RECORD_WORDS {
+                    words.swap(record + word, other + word);
+                }
+            }
+            10 => {
+                let other = RECORD_WORDS * self.random.below(slots);
+                words[other + 4] = words[record + 4];
+            }
+            11 => words[record + 5] = words[record + 5].wrapping_add(1),
+            12 => words.iter_mut().for_each(|word| *word = self.random.word()),
+            _ => {
+                for word in words.iter_mut() {
+                    let any = self.random.any_word();
+                    *word = self.random.pick(&[0, 0, 0, 1, 1 << 32, 3, any]);
+                }
+            }
+        }
+    }
+
+    /// What the call needs beside the table and the rule.
+    fn fill_in(&mut self, input: &mut Input, table: &[Slot]) {
+        let slots = table.len();
+        match input.call {
+            Call::Lookup => input.keys = (0..3).map(|_| self.key(table, &input.rule)).collect(),
+            Call::SlotRecord => input.slot = self.slot_number(slots) as u32,
+            Call::PlanInsert => {
+                input.room = match self.random.below(4) {
+                    0 => self.random.below(slots + 2),
+                    1 => self.random.below(3),
+                    _ => slots + self.random.below(2),
+                }
+            }
+            Call::PlanDelete => {
+                if !self.random.one_in(8) {
+                    input.rule.id = self.present_rule(table).map_or(input.rule.id, |rule| rule.id);
+                }
+                input.room = self.random.pick(&[0, 1, 1, 2, 9]);
+            }
+            Call::CarryOut => self.plan_to_carry_out(input, slots),
+            Call::Save => {
+                let needed = 4 + 50 * table.iter().flatten().count();
+                input.room = match self.random.below(4) {
+                    0 => self.random.below(needed + 1),
+                    1 => needed.saturating_sub(1),
+                    2 => needed,
+                    _ => needed + self.random.below(60),
+                }
+            }
+            Call::Load => self.image_to_load(input, table),
+            Call::InsertInFull | Call::DeleteInFull => {}
+        }
+    }
+
+    fn slot_number(&mut self, slots: usize) -> u64 {
+        match self.random.below(10) {
+            0 => self.random.pick(&[1023, 1024, 65_535, 65_533, 1 << 31, u64::from(u32::MAX), 715_827_883]),
+            1 => slots as u64,
+            _ => self.random.below(slots) as u64,
+        }
+    }
+
+    /// A plan of the library's kind or a foreign one, with progress at its start, within it, or wrong.
+    fn plan_to_carry_out(&mut self, input: &mut Input, slots: usize) {
+        if self.random.one_in(4) {
+            if let Ok(plan) = plan_insert(&input.table, &input.rule, slots) {
+                input.plan = plan;
+            }
+        }
+        for _ in 0..self.random.below(5) {
+            let from = match self.random.below(4) {
+                0 => PUT_IN,
+                1 => EMPTYING,
+                _ => (self.slot_number(slots) & 0xffff) as u32,
+            };
+            input.plan.push(write_word(from, (self.slot_number(slots) & 0xffff) as usize));
+        }
+        if self.random.one_in(10) {
+            input.plan.push(self.random.word() as u32);
+        }
+        let words = input.plan.len();
+        match self.random.below(10) {
+            0 => {
+                input.total = self.random.pick(&[words as u32 + 1, u32::MAX, 1, 0]);
+                input.done = self.random.pick(&[0, 1, words as u32, u32::MAX, u32::MAX - 1]);
+            }
+            1 => {
+                input.total = self.random.below(words + 1) as u32;
+                input.done = self.random.below(words + 2) as u32;
+            }
+            _ => {
+                input.total = words as u32;
+                input.done = self.random.below(words + 1) as u32;
+            }
+        }
+    }
+
+    /// An image of a table of this many slots, whole or damaged, for a lent table full of anything.
+    fn image_to_load(&mut self, input: &mut Input, table: &[Slot]) {
+        let mut meant = table.to_vec();
+        let spoil_table = self.random.below(10);
+        if spoil_table == 0 {
+            self.random.shuffle(&mut meant);
+        }
+        input.image = image_of(&meant, meant.len());
+        if spoil_table == 1 {
+            let (from, to) = (self.random.below(table.len()), self.random.below(table.len()));
+            meant[to] = meant[from];
+            input.image = image_of(&meant, meant.len());
+        }
+        if read_slots(&input.table).is_ok() && self.random.one_in(2) {
+            input.table.iter_mut().for_each(|word| *word = self.random.any_word());
+        }
+        if self.random.one_in(3) {
+            return;
+        }
+        for _ in 0..self.random.pick(&[1, 1, 1, 2]) {
+            self.damage_image(&mut input.image);
+        }
+    }
+
+    fn damage_image(&mut self, image: &mut Vec<u8>) {
+        let rules = image.len() / 50;
+        if image.is_empty() {
+            return;
+        }
+        let entry = 4 + 10 * self.random.below(rules.max(1));
+        let body = 4 + 10 * rules + 40 * self.random.below(rules.max(1));
+        let field = match self.random.below(10) {
+            0 => return image.truncate(self.random.below(image.len())),
+            1 => return image.extend(vec![0; self.random.pick(&[1, 2, 49, 50])]),
+            2 => self.random.below(4),
+            3 => entry + 3,
+            4 => entry + 5,
+            5 => entry + 6 + self.random.below(4),
+            6 => body + self.random.below(32),
+            7 => body + 32 + self.random.below(4),
+            8 => entry + self.random.below(4),
+            _ => self.random.below(image.len()),
+        };
+        if field < image.len() {
+            image[field] = match self.random.below(4) {
+                0 => 0,
+                1 => image[field] ^ 1 << self.random.below(8),
+                2 => image[field].wrapping_add(1),
+                _ => self.random.word() as u8,
+            };
+        }
+    }
+}
+
+/// The bytes that an image of these slots would have, sound or not.
+fn image_of(slots: &[Slot], count: usize) -> Vec<u8> {
+    if let Ok(image) = save(&words_of(slots), usize::MAX) {
+        return image;
+    }
+    let rules: Vec<(usize, &Rule)> =
+        slots.iter().enumerate().filter_map(|(slot, entry)| entry.as_ref().map(|rule| (slot, rule))).collect();
+    let mut image = Vec::new();
+    image.extend((count as u16).to_be_bytes());
+    image.extend((rules.len() as u16).to_be_bytes());
+    for (place, (slot, rule)) in rules.iter().enumerate() {
+        image.extend(rule.id.to_be_bytes());
+        image.extend((*slot as u16).to_be_bytes());
+        image.extend((4 + 10 * rules.len() as u32 + 40 * place as u32).to_be_bytes());
+    }
+    for (_, rule) in rules {
+        image.extend(rule.value.to_be_bytes());
+        image.extend(rule.mask.to_be_bytes());
+        image.extend((rule.priority as u32).to_be_bytes());
+        image.extend(rule.action.to_be_bytes());
+    }
+    image
+}

@@ -1,0 +1,210 @@
+// Document 01's tables at the edge and its traps, on the reference.
+// Tables are written as lists of slots with rules by id, priority and pattern.
+
+use crate::carry::{carry_out, Carried, Progress};
+use crate::lookup::{lookup, slot_record, Found};
+use crate::plan::{plan_delete, plan_insert, write_word, EMPTYING, PUT_IN};
+use crate::table::*;
+
+pub fn rule(id: u32, priority: u64, pattern: &str) -> Rule {
+    let bits = |wanted: &str| {
+        let set = |place: usize| if wanted.contains(&pattern[place..place + 1]) { 1u128 << (127 - place) } else { 0 };
+        (0..pattern.len()).map(set).sum()
+    };
+    Rule { id, priority, value: bits("1"), mask: bits("01"), action: id + 100 }
+}
+
+fn refused<T>(number: u32, spot: u64) -> Result<T, Refusal> {
+    Err(Refusal { number, spot })
+}
+
+fn put(to: usize) -> u32 {
+    write_word(PUT_IN, to)
+}
+
+/// The plan for `new`, carried out, with order tested after each write.
+fn plan_of(slots: &[Slot], new: &Rule) -> Result<Vec<u32>, Refusal> {
+    let mut words = words_of(slots);
+    let plan = plan_insert(&words, new, slots.len())?;
+    let mut progress = Progress { done: 0, total: plan.len() as u32 };
+    while carry_out(&mut words, &plan, new, &mut progress)? == Carried::Wrote {
+        assert_eq!(first_out_of_order(&read_slots(&words).unwrap()), None);
+    }
+    assert!(read_sound_table(&words).is_ok());
+    Ok(plan)
+}
+
+#[test]
+fn one_slot() {
+    assert_eq!(plan_of(&[None], &rule(1, 5, "1")), Ok(vec![put(0)]));
+    assert_eq!(plan_of(&[Some(rule(1, 5, "1"))], &rule(2, 6, "1")), refused(FULL, 0));
+}
+
+#[test]
+fn displaced_rule_may_pass_its_near_neighbour() {
+    let a = rule(1, 40, "*0*");
+    let other = rule(2, 10, "01*");
+    let c = rule(3, 30, "1**");
+    let d = rule(4, 20, "11*");
+    let slots = [Some(a), Some(other), Some(c), Some(d), None];
+    assert_eq!(plan_of(&slots, &rule(5, 50, "00*")), Ok(vec![write_word(1, 4), write_word(0, 1), put(0)]));
+}
+
+#[test]
+fn upward_chain_and_tie_of_directions() {
+    let a = rule(1, 30, "1");
+    let b = rule(2, 10, "1");
+    let new = rule(3, 20, "1");
+    assert_eq!(plan_of(&[None, Some(a), Some(b)], &new), Ok(vec![write_word(1, 0), put(1)]));
+    assert_eq!(plan_of(&[None, Some(a), Some(b), None], &new), Ok(vec![write_word(2, 3), put(2)]));
+}
+
+#[test]
+fn slot_of_the_nearest_dependant_is_used() {
+    let a = rule(1, 30, "1");
+    let b = rule(2, 20, "1");
+    let new = rule(3, 40, "1");
+    assert_eq!(plan_of(&[Some(a), Some(b), None], &new), Ok(vec![write_word(1, 2), write_word(0, 1), put(0)]));
+}
+
+#[test]
+fn priorities_of_apart_rules_are_not_compared() {
+    let low = rule(1, 1, "0");
+    let high = rule(2, 60_000, "1");
+    assert!(read_sound_table(&words_of(&[Some(low), Some(high)])).is_ok());
+    assert_eq!(plan_of(&[Some(low), None, Some(high)], &rule(3, 30_000, "0")), Ok(vec![write_word(0, 1), put(0)]));
+}
+
+#[test]
+fn short_buffer() {
+    let slots = [None, Some(rule(1, 30, "1")), Some(rule(2, 10, "1"))];
+    assert_eq!(plan_insert(&words_of(&slots), &rule(3, 20, "1"), 1), refused(SHORT, 2));
+    assert_eq!(plan_delete(&words_of(&slots), 2, 0), refused(SHORT, 1));
+}
+
+#[test]
+fn deletes() {
+    let words = words_of(&[None, Some(rule(1, 30, "1"))]);
+    assert_eq!(plan_delete(&words, 1, 5), Ok(vec![write_word(EMPTYING, 1)]));
+    assert_eq!(plan_delete(&words, 9, 5), refused(UNKNOWN, 0));
+    assert_eq!(plan_delete(&words, 0, 5), refused(RULE, 0));
+}
+
+#[test]
+fn slot_counts() {
+    assert_eq!(plan_insert(&[0; 6 * 1024], &rule(1, 1, "1"), 1), Ok(vec![put(0)]));
+    for count in [0, 1, 5, 7, 6 * 1025] {
+        assert_eq!(plan_insert(&vec![0; count], &rule(1, 1, "1"), 1), refused(SHAPE, 0));
+        assert_eq!(lookup(&vec![0; count], 0), refused(SHAPE, 0));
+    }
+}
+
+#[test]
+fn priorities_at_the_edge() {
+    assert_eq!(plan_of(&[None], &rule(1, 65_535, "1")), Ok(vec![put(0)]));
+    assert_eq!(plan_of(&[None], &rule(1, 65_536, "1")), refused(RULE, 0));
+    let mut words = words_of(&[None, Some(rule(1, 65_535, "1"))]);
+    assert!(read_slots(&words).is_ok());
+    words[11] = 65_536;
+    assert_eq!(read_slots(&words), refused(RECORD, 1));
+}
+
+#[test]
+fn mask_of_zero_overlaps_every_rule() {
+    let all = rule(1, 5, "");
+    for pattern in ["", "0", "1", "*1*0"] {
+        assert!(all.overlaps(&rule(2, 5, pattern)) && rule(2, 5, pattern).overlaps(&all));
+    }
+    assert!(all.matches(0) && all.matches(u128::MAX));
+}
+
+#[test]
+fn unsound_rules() {
+    let mut outside = rule(1, 5, "10");
+    outside.value |= 1;
+    assert_eq!(plan_of(&[None], &outside), refused(RULE, 0));
+    assert_eq!(plan_of(&[None], &rule(0, 5, "1")), refused(RULE, 0));
+}
+
+#[test]
+fn table_checks_name_the_lowest_slot_of_the_first_check() {
+    let twice = [Some(rule(1, 9, "1")), Some(rule(2, 9, "1")), Some(rule(1, 5, "0"))];
+    assert_eq!(read_sound_table(&words_of(&twice)), refused(TWICE, 2));
+    let order = [Some(rule(1, 9, "1")), Some(rule(2, 9, "1")), Some(rule(3, 99, "1"))];
+    assert_eq!(read_sound_table(&words_of(&order)), refused(ORDER, 1));
+    let mut id_zero = words_of(&twice);
+    id_zero[4] = 7;
+    assert_eq!(read_sound_table(&id_zero), refused(RECORD, 0));
+}
+
+#[test]
+fn known_tie_crossed() {
+    let high = rule(1, 9, "11");
+    let low = rule(2, 3, "10");
+    assert_eq!(plan_of(&[Some(low), Some(high), None], &rule(2, 5, "1")), refused(KNOWN, 0));
+    assert_eq!(plan_of(&[Some(low), Some(high), None], &rule(3, 3, "1")), refused(TIE, 0));
+    assert_eq!(plan_of(&[Some(low), Some(high), None], &rule(3, 5, "1")), refused(CROSSED, 1));
+    assert_eq!(plan_of(&[Some(low), Some(high)], &rule(3, 5, "1")), refused(FULL, 0));
+}
+
+#[test]
+fn lookup_takes_the_lowest_slot_even_out_of_order() {
+    let words = words_of(&[None, Some(rule(1, 3, "1")), Some(rule(2, 9, "1"))]);
+    assert_eq!(lookup(&words, 1 << 127), Ok(Found::Hit { slot: 1, id: 1, action: 101 }));
+    assert_eq!(lookup(&words, 0), Ok(Found::Miss));
+    assert_eq!(slot_record(&words, 1), 6..12);
+    assert_eq!(slot_record(&words, 0), 0..0);
+    assert_eq!(slot_record(&words, 3), 0..0);
+    assert_eq!(slot_record(&words[1..], 1), 0..0);
+}
+
+/// One call of carrying out, with what it answers and how far it gets.
+fn carried(slots: &[Slot], plan: &[u32], new: &Rule, done: u32, total: u32) -> (Result<Carried, Refusal>, Vec<u64>, u32) {
+    let mut words = words_of(slots);
+    let mut progress = Progress { done, total };
+    let answer = carry_out(&mut words, plan, new, &mut progress);
+    (answer, words, progress.done)
+}
+
+#[test]
+fn progress_is_tested_before_the_write() {
+    let slots = [Some(rule(1, 3, "1")), None];
+    let new = rule(2, 2, "1");
+    let same = words_of(&slots);
+    assert_eq!(carried(&slots, &[0], &new, 2, 1), (refused(WRITE, 2), same.clone(), 2));
+    assert_eq!(carried(&slots, &[0], &new, 0, 2), (refused(WRITE, 0), same.clone(), 0));
+    assert_eq!(carried(&slots, &[9, 9], &new, 1, 1), (Ok(Carried::Finished), same, 1));
+}
+
+#[test]
+fn writes_that_fit_and_that_do_not() {
+    let one = rule(1, 3, "1");
+    let two = rule(2, 4, "0");
+    let slots = [Some(one), None, Some(two), Some(one)];
+    let new = rule(3, 2, "1");
+    let answer = |write: u32| carried(&slots, &[write], &new, 0, 1).0;
+    for fits in [write_word(0, 1), write_word(2, 1), write_word(0, 3), write_word(2, 0), put(1), put(0), write_word(EMPTYING, 2)]
+    {
+        assert_eq!(answer(fits), Ok(Carried::Wrote));
+    }
+    let beyond = [write_word(0, 4), write_word(4, 1), write_word(65_533, 1), put(4), write_word(EMPTYING, 4)];
+    let others = [write_word(0, 0), write_word(1, 0), write_word(0, 2), put(2), write_word(EMPTYING, 1)];
+    for does_not in beyond.into_iter().chain(others) {
+        assert_eq!(answer(does_not), refused(WRITE, 0));
+    }
+}
+
+#[test]
+fn an_unsound_rule_counts_only_where_it_is_put_in() {
+    let slots = [Some(rule(1, 3, "1")), None];
+    let unsound = rule(0, 3, "1");
+    assert_eq!(carried(&slots, &[put(9)], &unsound, 0, 1).0, refused(RULE, 0));
+    assert_eq!(carried(&slots, &[write_word(0, 1)], &unsound, 0, 1).0, Ok(Carried::Wrote));
+}
+
+#[test]
+fn moving_the_near_rule_first_is_declined() {
+    let slots = [Some(rule(1, 30, "1")), Some(rule(2, 20, "1")), None];
+    let near_first = [write_word(0, 1), write_word(1, 2), put(0)];
+    assert_eq!(carried(&slots, &near_first, &rule(3, 40, "1"), 0, 3).0, refused(WRITE, 0));
+}

@@ -1,0 +1,16 @@
+// A second implementation of document 01, written from the paper alone: plain rather than fast.
+// The differential test, the exhaustive check and the bench compare the library with it.
+
+pub mod carry;
+pub mod image;
+pub mod lookup;
+pub mod plan;
+pub mod script;
+pub mod table;
+
+#[cfg(test)]
+mod edge_test;
+#[cfg(test)]
+mod image_test;
+#[cfg(test)]
+mod script_test;

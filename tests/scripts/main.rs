@@ -1,0 +1,107 @@
+// The script program against the reference: seeded scripts on its standard input, its output compared byte for byte.
+// Use: scripts [--scripts N] [--seed S] -- PROGRAM [ARGUMENT ..]; without a program the reference itself reads standard input.
+
+mod make;
+
+use reference::script::run_script;
+use std::io::{Read, Write};
+use std::process::{Command, Stdio};
+use support::random::Random;
+
+const SCRIPTS: u64 = 2000;
+const SEED: u64 = 5;
+
+fn main() {
+    let words: Vec<String> = std::env::args().skip(1).collect();
+    let Some(end) = words.iter().position(|word| word == "--") else { return be_the_program() };
+    let (flags, program) = (&words[..end], &words[end + 1..]);
+    let number = |name: &str, otherwise: u64| {
+        let place = flags.iter().position(|word| word == name);
+        place.map_or(otherwise, |place| flags[place + 1].parse().expect("a flag takes a number"))
+    };
+    let (scripts, seed) = (number("--scripts", SCRIPTS), number("--seed", SEED));
+    let (mut lines, mut refusals) = (0, [0u64; 15]);
+    for number in 0..scripts {
+        let script = make::script(&mut Random::new(seed, number));
+        let expected = run_script(&script);
+        if output_of(program, &script) != expected {
+            report(program, number, script);
+            std::process::exit(1);
+        }
+        lines += script.split(|&byte| byte == b'\n').count();
+        count_refusals(&expected, &mut refusals);
+    }
+    println!("scripts: {scripts} scripts of {lines} lines in all, seed {seed}; refusals by number: {:?}", &refusals[1..]);
+    let reached = [1, 5, 6, 7, 8, 9, 10, 13].iter().all(|&number| refusals[number] > 0);
+    assert!(reached || scripts < 100, "a refusal that a script can meet was never met");
+}
+
+fn be_the_program() {
+    let mut input = Vec::new();
+    std::io::stdin().read_to_end(&mut input).expect("standard input can be read");
+    std::io::stdout().write_all(&run_script(&input)).expect("standard output can be written");
+}
+
+fn count_refusals(output: &[u8], refusals: &mut [u64; 15]) {
+    for line in String::from_utf8_lossy(output).lines() {
+        if let Some(rest) = line.strip_prefix("R ") {
+            refusals[rest.split(' ').next().unwrap().parse::<usize>().unwrap()] += 1;
+        }
+    }
+}
+
+fn output_of(program: &[String], script: &[u8]) -> Vec<u8> {
+    let mut child = Command::new(&program[0])
+        .args(&program[1..])
+        .stdin(Stdio::piped())
+        .stdout(Stdio::piped())
+        .spawn()
+        .unwrap_or_else(|error| panic!("{}: {error}", program[0]));
+    let mut input = child.stdin.take().unwrap();
+    let script = script.to_vec();
+    let writer = std::thread::spawn(move || drop(input.write_all(&script)));
+    let output = child.wait_with_output().expect("the program ends").stdout;
+    writer.join().unwrap();
+    output
+}
+
+/// The script with as few lines and bytes as still give another output.
+fn report(program: &[String], number: u64, script: Vec<u8>) {
+    println!("scripts: MISMATCH at script {number}");
+    let fails = |smaller: &[u8]| output_of(program, smaller) != run_script(smaller);
+    let mut script = script;
+    for part in [Part::Line, Part::Byte] {
+        let mut place = 0;
+        while let Some(smaller) = part.without(&script, place) {
+            if fails(&smaller) {
+                script = smaller;
+            } else {
+                place += 1;
+            }
+        }
+    }
+    println!("the smallest script found: {:?}", String::from_utf8_lossy(&script));
+    println!("  program:   {:?}", String::from_utf8_lossy(&output_of(program, &script)));
+    println!("  reference: {:?}", String::from_utf8_lossy(&run_script(&script)));
+}
+
+enum Part {
+    Line,
+    Byte,
+}
+
+impl Part {
+    /// The script without its part number `place`, if it has so many.
+    fn without(&self, script: &[u8], place: usize) -> Option<Vec<u8>> {
+        match self {
+            Part::Byte => (place < script.len()).then(|| [&script[..place], &script[place + 1..]].concat()),
+            Part::Line => {
+                let mut lines: Vec<&[u8]> = script.split_inclusive(|&byte| byte == b'\n').collect();
+                (place < lines.len()).then(|| {
+                    lines.remove(place);
+                    lines.concat()
+                })
+            }
+        }
+    }
+}
