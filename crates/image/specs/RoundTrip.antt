@@ -23,7 +23,7 @@ use Rattle.image.specs.ByteLaws.{Bytes}
 use Rattle.image.specs.Format.{imageBytes, tableRules, imageOf, slotsIn}
 use Rattle.image.specs.Checks.{imageChecks, meant, loadChecks}
 use Rattle.image.specs.Answers.{saveAnswer, saveBuffer, loadAnswer, loadTable}
-use Rattle.image.specs.SaveLaws.{image-length, save-answer}
+use Rattle.image.specs.SaveLaws.{save-answer}
 use Rattle.image.specs.CheckLaws.{Sound, image-law}
 use Rattle.image.specs.LoadLaws.{load-written}
 use Rattle.image.specs.Meaning.{meant-length}
