@@ -20,7 +20,7 @@ use Rattle.records.specs.declared.Check.{Check}
 use Rattle.records.specs.declared.Check.the-variants.{Pass, Fail}
 use Rattle.plans.specs.Plans.{checkRoom, planAnswer, plan-accepted, plan-short, plan-written}
 use Rattle.image.specs.ByteLaws.{Bytes}
-use Rattle.image.specs.Format.{imageBytes, tableRules, imageOf, slotsIn}
+use Rattle.image.specs.Format.{imageBytes, ruleCount, imageOf, slotsIn}
 use Rattle.image.specs.Checks.{imageChecks, meant, loadChecks}
 use Rattle.image.specs.Answers.{saveAnswer, saveBuffer, loadAnswer, loadTable}
 use Rattle.image.specs.SaveLaws.{save-answer}
@@ -55,10 +55,10 @@ save-succeeds w t image bytes = (
     room p told (no h) = omega arith
 
 -- the number that a save tells is enough
-pub save-number : (w : ℕ) (t : List ℕ) (room : ℕ) → 0 ≡ saveAnswer w t room .number → saveAnswer w t room ≡ success (imageBytes w (tableRules w t) ∷ [])
+pub save-number : (w : ℕ) (t : List ℕ) (room : ℕ) → 0 ≡ saveAnswer w t room .number → saveAnswer w t room ≡ success (imageBytes w (ruleCount w t) ∷ [])
 unfolding planAnswer
 save-number w t room e =
-    let needed = imageBytes w (tableRules w t) in
+    let needed = imageBytes w (ruleCount w t) in
     ap (λ (check : Check). unless check (success (needed ∷ []))) (unless-zero (orElse (tableChecks w t) (checkRoom needed room)) (needed ∷ []) e)
 
 -- a load succeeds exactly where the lent table's shape is good, every field of the image is right, and the table meant passes 3 and 4

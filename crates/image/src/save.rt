@@ -15,13 +15,13 @@ ghost use Prim.Native.Nat.{_+_, _*_, _/_, _≤_, _<_};
 ghost use lib.ListN.{length, drop};
 ghost use Rattle.records.specs.Record.{slotWords, ident};
 ghost use Rattle.image.specs.Bytes.{bytesOf, store, pieces};
-ghost use Rattle.image.specs.Format.{tableRules, bodyPlace, entryPlace, imageBytes, entryOf, bodyOf, imageOf};
+ghost use Rattle.image.specs.Format.{ruleCount, bodyPlace, entryPlace, imageBytes, entryOf, bodyOf, imageOf};
 ghost use Rattle.image.specs.SaveLaws.{stored};
 ghost use Rattle.image.specs.Answers.{saveTold, saveAnswer, saveBuffer};
 
 // How many slots hold a rule.
 fn count_rules(table: &[u64]) -> usize
-    ensures { λ r. ⌜ r ≡ tableRules 2 (now (table .entry)) ⌝ }
+    ensures { λ r. ⌜ r ≡ ruleCount 2 (now (table .entry)) ⌝ }
 {
     let slots = table.len() / 6;
     let mut count = 0;
@@ -86,7 +86,7 @@ fn put_rule(image: &mut [u8], rules: usize, rule: usize, table: &[u64], slot: us
 
 // Stores every rule of a table, in rising slot order.
 fn put_rules(image: &mut [u8], rules: usize, table: &[u64])
-    requires { ⌜ (length (now table) ≤ 6144) × (rules ≡ tableRules 2 (now table)) × (imageBytes 2 rules ≤ length (now image)) ⌝ }
+    requires { ⌜ (length (now table) ≤ 6144) × (rules ≡ ruleCount 2 (now table)) × (imageBytes 2 rules ≤ length (now image)) ⌝ }
     ensures { λ _. ⌜ now (image .exit) ≡ stored 2 (now (table .entry)) (now (image .entry)) rules ⌝ }
 {
     let slots = table.len() / 6;
@@ -103,7 +103,7 @@ fn put_rules(image: &mut [u8], rules: usize, table: &[u64])
 
 // Stores the image of a table at the start of a buffer that has room for it.
 fn put_image(image: &mut [u8], rules: usize, table: &[u64])
-    requires { ⌜ (length (now table) ≤ 6144) × (rules ≡ tableRules 2 (now table)) × (imageBytes 2 rules ≤ length (now image)) ⌝ }
+    requires { ⌜ (length (now table) ≤ 6144) × (rules ≡ ruleCount 2 (now table)) × (imageBytes 2 rules ≤ length (now image)) ⌝ }
     ensures { λ _. ⌜ now (image .exit) ≡ imageOf 2 (now (table .entry)) ++ drop (length (imageOf 2 (now (table .entry)))) (now (image .entry)) ⌝ }
 {
     put_number(image, 0, 2, (table.len() / 6) as u64);

@@ -5,7 +5,7 @@ use mathlib.Core.List.{List, [], _∷_}
 use Prim.Native.Nat.{ℕ}
 use lib.ListN.{length, take}
 use Rattle.records.specs.Checks.{Told, success}
-use Rattle.image.specs.Format.{imageBytes, tableRules}
+use Rattle.image.specs.Format.{imageBytes, ruleCount}
 use Rattle.image.specs.Answers.{saveAnswer, saveBuffer, loadAnswer, loadTable}
 use Rattle.image.specs.Reading.{Words64}
 use Rattle.image.specs.RoundTrip.{save-number, narrow-two, saved-loads}
@@ -28,7 +28,7 @@ pub save-load-call : (t image saved : List ℕ) (bytes bytes′ spot spot′ : �
     → (result ≡ 0) × (loaded ≡ t) × (place′ ≡ place)
 save-load-call t image saved bytes bytes′ spot spot′ sixty-four left lent loaded result place place′ size load =
     let told = save-number 2 t (length image) (left .number) in
-    let count : bytes′ ≡ imageBytes 2 (tableRules 2 t) = left .counted ∙ ap (λ (answer : Told). dataCell answer 0 bytes) told in
+    let count : bytes′ ≡ imageBytes 2 (ruleCount 2 t) = left .counted ∙ ap (λ (answer : Told). dataCell answer 0 bytes) told in
     let loads = saved-loads 2 t image bytes′ narrow-two sixty-four (told ∙ ap (λ (k : ℕ). success (k ∷ [])) (sym count)) lent size in
     let same : take bytes′ saved ≡ take bytes′ (saveBuffer 2 t image) = ap (take bytes′) (left .plan) in
     let answer : loadAnswer 2 (take bytes′ saved) lent ≡ success [] = ap (λ (b : List ℕ). loadAnswer 2 b lent) same ∙ loads .0 in (

@@ -11,13 +11,13 @@ use Rattle.records.specs.declared.Check.the-variants.{Pass}
 use Rattle.records.specs.declared.Check.{Check}
 use Rattle.records.specs.declared.Cause.the-variants.{Short}
 use Rattle.plans.specs.Plans.{plan-refused, plan-short, plan-written}
-use Rattle.image.specs.Format.{imageBytes, tableRules, imageOf}
+use Rattle.image.specs.Format.{imageBytes, ruleCount, imageOf}
 use Rattle.image.specs.SaveLaws.{image-length, save-answer, rules-small}
 use borrow.Author.Needs.{needs}
 use Rattle.image.proofs.save.save.Statement.{statement}
 use Rattle.image.proofs.save.save.Tie as tie
 
-few : {n : ℕ} {x : Check} (t : List ℕ) → n ≡ tableRules 2 t → x ≡ tableChecks 2 t → x ≡ Pass → n ≤ 1024
+few : {n : ℕ} {x : Check} (t : List ℕ) → n ≡ ruleCount 2 t → x ≡ tableChecks 2 t → x ≡ Pass → n ≤ 1024
 few t e f g = omega (arith, rules-small 2 t (sym f ∙ g))
 
 check-table-requires : tie.Need-check-table-requires
