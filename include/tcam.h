@@ -20,7 +20,8 @@
  * ORDER. Two rules overlap when no bit is cared for by both with different values. The one of higher
  * priority then precedes the other, which depends on it. A table is in order when of any two overlapping
  * rules the one in the lower-numbered slot has the strictly higher priority; copies of one id are not
- * compared with each other. The planning calls ask for a table in order; tcam_lookup does not.
+ * compared with each other. The planning calls and tcam_save ask for a table in order, and tcam_load for an
+ * image of one; the other calls do not.
  *
  * A PLAN is a list of writes, one 32-bit word each, from * 65536 + to:
  *
@@ -33,8 +34,8 @@
  * are carried out one at a time, from the first word to the last. Then no write goes over a rule that has no
  * other copy, the table is in order after each write, and every key keeps its reply (id and action, or a
  * miss) until the last write. After the last write each old rule stands in one slot and the new one too. In
- * the middle of a plan a rule may stand twice: no planning call takes such a table; tcam_lookup and
- * tcam_carry_out do.
+ * the middle of a plan a rule may stand twice: no planning call takes such a table, nor does tcam_save;
+ * tcam_lookup, tcam_slot_record and tcam_carry_out do.
  *
  * AN IMAGE is a table as bytes, to be kept and loaded again. Its numbers are big-endian:
  *
@@ -65,9 +66,10 @@
  *   - the program has a memset and a memcpy, as in C's string.h: tcam_plan_insert calls memset, tcam_load both;
  *   - there is stack enough.
  *
- * No call but tcam_carry_out and tcam_load changes the table, and none keeps anything for later. Each call
- * checks the whole table first, so its time grows with the number of slots; that of the planning calls, of
- * tcam_save and of tcam_load with its square, since they compare rules in pairs.
+ * No call but tcam_carry_out and tcam_load changes the table, and none keeps anything for later. Each call but
+ * tcam_load checks the whole table first, so its time grows with the number of slots. tcam_load looks at the
+ * table's length only, and checks the whole image before it writes. The time of the planning calls, of tcam_save
+ * and of tcam_load grows with the square of the slots, since they compare rules in pairs.
  *
  * STACK, measured on this build at 1,024 slots, rounded up, with the arguments that the caller pushes:
  *

@@ -206,7 +206,10 @@ static void check_cell_guards(const uint32_t *cell, const uint32_t *before)
 
 static uint8_t wanted[MOST_BYTES + 4 * 50];
 
-/* Saves from a lent copy into a lent buffer of `room` bytes. `want` bytes are in `wanted` where it succeeds. */
+/*
+ * Saves from a lent copy into a lent buffer of `room` bytes. `want` bytes are in `wanted` where it succeeds. During the
+ * call no word of the table can be written, and no byte of the buffer where the save is refused.
+ */
 static void call_save(const uint64_t *table, size_t words, size_t room, unsigned shift, struct told want)
 {
     uint32_t cell[CELLS], before[CELLS];
@@ -214,7 +217,9 @@ static void call_save(const uint64_t *table, size_t words, size_t room, unsigned
     uint8_t *image = lend_image(room, shift);
     mark_cells(cell, before);
     protect_table(0);
+    protect_pages(&image_pages, want.number == TCAM_OK);
     uint32_t number = tcam_save(lent.table, words, image, room, &cell[BYTES], &cell[SPOT]);
+    protect_pages(&image_pages, 1);
     protect_table(1);
     CHECK(number == want.number);
     check_cell_guards(cell, before);
@@ -233,7 +238,11 @@ static void call_save(const uint64_t *table, size_t words, size_t room, unsigned
 
 static uint64_t scratch[SLOTS(MOST_SLOTS)];
 
-/* Loads a lent copy of an image into a lent table with `stood` in it. `want` is the table where it succeeds. */
+/*
+ * Loads a lent copy of an image into a lent table with `stood` in it; `loaded` is the table where it succeeds. During
+ * the call no byte of the image can be written, and no word of the table where the load is refused: so a load that
+ * writes before it has checked ends the program, even if it puts back what stood there.
+ */
 static void call_load(const uint8_t *bytes, size_t count, const uint64_t *stood, size_t words, unsigned shift, struct told want,
                       const uint64_t *loaded)
 {
@@ -242,7 +251,11 @@ static void call_load(const uint8_t *bytes, size_t count, const uint64_t *stood,
     uint8_t *image = lend_image(count, shift);
     memcpy(image, bytes, count);
     mark_cells(cell, before);
+    protect_pages(&image_pages, 0);
+    protect_table(want.number == TCAM_OK);
     uint32_t number = tcam_load(image, count, lent.table, words, &cell[SPOT]);
+    protect_table(1);
+    protect_pages(&image_pages, 1);
     CHECK(number == want.number);
     CHECK(cell[BYTES] == before[BYTES]);
     check_cell_guards(cell, before);
@@ -293,6 +306,13 @@ static const uint8_t three_slots_image[] = {
     0x00, 0x00, 0x01, 0x2B, 0x00, 0x00, 0x00, 0x09,
 };
 
+/* Id 5 stands twice, in slots 0 and 2; and rule 6 in slot 1 has a higher priority than rule 5 before it. */
+static const uint64_t twice_and_disordered[SLOTS(3)] = {
+    0, 0, 0, 0, TCAM_ID_ACTION(5, 1), 10,
+    0, 0, 0, 0, TCAM_ID_ACTION(6, 1), 20,
+    0, 0, 0, 0, TCAM_ID_ACTION(5, 1), 5,
+};
+
 static void save_cases(void)
 {
     static const uint64_t empty[SLOTS(TCAM_MAX_SLOTS + 1)];
@@ -327,7 +347,7 @@ static void save_cases(void)
     table[1] |= 4;
     SAVE_CASE(table, SLOTS(3), 0, REFUSED(TCAM_RECORD, 0));
 
-    /* 3 before 4, and 4 before 11 */
+    /* 3: copies of one id are not compared by 4; then 4 before 11 */
     memcpy(table, three_slots, sizeof table);
     table[16] = TCAM_ID_ACTION(0x01020304, 1);
     table[17] = 400;
@@ -339,6 +359,10 @@ static void save_cases(void)
     table[17] = 299;
     SAVE_CASE(table, SLOTS(3), 104, SAVED(104));
 
+    /* 3 before 4, which alone would tell slot 1 */
+    SAVE_CASE(twice_and_disordered, SLOTS(3), 154, REFUSED(TCAM_TWICE, 2));
+    SAVE_CASE(twice_and_disordered, SLOTS(3), 0, REFUSED(TCAM_TWICE, 2));
+
     /* 11: the bytes needed */
     SAVE_CASE(three_slots, SLOTS(3), 103, REFUSED(TCAM_SHORT, 104));
     SAVE_CASE(three_slots, SLOTS(3), 0, REFUSED(TCAM_SHORT, 104));
@@ -348,7 +372,7 @@ static void save_cases(void)
 
 /* ---- Written cases: loading ---- */
 
-static uint8_t image[sizeof three_slots_image + 1];
+static uint8_t image[TCAM_IMAGE_BYTES(3)]; /* the image of three_slots, but for what a case changes */
 
 static void load_case(int line, size_t bytes, size_t words, struct told want)
 {
@@ -455,6 +479,23 @@ static void load_cases(void)
     LOAD_CASE(104, SLOTS(3), REFUSED(TCAM_ORDER, 1));
     image[19] = 1;
     LOAD_CASE(104, SLOTS(3), LOADED);
+
+    /* two faults, the first in the order of checks: slots and rules; id and slot; slot and offset; id and offset */
+    image[0] = image[2] = 1;
+    LOAD_CASE(104, SLOTS(3), REFUSED(TCAM_IMAGE, 0));
+    memset(image + 14, 0, 4);
+    image[19] = 0;
+    LOAD_CASE(104, SLOTS(3), REFUSED(TCAM_IMAGE, 14));
+    image[19] = 0;
+    image[23]--;
+    LOAD_CASE(104, SLOTS(3), REFUSED(TCAM_IMAGE, 18));
+    memset(image + 14, 0, 4);
+    image[23]--;
+    LOAD_CASE(104, SLOTS(3), REFUSED(TCAM_IMAGE, 14));
+
+    /* 3 before 4, which alone would tell slot 1 */
+    CHECK(ref_image(twice_and_disordered, 3, image) == 154);
+    LOAD_CASE(154, SLOTS(3), REFUSED(TCAM_TWICE, 2));
 }
 
 /* ---- Made tables ---- */

@@ -177,12 +177,17 @@ static inline void open_pages(struct pages *pages, size_t least_bytes)
     pages->start = mapped + page;
 }
 
-static inline void protect_table(int writable)
+static inline void protect_pages(const struct pages *pages, int writable)
 {
-    if (mprotect(table_pages.start, table_pages.bytes, writable ? PROT_READ | PROT_WRITE : PROT_READ) != 0) {
+    if (mprotect(pages->start, pages->bytes, writable ? PROT_READ | PROT_WRITE : PROT_READ) != 0) {
         perror("pages");
         exit(1);
     }
+}
+
+static inline void protect_table(int writable)
+{
+    protect_pages(&table_pages, writable);
 }
 
 struct lent {

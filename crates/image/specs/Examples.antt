@@ -79,3 +79,22 @@ priority-high = refl
 out-of-order : answer 99 30 ≡ refusal Order 2
 unfolding answer loadAnswer loadTable loadChecks checkShape shaped imageChecks checkHeader checkContents checkBodies inTurn checkEntry checkBody numberAt recordAt listed soundParts within all inside meant filled putSlot checkTwice twiceAt lowest least any sameId empty checkOrder disorderAt misordered overlaps distinct agree both
 out-of-order = refl
+
+-- two fields wrong, the first in the order of checks: byte j is changed to m too
+both-wrong : ℕ → ℕ → ℕ → ℕ → Told
+both-wrong i n j m = loadAnswer 2 (set (set image i n) j m) (replicate 18 5)
+
+-- the slots and the rules
+slots-before-rules : both-wrong 1 4 3 1 ≡ refusal Image 0
+unfolding both-wrong loadAnswer loadTable loadChecks checkShape shaped imageChecks checkHeader checkContents checkBodies inTurn checkEntry checkBody numberAt recordAt listed soundParts within all inside meant filled putSlot checkTwice twiceAt lowest least any sameId empty checkOrder disorderAt misordered overlaps distinct agree both
+slots-before-rules = refl
+
+-- the slot of the second entry and its offset
+slot-before-offset : both-wrong 19 0 23 65 ≡ refusal Image 18
+unfolding both-wrong loadAnswer loadTable loadChecks checkShape shaped imageChecks checkHeader checkContents checkBodies inTurn checkEntry checkBody numberAt recordAt listed soundParts within all inside meant filled putSlot checkTwice twiceAt lowest least any sameId empty checkOrder disorderAt misordered overlaps distinct agree both
+slot-before-offset = refl
+
+-- the id of the second entry and the first body's value
+entries-before-bodies : both-wrong 17 0 31 1 ≡ refusal Image 14
+unfolding both-wrong loadAnswer loadTable loadChecks checkShape shaped imageChecks checkHeader checkContents checkBodies inTurn checkEntry checkBody numberAt recordAt listed soundParts within all inside meant filled putSlot checkTwice twiceAt lowest least any sameId empty checkOrder disorderAt misordered overlaps distinct agree both
+entries-before-bodies = refl

@@ -37,15 +37,15 @@ abbrev pub holds : ℕ → List ℕ → ℕ → Bool
 holds w t i = occupied w (slotWords w t i)
 
 -- how many rules a table holds, and the slot of rule k, in rising slot order
-abbrev pub tableRules : ℕ → List ℕ → ℕ
-tableRules w t = length (indices (holds w t) (slots w t))
+abbrev pub ruleCount : ℕ → List ℕ → ℕ
+ruleCount w t = length (indices (holds w t) (slots w t))
 
 abbrev pub ruleSlot : ℕ → List ℕ → ℕ → ℕ
 ruleSlot w t k = index (holds w t) (slots w t) k
 
 -- rule k's entry and body
 unfoldable pub entryBytes : ℕ → List ℕ → ℕ → List ℕ
-entryBytes w t k = entryOf (ident w (slotWords w t (ruleSlot w t k))) (ruleSlot w t k) (bodyPlace w (tableRules w t) k)
+entryBytes w t k = entryOf (ident w (slotWords w t (ruleSlot w t k))) (ruleSlot w t k) (bodyPlace w (ruleCount w t) k)
 
 unfoldable pub ruleBytes : ℕ → List ℕ → ℕ → List ℕ
 ruleBytes w t k = bodyOf w (slotWords w t (ruleSlot w t k))
@@ -53,7 +53,7 @@ ruleBytes w t k = bodyOf w (slotWords w t (ruleSlot w t k))
 -- document 01's saved image of a table: slots, rules, contents, bodies
 unfoldable pub imageOf : ℕ → List ℕ → List ℕ
 imageOf w t =
-    bytesOf 2 (slots w t) ++ bytesOf 2 (tableRules w t) ++ pieces (entryBytes w t) (tableRules w t) ++ pieces (ruleBytes w t) (tableRules w t)
+    bytesOf 2 (slots w t) ++ bytesOf 2 (ruleCount w t) ++ pieces (entryBytes w t) (ruleCount w t) ++ pieces (ruleBytes w t) (ruleCount w t)
 
 -- the fields of an image as they are read
 abbrev pub slotsIn : List ℕ → ℕ

@@ -26,7 +26,7 @@ use Rattle.records.specs.PutSlot.{put-length, put-here, put-other}
 use Rattle.image.specs.Bytes.{numberAt}
 use Rattle.image.specs.ByteLaws.{Bytes, number-small}
 use Rattle.image.specs.Indices.{indices, indices-row}
-use Rattle.image.specs.Format.{bodyPlace, rulesIn, idAt, slotAt, recordAt, holds, tableRules, ruleSlot}
+use Rattle.image.specs.Format.{bodyPlace, rulesIn, idAt, slotAt, recordAt, holds, ruleCount, ruleSlot}
 use Rattle.image.specs.Checks.{checkBody, filled, meant}
 use Rattle.image.specs.CheckLaws.{Sound, field-law}
 use Rattle.image.specs.LoadLaws.{record-at-length}
@@ -211,7 +211,7 @@ module _ (w : ℕ) (b : List ℕ) (n : ℕ) (s : Sound w b n) where
   pub meant-row : indices (holds w (meant w b (n * recordWords w))) n ≡ listed (rulesIn b) (slotAt b)
   meant-row = indices-row (holds w (meant w b (n * recordWords w))) (slotAt b) (rulesIn b) (slots-rise s) meant-holds meant-rule n (s .below)
 
-  pub meant-rules : tableRules w (meant w b (n * recordWords w)) ≡ rulesIn b
+  pub meant-rules : ruleCount w (meant w b (n * recordWords w)) ≡ rulesIn b
   meant-rules =
       ap (λ (m : ℕ). length (indices (holds w (meant w b (n * recordWords w))) m)) meant-slots
       ∙ (ap length meant-row ∙ length-listed (rulesIn b) (slotAt b))

@@ -19,7 +19,7 @@ use Rattle.records.specs.declared.Check.the-variants.{Pass}
 use Rattle.image.specs.Bytes.{bytesOf, numberAt, part, pieces}
 use Rattle.image.specs.ByteLaws.{length-bytes, number-at, part-left, part-right, part-whole, part-part, pieces-length, piece-at}
 use Rattle.image.specs.Indices.{count-high, index-hit, index-rises}
-use Rattle.image.specs.Format.{bodyBytes, imageBytes, entryPlace, bodyPlace, entryOf, bodyOf, holds, tableRules, ruleSlot, entryBytes, ruleBytes, imageOf, slotsIn, rulesIn, idAt, slotAt, offsetAt, recordAt}
+use Rattle.image.specs.Format.{bodyBytes, imageBytes, entryPlace, bodyPlace, entryOf, bodyOf, holds, ruleCount, ruleSlot, entryBytes, ruleBytes, imageOf, slotsIn, rulesIn, idAt, slotAt, offsetAt, recordAt}
 use Rattle.image.specs.Checks.{lowestSlot}
 use Rattle.image.specs.SaveLaws.{words-length, image-length, entry-bytes-length, rule-bytes-length, body-within}
 use Rattle.image.specs.CheckLaws.{Sound}
@@ -84,27 +84,27 @@ module _ (w : ℕ) (x : Words) where
 -- the parts of a table's image
 module _ (w : ℕ) (t : List ℕ) where
   e : ℕ
-  e = tableRules w t
+  e = ruleCount w t
 
   one : List ℕ
   one = bytesOf 2 (slots w t)
 
   two : List ℕ
-  two = bytesOf 2 (tableRules w t)
+  two = bytesOf 2 (ruleCount w t)
 
   contents : List ℕ
-  contents = pieces (entryBytes w t) (tableRules w t)
+  contents = pieces (entryBytes w t) (ruleCount w t)
 
   bodies : List ℕ
-  bodies = pieces (ruleBytes w t) (tableRules w t)
+  bodies = pieces (ruleBytes w t) (ruleCount w t)
 
   header-length : length (one ++ two) ≡ 4
   unfolding one two
-  header-length = length-append one two ∙ omega (arith, length-bytes 2 (slots w t), length-bytes 2 (tableRules w t))
+  header-length = length-append one two ∙ omega (arith, length-bytes 2 (slots w t), length-bytes 2 (ruleCount w t))
 
   contents-length : length contents ≡ e * 10
   unfolding contents e
-  contents-length = pieces-length (entryBytes w t) 10 (entry-bytes-length w t) (tableRules w t)
+  contents-length = pieces-length (entryBytes w t) 10 (entry-bytes-length w t) (ruleCount w t)
 
   front-length : length (one ++ two ++ contents) ≡ 4 + e * 10
   front-length = length-append (one ++ two) contents ∙ omega (arith, header-length, contents-length)
@@ -116,25 +116,25 @@ module _ (w : ℕ) (t : List ℕ) where
       ∙ (part-left (one ++ two) contents 0 2 (omega (arith, header-length))
       ∙ (part-left one two 0 2 (omega (arith, length-bytes 2 (slots w t))) ∙ part-whole one 2 (length-bytes 2 (slots w t))))
 
-  image-rules : part (imageOf w t) 2 2 ≡ bytesOf 2 (tableRules w t)
+  image-rules : part (imageOf w t) 2 2 ≡ bytesOf 2 (ruleCount w t)
   unfolding imageOf one two contents bodies
   image-rules =
       part-left (one ++ two ++ contents) bodies 2 2 (omega (arith, front-length))
       ∙ (part-left (one ++ two) contents 2 2 (omega (arith, header-length))
-      ∙ (part-right one two 2 0 2 (length-bytes 2 (slots w t)) ∙ part-whole two 2 (length-bytes 2 (tableRules w t))))
+      ∙ (part-right one two 2 0 2 (length-bytes 2 (slots w t)) ∙ part-whole two 2 (length-bytes 2 (ruleCount w t))))
 
-  image-entry : (k : ℕ) → k < tableRules w t → part (imageOf w t) (entryPlace k) 10 ≡ entryBytes w t k
+  image-entry : (k : ℕ) → k < ruleCount w t → part (imageOf w t) (entryPlace k) 10 ≡ entryBytes w t k
   unfolding imageOf one two contents bodies e
   image-entry k h =
       part-left (one ++ two ++ contents) bodies (entryPlace k) 10 (omega (arith, front-length))
       ∙ (part-right (one ++ two) contents 4 (k * 10) 10 header-length
-      ∙ piece-at (entryBytes w t) 10 (entry-bytes-length w t) (tableRules w t) k h)
+      ∙ piece-at (entryBytes w t) 10 (entry-bytes-length w t) (ruleCount w t) k h)
 
-  image-body : (k : ℕ) → k < tableRules w t → part (imageOf w t) (bodyPlace w (tableRules w t) k) (bodyBytes w) ≡ ruleBytes w t k
+  image-body : (k : ℕ) → k < ruleCount w t → part (imageOf w t) (bodyPlace w (ruleCount w t) k) (bodyBytes w) ≡ ruleBytes w t k
   unfolding imageOf one two contents bodies e
   image-body k h =
       part-right (one ++ two ++ contents) bodies (4 + e * 10) (k * bodyBytes w) (bodyBytes w) front-length
-      ∙ piece-at (ruleBytes w t) (bodyBytes w) (rule-bytes-length w t) (tableRules w t) k h
+      ∙ piece-at (ruleBytes w t) (bodyBytes w) (rule-bytes-length w t) (ruleCount w t) k h
 
 -- words of 64 bits, as a lent table has
 abbrev pub Words64 : List ℕ → Type 0
@@ -153,16 +153,16 @@ module _ (w : ℕ) (t : List ℕ) (narrow : Numbered w) (sixty-four : Words64 t)
   shape : (1 ≤ slots w t) × (slots w t ≤ 1024) × (length t ≡ slots w t * recordWords w)
   shape = shaped-slots w t (slots-checks .0)
 
-  few : tableRules w t ≤ slots w t
+  few : ruleCount w t ≤ slots w t
   few = count-high (holds w t) (slots w t)
 
   pub slots-read : slotsIn (imageOf w t) ≡ slots w t
   slots-read = number-at 2 (slots w t) (imageOf w t) 0 (omega (arith, shape .1)) (image-slots w t)
 
-  pub rules-read : rulesIn (imageOf w t) ≡ tableRules w t
-  rules-read = number-at 2 (tableRules w t) (imageOf w t) 2 (omega (arith, shape .1, few)) (image-rules w t)
+  pub rules-read : rulesIn (imageOf w t) ≡ ruleCount w t
+  rules-read = number-at 2 (ruleCount w t) (imageOf w t) 2 (omega (arith, shape .1, few)) (image-rules w t)
 
-  module _ (k : ℕ) (h : k < tableRules w t) where
+  module _ (k : ℕ) (h : k < ruleCount w t) where
     x : Words
     x = slotWords w t (ruleSlot w t k)
 
@@ -184,10 +184,10 @@ module _ (w : ℕ) (t : List ℕ) (narrow : Numbered w) (sixty-four : Words64 t)
     action-small : action w x < 4294967296
     action-small = mod-lt (x (2 * w)) (omega arith)
 
-    offset-small : bodyPlace w (tableRules w t) k < 4294967296
-    offset-small = omega (arith, body-within w (tableRules w t) k h, mul-le-mul-right (10 + bodyBytes w) (few-all))
+    offset-small : bodyPlace w (ruleCount w t) k < 4294967296
+    offset-small = omega (arith, body-within w (ruleCount w t) k h, mul-le-mul-right (10 + bodyBytes w) (few-all))
       where
-        few-all : tableRules w t ≤ 1024
+        few-all : ruleCount w t ≤ 1024
         few-all = omega (arith, few, shape .1)
 
     pub id-read : idAt (imageOf w t) k ≡ ident w (slotWords w t (ruleSlot w t k))
@@ -195,53 +195,53 @@ module _ (w : ℕ) (t : List ℕ) (narrow : Numbered w) (sixty-four : Words64 t)
     id-read =
         ap (λ (i : ℕ). numberAt (imageOf w t) i 4) (sym (add-zero (entryPlace k)))
         ∙ field-read 4 (ident w x) (imageOf w t) (entryBytes w t k) (entryPlace k) 10 0 (image-entry w t k h) (omega arith)
-        (entry-id (ident w x) (ruleSlot w t k) (bodyPlace w (tableRules w t) k)) id-small
+        (entry-id (ident w x) (ruleSlot w t k) (bodyPlace w (ruleCount w t) k)) id-small
 
     pub slot-read : slotAt (imageOf w t) k ≡ ruleSlot w t k
     unfolding entryBytes x
     slot-read =
         field-read 2 (ruleSlot w t k) (imageOf w t) (entryBytes w t k) (entryPlace k) 10 4 (image-entry w t k h) (omega arith)
-        (entry-slot (ident w x) (ruleSlot w t k) (bodyPlace w (tableRules w t) k)) (omega (arith, hit .0, shape .1))
+        (entry-slot (ident w x) (ruleSlot w t k) (bodyPlace w (ruleCount w t) k)) (omega (arith, hit .0, shape .1))
 
-    pub offset-read : offsetAt (imageOf w t) k ≡ bodyPlace w (tableRules w t) k
+    pub offset-read : offsetAt (imageOf w t) k ≡ bodyPlace w (ruleCount w t) k
     unfolding entryBytes x
     offset-read =
-        field-read 4 (bodyPlace w (tableRules w t) k) (imageOf w t) (entryBytes w t k) (entryPlace k) 10 6 (image-entry w t k h) (omega arith)
-        (entry-offset (ident w x) (ruleSlot w t k) (bodyPlace w (tableRules w t) k)) offset-small
+        field-read 4 (bodyPlace w (ruleCount w t) k) (imageOf w t) (entryBytes w t k) (entryPlace k) 10 6 (image-entry w t k h) (omega arith)
+        (entry-offset (ident w x) (ruleSlot w t k) (bodyPlace w (ruleCount w t) k)) offset-small
 
-    word-read : (j : ℕ) → j < 2 * w → numberAt (imageOf w t) (bodyPlace w (tableRules w t) k + j * 8) 8 ≡ slotWords w t (ruleSlot w t k) j
+    word-read : (j : ℕ) → j < 2 * w → numberAt (imageOf w t) (bodyPlace w (ruleCount w t) k + j * 8) 8 ≡ slotWords w t (ruleSlot w t k) j
     unfolding ruleBytes x
     word-read j l =
-        field-read 8 (x j) (imageOf w t) (ruleBytes w t k) (bodyPlace w (tableRules w t) k) (bodyBytes w) (j * 8) (image-body w t k h) (omega arith)
+        field-read 8 (x j) (imageOf w t) (ruleBytes w t k) (bodyPlace w (ruleCount w t) k) (bodyBytes w) (j * 8) (image-body w t k h) (omega arith)
         (body-word w x j l) (sixty-four (ruleSlot w t k * recordWords w + j))
 
-    rank-read : numberAt (imageOf w t) (bodyPlace w (tableRules w t) k + 2 * w * 8) 4 ≡ rank w (slotWords w t (ruleSlot w t k))
+    rank-read : numberAt (imageOf w t) (bodyPlace w (ruleCount w t) k + 2 * w * 8) 4 ≡ rank w (slotWords w t (ruleSlot w t k))
     unfolding ruleBytes x
     rank-read =
-        field-read 4 (rank w x) (imageOf w t) (ruleBytes w t k) (bodyPlace w (tableRules w t) k) (bodyBytes w) (2 * w * 8) (image-body w t k h) (omega arith)
+        field-read 4 (rank w x) (imageOf w t) (ruleBytes w t k) (bodyPlace w (ruleCount w t) k) (bodyBytes w) (2 * w * 8) (image-body w t k h) (omega arith)
         (body-rank w x) (omega (arith, rank-small))
 
-    action-read : numberAt (imageOf w t) (bodyPlace w (tableRules w t) k + (2 * w * 8 + 4)) 4 ≡ action w (slotWords w t (ruleSlot w t k))
+    action-read : numberAt (imageOf w t) (bodyPlace w (ruleCount w t) k + (2 * w * 8 + 4)) 4 ≡ action w (slotWords w t (ruleSlot w t k))
     unfolding ruleBytes x
     action-read =
-        field-read 4 (action w x) (imageOf w t) (ruleBytes w t k) (bodyPlace w (tableRules w t) k) (bodyBytes w) (2 * w * 8 + 4) (image-body w t k h) (omega arith)
+        field-read 4 (action w x) (imageOf w t) (ruleBytes w t k) (bodyPlace w (ruleCount w t) k) (bodyBytes w) (2 * w * 8 + 4) (image-body w t k h) (omega arith)
         (body-action w x) action-small
 
     -- the record read is the record saved
-    pub record-read : SameRecord w (word (recordAt w (imageOf w t) (tableRules w t) k)) (slotWords w t (ruleSlot w t k))
+    pub record-read : SameRecord w (word (recordAt w (imageOf w t) (ruleCount w t) k)) (slotWords w t (ruleSlot w t k))
     record-read j l = pick (decLt j (2 * w)) (ℕ-discrete j (2 * w))
       where
-        pick : Dec (j < 2 * w) → Dec (j ≡ 2 * w) → word (recordAt w (imageOf w t) (tableRules w t) k) j ≡ slotWords w t (ruleSlot w t k) j
-        pick (yes r) d = record-word w (imageOf w t) (tableRules w t) k j r ∙ word-read j r
+        pick : Dec (j < 2 * w) → Dec (j ≡ 2 * w) → word (recordAt w (imageOf w t) (ruleCount w t) k) j ≡ slotWords w t (ruleSlot w t k) j
+        pick (yes r) d = record-word w (imageOf w t) (ruleCount w t) k j r ∙ word-read j r
         pick (no r) (yes f) =
-            ap (λ (i : ℕ). word (recordAt w (imageOf w t) (tableRules w t) k) i) f
-            ∙ (record-both w (imageOf w t) (tableRules w t) k
+            ap (λ (i : ℕ). word (recordAt w (imageOf w t) (ruleCount w t) k) i) f
+            ∙ (record-both w (imageOf w t) (ruleCount w t) k
             ∙ (ap₂ (λ (i a : ℕ). i * 4294967296 + a) id-read action-read
             ∙ (div-add-mod' (slotWords w t (ruleSlot w t k) (2 * w)) 4294967296 ∙ ap (λ (i : ℕ). slotWords w t (ruleSlot w t k) i) (sym f))))
         pick (no r) (no f) =
             let last : j ≡ 2 * w + 1 = omega arith in
-            ap (λ (i : ℕ). word (recordAt w (imageOf w t) (tableRules w t) k) i) last
-            ∙ (record-rank w (imageOf w t) (tableRules w t) k ∙ (rank-read ∙ ap (λ (i : ℕ). slotWords w t (ruleSlot w t k) i) (sym last)))
+            ap (λ (i : ℕ). word (recordAt w (imageOf w t) (ruleCount w t) k) i) last
+            ∙ (record-rank w (imageOf w t) (ruleCount w t) k ∙ (rank-read ∙ ap (λ (i : ℕ). slotWords w t (ruleSlot w t k) i) (sym last)))
 
   -- so the image passes the checks of a load
   pub saved-passes : Sound w (imageOf w t) (slots w t)
@@ -256,10 +256,10 @@ module _ (w : ℕ) (t : List ℕ) (narrow : Numbered w) (sixty-four : Words64 t)
     records = λ k l. ap (λ (n : ℕ). sound w (word (recordAt w (imageOf w t) n k))) rules-read ∙ (sound-same w _ _ (record-read k (into k l)) ∙ saved-sound k (into k l));
   }
     where
-      into : (k : ℕ) → k < rulesIn (imageOf w t) → k < tableRules w t
+      into : (k : ℕ) → k < rulesIn (imageOf w t) → k < ruleCount w t
       into k l = omega (arith, rules-read)
 
-      rising : (k : ℕ) → k < tableRules w t → lowestSlot (imageOf w t) k ≤ slotAt (imageOf w t) k
+      rising : (k : ℕ) → k < ruleCount w t → lowestSlot (imageOf w t) k ≤ slotAt (imageOf w t) k
       rising zero h = omega arith
       rising (suc k) h =
           omega (arith, slot-read k (omega arith), slot-read (suc k) h, index-rises (holds w t) (slots w t) k (suc k) (omega arith) h)

@@ -17,7 +17,7 @@ use Rattle.records.specs.Laws.{or-else-pass, empty-law, shape-same}
 use Rattle.records.specs.Entries.{SameRecord, shaped-slots}
 use Rattle.records.specs.declared.Check.the-variants.{Pass}
 use Rattle.image.specs.Indices.{indices, index-at, index-hit}
-use Rattle.image.specs.Format.{holds, tableRules, ruleSlot, imageOf, rulesIn, slotAt, recordAt}
+use Rattle.image.specs.Format.{holds, ruleCount, ruleSlot, imageOf, rulesIn, slotAt, recordAt}
 use Rattle.image.specs.Checks.{imageChecks, meant}
 use Rattle.image.specs.Answers.{loadAnswer, loadTable}
 use Rattle.image.specs.CheckLaws.{Sound, image-law}
@@ -40,7 +40,7 @@ module _ (w : ℕ) (t : List ℕ) (narrow : Numbered w) (sixty-four : Words64 t)
   back : Sound w (imageOf w t) (slots w t)
   back = saved-passes w t narrow sixty-four passed
 
-  into : (k : ℕ) → k < rulesIn (imageOf w t) → k < tableRules w t
+  into : (k : ℕ) → k < rulesIn (imageOf w t) → k < ruleCount w t
   into k l = omega (arith, rules-read w t narrow sixty-four passed)
 
   meant-saved : meant w (imageOf w t) (slots w t * recordWords w) ≡ t
@@ -50,7 +50,7 @@ module _ (w : ℕ) (t : List ℕ) (narrow : Numbered w) (sixty-four : Words64 t)
       m : List ℕ
       m = meant w (imageOf w t) (slots w t * recordWords w)
 
-      here : (i k : ℕ) → (k < tableRules w t) → ruleSlot w t k ≡ i → SameRecord w (slotWords w m i) (slotWords w t i)
+      here : (i k : ℕ) → (k < ruleCount w t) → ruleSlot w t k ≡ i → SameRecord w (slotWords w m i) (slotWords w t i)
       here i k l f j r =
           let there : slotAt (imageOf w t) k ≡ i = slot-read w t narrow sixty-four passed k l ∙ f in
           ap (λ (s : ℕ). slotWords w m s j) (sym there)

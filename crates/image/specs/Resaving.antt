@@ -19,7 +19,7 @@ use Rattle.records.specs.Entries.{SameRecord, ident-cong, action-cong, rank-con
 use Rattle.records.specs.declared.Check.the-variants.{Pass}
 use Rattle.image.specs.Bytes.{bytesOf, part, pieces}
 use Rattle.image.specs.ByteLaws.{Bytes, bytes-number, part-add, part-whole, part-pieces, pieces-cong}
-use Rattle.image.specs.Format.{bodyBytes, entryPlace, bodyPlace, entryOf, bodyOf, holds, tableRules, entryBytes, ruleBytes, imageOf, rulesIn, idAt, slotAt, offsetAt, recordAt}
+use Rattle.image.specs.Format.{bodyBytes, entryPlace, bodyPlace, entryOf, bodyOf, holds, ruleCount, entryBytes, ruleBytes, imageOf, rulesIn, idAt, slotAt, offsetAt, recordAt}
 use Rattle.image.specs.Checks.{meant}
 use Rattle.image.specs.SaveLaws.{image-bytes, body-within}
 use Rattle.image.specs.CheckLaws.{Sound}
@@ -97,7 +97,7 @@ module _ (w : ℕ) (b : List ℕ) (n : ℕ) (s : Sound w b n) (bytes : Bytes b) 
       (ap (pieces (ruleBytes w m)) rules ∙ (pieces-cong (rulesIn b) body-same ∙ sym (part-pieces b (4 + rulesIn b * 10) (bodyBytes w) (rulesIn b))))
       ∙ sym whole
     where
-      rules : tableRules w (meant w b (n * recordWords w)) ≡ rulesIn b
+      rules : ruleCount w (meant w b (n * recordWords w)) ≡ rulesIn b
       rules = meant-rules w b n s
 
       long : length b ≡ 4 + rulesIn b * 10 + rulesIn b * bodyBytes w

@@ -1,49 +1,84 @@
 -- Saving and loading undo each other: a saved image loads to the table it was saved from, and an image that loads is saved again to the same bytes.
 -- So sound tables and the images that load correspond one to one. Stated of the functions that the contracts of save and load cite.
 use mathlib.Core.Path.{_≡_, refl, sym, ap, ap₂, subst, _∙_}
-use mathlib.Core.Bool.{true, cond, true≢false}
+use mathlib.Core.Bool.{true, true≢false}
+use mathlib.Core.Logic.{_↔_}
 use mathlib.Core.List.{List, [], _∷_, _++_}
-use Prim.Native.Nat.{ℕ, _+_, _*_, _≤_}
+use Prim.Native.Nat.{ℕ, _+_, _*_, _≤_, _<_}
+use native.Mathlib.Decide.{decLt}
 use native.Mathlib.Omega.{arith}
-use lib.Dec.{eqb, ltb}
-use lib.ListN.{length, getD, take, drop}
+use lib.Dec.{eqb}
+use lib.ListN.{length, take, drop}
 use lib.Seq.{take-at}
-use borrow.Author.Tests.{ltb-false}
 use Rattle.records.specs.Record.{recordWords, sound}
 use Rattle.records.specs.Order.{slots}
-use Rattle.records.specs.Checks.{Told, success, unless, passes, orElse, checkShape, checkRecords, checkTwice, checkOrder, slotChecks, tableChecks}
-use Rattle.records.specs.Laws.{cause-not-zero, or-else-pass, cond-pass, shape-same}
+use Rattle.records.specs.Checks.{Told, success, unless, orElse, checkShape, checkRecords, checkTwice, checkOrder, slotChecks, tableChecks}
+use Rattle.records.specs.Laws.{cause-not-zero, or-else-pass, shape-same}
 use Rattle.records.specs.Entries.{shaped-slots}
 use Rattle.records.specs.declared.Cause.the-variants.{Short}
 use Rattle.records.specs.declared.Check.{Check}
 use Rattle.records.specs.declared.Check.the-variants.{Pass, Fail}
-use Rattle.plans.specs.Plans.{checkRoom, planAnswer, plan-written}
+use Rattle.plans.specs.Plans.{checkRoom, planAnswer, plan-accepted, plan-short, plan-written}
 use Rattle.image.specs.ByteLaws.{Bytes}
-use Rattle.image.specs.Format.{imageBytes, tableRules, imageOf, slotsIn}
+use Rattle.image.specs.Format.{imageBytes, ruleCount, imageOf, slotsIn}
 use Rattle.image.specs.Checks.{imageChecks, meant, loadChecks}
 use Rattle.image.specs.Answers.{saveAnswer, saveBuffer, loadAnswer, loadTable}
-use Rattle.image.specs.SaveLaws.{image-length, save-answer}
+use Rattle.image.specs.SaveLaws.{save-answer}
 use Rattle.image.specs.CheckLaws.{Sound, image-law}
+use Rattle.image.specs.LoadLaws.{load-written}
 use Rattle.image.specs.Meaning.{meant-length}
 use Rattle.image.specs.Reading.{Words64, Numbered, slots-read}
 use Rattle.image.specs.Reloading.{saved-size, image-loads}
 use Rattle.image.specs.Resaving.{image-back, meant-records, meant-words}
 
--- which answers are successes
-told-pass : (check : Check) (values other : List ℕ) → unless check (success values) ≡ success other → (check ≡ Pass) × (values ≡ other)
-told-pass Pass values other e = (refl, ap (λ (told : Told). told .values) e)
-told-pass (Fail cause spot) values other e = absurd (true≢false (ap (λ (told : Told). eqb (told .number) 0) (sym e) ∙ cause-not-zero cause))
+-- which answers are successes: the number alone tells
+unless-zero : (check : Check) (values : List ℕ) → 0 ≡ unless check (success values) .number → check ≡ Pass
+unless-zero Pass values e = refl
+unless-zero (Fail cause spot) values e = absurd (true≢false (ap (λ (n : ℕ). eqb n 0) e ∙ cause-not-zero cause))
 
--- a save succeeds exactly on a sound table with room for its image, and tells the image's bytes
-pub save-succeeds : (w : ℕ) (t : List ℕ) (room bytes : ℕ) → saveAnswer w t room ≡ success (bytes ∷ [])
-    → (tableChecks w t ≡ Pass) × (length (imageOf w t) ≤ room) × (bytes ≡ length (imageOf w t))
-unfolding planAnswer checkRoom
-save-succeeds w t room bytes e =
-    let told = told-pass (orElse (tableChecks w t) (checkRoom (imageBytes w (tableRules w t)) room)) (imageBytes w (tableRules w t) ∷ []) (bytes ∷ []) e in
-    let both = or-else-pass (tableChecks w t) (checkRoom (imageBytes w (tableRules w t)) room) .0 (told .0) in
-    let needed = ap (λ (l : List ℕ). getD l 0 0) (told .1) in
-    let fits : imageBytes w (tableRules w t) ≤ room = ltb-false _ _ (cond-pass Short (imageBytes w (tableRules w t)) (ltb room (imageBytes w (tableRules w t))) (both .1)) in
-    (both .0, omega (arith, image-length w t), omega (arith, image-length w t))
+-- a save succeeds exactly on a sound table with room for its image, and then tells the image's bytes
+pub save-succeeds : (w : ℕ) (t image : List ℕ) (bytes : ℕ)
+    → (saveAnswer w t (length image) ≡ success (bytes ∷ []))
+    ↔ ((tableChecks w t ≡ Pass) × (length (imageOf w t) ≤ length image) × (bytes ≡ length (imageOf w t)))
+save-succeeds w t image bytes = (
+  λ e. let told = save-answer w t (length image) ∙ e in
+      let done = plan-accepted (tableChecks w t) (imageOf w t) image bytes told in
+      (done .0, room (done .0) told (decLt (length image) (length (imageOf w t))), done .1),
+  λ f. sym (save-answer w t (length image))
+      ∙ (sym (plan-written (imageOf w t) image refl (f .0) (f .1) .0) ∙ ap (λ (k : ℕ). success (k ∷ [])) (sym (f .2))),
+)
+  where
+    room : tableChecks w t ≡ Pass → planAnswer (tableChecks w t) (length (imageOf w t)) (length image) ≡ success (bytes ∷ [])
+        → Dec (length image < length (imageOf w t)) → length (imageOf w t) ≤ length image
+    room p told (yes h) =
+        absurd (true≢false (sym (ap (λ (x : Told). eqb (x .number) 0) (plan-short (imageOf w t) image refl p h .0 ∙ told)) ∙ cause-not-zero Short))
+    room p told (no h) = omega arith
+
+-- the number that a save tells is enough
+pub save-number : (w : ℕ) (t : List ℕ) (room : ℕ) → 0 ≡ saveAnswer w t room .number → saveAnswer w t room ≡ success (imageBytes w (ruleCount w t) ∷ [])
+unfolding planAnswer
+save-number w t room e =
+    let needed = imageBytes w (ruleCount w t) in
+    ap (λ (check : Check). unless check (success (needed ∷ []))) (unless-zero (orElse (tableChecks w t) (checkRoom needed room)) (needed ∷ []) e)
+
+-- a load succeeds exactly where the lent table's shape is good, every field of the image is right, and the table meant passes 3 and 4
+pub load-succeeds : (w : ℕ) (b lent : List ℕ)
+    → (loadAnswer w b lent ≡ success [])
+    ↔ ((checkShape w lent ≡ Pass) × Sound w b (slots w lent)
+    × (checkTwice w (meant w b (length lent)) ≡ Pass) × (checkOrder w (meant w b (length lent)) ≡ Pass))
+unfolding loadAnswer loadChecks
+load-succeeds w b lent =
+    let shape = checkShape w lent in
+    let image = imageChecks w b (slots w lent) in
+    let twice = checkTwice w (meant w b (length lent)) in
+    let order = checkOrder w (meant w b (length lent)) in (
+      λ told. let halves = or-else-pass (orElse shape image) (orElse twice order) .0 (unless-zero (loadChecks w b lent) [] (sym (ap (λ (x : Told). x .number) told))) in
+          let fields = or-else-pass shape image .0 (halves .0) in
+          let pairs = or-else-pass twice order .0 (halves .1) in
+          (fields .0, image-law w b (slots w lent) .0 (fields .1), pairs .0, pairs .1),
+      λ f. sym (load-written w b lent (or-else-pass shape image .1 (f .0, image-law w b (slots w lent) .1 (f .1)))
+          (sym (or-else-pass twice order .1 (f .2, f .3))) refl .0),
+    )
 
 -- document 01's tables are narrow enough: an image of two words a value has at most 51,204 bytes
 pub narrow-two : Numbered 2
@@ -54,7 +89,7 @@ pub saved-loads : (w : ℕ) (t image : List ℕ) (bytes : ℕ) → Numbered w �
     → (lent : List ℕ) → length lent ≡ length t
     → (loadAnswer w (take bytes (saveBuffer w t image)) lent ≡ success []) × (loadTable w (take bytes (saveBuffer w t image)) lent ≡ t)
 saved-loads w t image bytes narrow sixty-four e lent size =
-    let done = save-succeeds w t (length image) bytes e in
+    let done = save-succeeds w t image bytes .0 e in
     let written = plan-written (imageOf w t) image refl (done .0) (done .1) .1 in
     let same : take bytes (saveBuffer w t image) ≡ imageOf w t =
     ap₂ take (done .2) (sym written) ∙ take-at (imageOf w t) (drop (length (imageOf w t)) image) (length (imageOf w t)) refl in
@@ -69,11 +104,11 @@ pub record Loads (w : ℕ) (b lent : List ℕ) : Type 0 where
   pub image : imageOf w (loadTable w b lent) ≡ b
 
 pub load-leaves : (w : ℕ) (b lent : List ℕ) → Bytes b → loadAnswer w b lent ≡ success [] → Loads w b lent
-unfolding loadAnswer loadTable loadChecks tableChecks slotChecks
+unfolding tableChecks slotChecks
 load-leaves w b lent bytes told = record {
   sound = ap (tableChecks w) table ∙ or-else-pass (slotChecks w m) (orElse (checkTwice w m) (checkOrder w m)) .1 (
-    or-else-pass (checkShape w m) (checkRecords w m) .1 (shape-same w lent m (meant-length w b n s ∙ sym size) ∙ fields .0, meant-records w b n s bytes),
-    or-else-pass (checkTwice w m) (checkOrder w m) .1 (ap (checkTwice w) (sym meant-same) ∙ order .0, ap (checkOrder w) (sym meant-same) ∙ order .1),
+    or-else-pass (checkShape w m) (checkRecords w m) .1 (shape-same w lent m (meant-length w b n s ∙ sym size) ∙ right .0, meant-records w b n s bytes),
+    or-else-pass (checkTwice w m) (checkOrder w m) .1 (ap (checkTwice w) (sym meant-same) ∙ right .2, ap (checkOrder w) (sym meant-same) ∙ right .3),
   );
   words = subst Words64 (sym table) (meant-words w b n s bytes);
   size = ap length table ∙ (meant-length w b n s ∙ sym size);
@@ -86,29 +121,23 @@ load-leaves w b lent bytes told = record {
     m : List ℕ
     m = meant w b (n * recordWords w)
 
-    passing : loadChecks w b lent ≡ Pass
-    passing = told-pass (loadChecks w b lent) [] [] told .0
-
-    halves : (orElse (checkShape w lent) (imageChecks w b n) ≡ Pass) × (orElse (checkTwice w (meant w b (length lent))) (checkOrder w (meant w b (length lent))) ≡ Pass)
-    halves = or-else-pass _ _ .0 passing
-
-    fields : (checkShape w lent ≡ Pass) × (imageChecks w b n ≡ Pass)
-    fields = or-else-pass (checkShape w lent) (imageChecks w b n) .0 (halves .0)
-
-    order : (checkTwice w (meant w b (length lent)) ≡ Pass) × (checkOrder w (meant w b (length lent)) ≡ Pass)
-    order = or-else-pass (checkTwice w (meant w b (length lent))) (checkOrder w (meant w b (length lent))) .0 (halves .1)
+    right : (checkShape w lent ≡ Pass) × Sound w b n × (checkTwice w (meant w b (length lent)) ≡ Pass) × (checkOrder w (meant w b (length lent)) ≡ Pass)
+    right = load-succeeds w b lent .0 told
 
     size : length lent ≡ n * recordWords w
-    size = shaped-slots w lent (fields .0) .2
+    size = shaped-slots w lent (right .0) .2
 
     s : Sound w b n
-    s = image-law w b n .0 (fields .1)
+    s = right .1
 
     meant-same : meant w b (length lent) ≡ m
     meant-same = ap (meant w b) size
 
     table : loadTable w b lent ≡ m
-    table = ap (λ (check : Check). cond (passes check) (meant w b (length lent)) lent) passing ∙ meant-same
+    table =
+        sym (load-written w b lent (or-else-pass (checkShape w lent) (imageChecks w b n) .1 (right .0, image-law w b n .1 s))
+        (sym (or-else-pass (checkTwice w _) (checkOrder w _) .1 (right .2, right .3))) refl .1)
+        ∙ meant-same
 
 -- Document 01: an image that loads is saved again to the same bytes; what stands past it stays.
 pub loaded-saves : (w : ℕ) (b lent : List ℕ) → Bytes b → loadAnswer w b lent ≡ success [] → (image : List ℕ) → length b ≤ length image

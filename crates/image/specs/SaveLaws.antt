@@ -19,7 +19,7 @@ use Rattle.image.specs.Answers.{saveAnswer}
 use Rattle.image.specs.Bytes.{bytesOf, store, pieces}
 use Rattle.image.specs.ByteLaws.{length-bytes, pieces-length, store-none, store-length, store-next, store-then, store-swap}
 use Rattle.image.specs.Indices.{indices, index, count-high, index-at}
-use Rattle.image.specs.Format.{bodyBytes, imageBytes, entryPlace, bodyPlace, entryOf, bodyOf, holds, tableRules, ruleSlot, entryBytes, ruleBytes, imageOf}
+use Rattle.image.specs.Format.{bodyBytes, imageBytes, entryPlace, bodyPlace, entryOf, bodyOf, holds, ruleCount, ruleSlot, entryBytes, ruleBytes, imageOf}
 
 pub entry-length : (id slot body : ℕ) → length (entryOf id slot body) ≡ 10
 unfolding entryOf
@@ -47,7 +47,7 @@ body-within w e k h = omega (arith, image-bytes w e, mul-le-mul-right (bodyBytes
 
 module _ (w : ℕ) (t : List ℕ) where
   e : ℕ
-  e = tableRules w t
+  e = ruleCount w t
 
   contents : ℕ → List ℕ
   contents k = pieces (entryBytes w t) k
@@ -57,7 +57,7 @@ module _ (w : ℕ) (t : List ℕ) where
 
   pub entry-bytes-length : (k : ℕ) → length (entryBytes w t k) ≡ 10
   unfolding entryBytes
-  entry-bytes-length k = entry-length (ident w (slotWords w t (ruleSlot w t k))) (ruleSlot w t k) (bodyPlace w (tableRules w t) k)
+  entry-bytes-length k = entry-length (ident w (slotWords w t (ruleSlot w t k))) (ruleSlot w t k) (bodyPlace w (ruleCount w t) k)
 
   pub rule-bytes-length : (k : ℕ) → length (ruleBytes w t k) ≡ bodyBytes w
   unfolding ruleBytes
@@ -71,7 +71,7 @@ module _ (w : ℕ) (t : List ℕ) where
   unfolding bodies
   bodies-length k = pieces-length (ruleBytes w t) (bodyBytes w) rule-bytes-length k
 
-  pub image-length : length (imageOf w t) ≡ imageBytes w (tableRules w t)
+  pub image-length : length (imageOf w t) ≡ imageBytes w (ruleCount w t)
   unfolding imageOf contents bodies e
   image-length =
       length-append (bytesOf 2 (slots w t) ++ bytesOf 2 e ++ contents e) (bodies e)
@@ -91,7 +91,7 @@ module _ (w : ℕ) (t : List ℕ) where
   save-answer room = ap (λ (n : ℕ). planAnswer (tableChecks w t) n room) image-length
 
   -- a table that passes the checks holds at most 1,024 rules
-  pub rules-small : tableChecks w t ≡ Pass → tableRules w t ≤ 1024
+  pub rules-small : tableChecks w t ≡ Pass → ruleCount w t ≤ 1024
   unfolding tableChecks slotChecks
   rules-small passed =
       let shape = or-else-pass (checkShape w t) (checkRecords w t) .0 (or-else-pass (slotChecks w t) (orElse (checkTwice w t) (checkOrder w t)) .0 passed .0) .0 in
@@ -100,15 +100,15 @@ module _ (w : ℕ) (t : List ℕ) where
   -- a buffer with the entries and bodies of the first k rules
   unfoldable pub stored : List ℕ → ℕ → List ℕ
   unfolding contents bodies
-  stored b k = store (store b 4 (pieces (entryBytes w t) k)) (4 + tableRules w t * 10) (pieces (ruleBytes w t) k)
+  stored b k = store (store b 4 (pieces (entryBytes w t) k)) (4 + ruleCount w t * 10) (pieces (ruleBytes w t) k)
 
-  module _ (b : List ℕ) (fits : imageBytes w (tableRules w t) ≤ length b) where
+  module _ (b : List ℕ) (fits : imageBytes w (ruleCount w t) ≤ length b) where
     pub stored-none : b ≡ stored b 0
     unfolding stored pieces
-    stored-none = sym (store-none (store b 4 []) (4 + tableRules w t * 10) ∙ store-none b 4)
+    stored-none = sym (store-none (store b 4 []) (4 + ruleCount w t * 10) ∙ store-none b 4)
 
-    pub stored-more : (k : ℕ) → k < tableRules w t
-        → store (store (stored b k) (entryPlace k) (entryBytes w t k)) (bodyPlace w (tableRules w t) k) (ruleBytes w t k) ≡ stored b (suc k)
+    pub stored-more : (k : ℕ) → k < ruleCount w t
+        → store (store (stored b k) (entryPlace k) (entryBytes w t k)) (bodyPlace w (ruleCount w t) k) (ruleBytes w t k) ≡ stored b (suc k)
     unfolding stored pieces contents bodies e
     stored-more k h =
         ap (λ (x : List ℕ). store x (bodyPlace w e k) (ruleBytes w t k))
@@ -131,20 +131,20 @@ module _ (w : ℕ) (t : List ℕ) where
 
     -- the loop over the slots: a slot that holds a rule holds the next one
     pub rule-stored : {image : List ℕ} (slot k : ℕ) → slot < slots w t → holds w t slot ≡ true → k ≡ length (indices (holds w t) slot) → image ≡ stored b k
-        → store (store image (entryPlace k) (entryOf (ident w (slotWords w t slot)) slot (bodyPlace w (tableRules w t) k)))
-        (bodyPlace w (tableRules w t) k) (bodyOf w (slotWords w t slot))
+        → store (store image (entryPlace k) (entryOf (ident w (slotWords w t slot)) slot (bodyPlace w (ruleCount w t) k)))
+        (bodyPlace w (ruleCount w t) k) (bodyOf w (slotWords w t slot))
         ≡ stored b (suc k)
     unfolding entryBytes ruleBytes
     rule-stored slot k h t' c i =
         let found = index-at (holds w t) (slots w t) slot h t' in
         let here : slot ≡ ruleSlot w t k = sym (ap (index (holds w t) (slots w t)) c ∙ found .1) in
-        ap (λ (x : List ℕ). store (store x (entryPlace k) (entryOf (ident w (slotWords w t slot)) slot (bodyPlace w (tableRules w t) k))) (bodyPlace w (tableRules w t) k) (bodyOf w (slotWords w t slot))) i
-        ∙ (ap (λ (s : ℕ). store (store (stored b k) (entryPlace k) (entryOf (ident w (slotWords w t s)) s (bodyPlace w (tableRules w t) k))) (bodyPlace w (tableRules w t) k) (bodyOf w (slotWords w t s))) here
+        ap (λ (x : List ℕ). store (store x (entryPlace k) (entryOf (ident w (slotWords w t slot)) slot (bodyPlace w (ruleCount w t) k))) (bodyPlace w (ruleCount w t) k) (bodyOf w (slotWords w t slot))) i
+        ∙ (ap (λ (s : ℕ). store (store (stored b k) (entryPlace k) (entryOf (ident w (slotWords w t s)) s (bodyPlace w (ruleCount w t) k))) (bodyPlace w (ruleCount w t) k) (bodyOf w (slotWords w t s))) here
         ∙ stored-more k (omega (arith, found .0)))
 
     -- behind the header the rules make the image, and what stood past it stays
-    pub image-stored : {first second image : List ℕ} → first ≡ store b 0 (bytesOf 2 (slots w t)) → second ≡ store first 2 (bytesOf 2 (tableRules w t))
-        → image ≡ stored second (tableRules w t) → image ≡ imageOf w t ++ drop (length (imageOf w t)) b
+    pub image-stored : {first second image : List ℕ} → first ≡ store b 0 (bytesOf 2 (slots w t)) → second ≡ store first 2 (bytesOf 2 (ruleCount w t))
+        → image ≡ stored second (ruleCount w t) → image ≡ imageOf w t ++ drop (length (imageOf w t)) b
     unfolding stored imageOf contents bodies e store
     image-stored f s i =
         let header = bytesOf 2 (slots w t) ++ bytesOf 2 e in

@@ -1,8 +1,6 @@
-// Saving a table as an image of bytes, and loading it: the image may be a part of a larger slice.
-// Each contract is an equation for the reply and for the lent buffer on all inputs, refused ones too; specs/ has the definitions.
+// The saved image of a table: fields of bytes, and what a save and a load answer. The image may be a part of a larger slice.
+// specs/ has the definitions of both calls, and the theorems of the round trip; the calls are in `saves` and `loads`.
 pub mod fields;
-pub mod load;
-pub mod save;
 
 use records::Cause;
 

@@ -2,8 +2,8 @@
 // A refused save leaves the image buffer, a refused load the table, as it was.
 use image::LoadAnswer;
 use image::SaveAnswer;
-use image::load::load;
-use image::save::save;
+use loads::load;
+use saves::save;
 use records::cause_number;
 ghost use Rattle.tcam.specs.Images.{SaveLeft, LoadLeft};
 

@@ -30,7 +30,7 @@ returns c =
     let e = sym (ap saveTold (c .before .info .given .1)) ∙ c .before .before .before .before .before .save .ensures .0 in
     record {
       number = ap (λ (t : Told). t .number) e;
-      saved = c .before .before .before .before .before .save .ensures .1;
+      plan = c .before .before .before .before .before .save .ensures .1;
       counted = ap (λ (t : Told). dataCell t 0 (now (a .bytes))) e;
       spotted = ap (λ (t : Told). spotCell t (now (a .spot))) e;
     }
@@ -45,7 +45,7 @@ returns-2 c =
     let e = sym (ap saveTold (c .before .before .cause .given .1)) ∙ c .before .before .before .before .before .before .save .ensures .0 in
     record {
       number = c .cause-number .ensures ∙ ap (λ (t : Told). t .number) e;
-      saved = c .before .before .before .before .before .before .save .ensures .1;
+      plan = c .before .before .before .before .before .before .save .ensures .1;
       counted = refusal-kept cause _ 0 (now (a .bytes)) e;
       spotted = refusal-put cause _ (now (a .spot)) e;
     }

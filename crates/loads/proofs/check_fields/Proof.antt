@@ -1,0 +1,37 @@
+-- `loads::check_fields` meets its contract.
+-- The image is looked at where the table has a shape.
+use mathlib.Core.Path.{sym, _∙_}
+use native.Mathlib.Omega.{arith}
+use Rattle.records.specs.Laws.{failed, passed, shape-length}
+use borrow.Author.Needs.{needs}
+use Rattle.loads.proofs.check_fields.Statement.{statement}
+use Rattle.loads.proofs.check_fields.Tie as tie
+
+check-shape-requires : tie.Need-check-shape-requires
+check-shape-requires c κs = search needs
+
+enum-known-shape : tie.Need-enum-known-shape
+enum-known-shape c = search needs
+
+returns : tie.Need-returns
+returns c = failed _ (c .before .before .before .check-shape .ensures) (c .before .shape .given .1)
+
+enum-told : tie.Need-enum-told
+enum-told c = search needs
+
+check-image-requires : tie.Need-check-image-requires
+check-image-requires c κs = omega (arith, shape-length 2 (c .before .before .before .before .before .args .table .now) (sym (c .before .before .check-shape .ensures) ∙ c .enum-told .given .1))
+
+returns-2 : tie.Need-returns-2
+returns-2 c = passed (c .before .before .before .check-shape .ensures) (c .before .enum-told .given .1) (c .check-image .ensures)
+
+pub check-fields-spec : {M : Type 1} → statement M
+check-fields-spec =
+    tie.close
+    (tie.spec
+    check-shape-requires
+    enum-known-shape
+    returns
+    enum-told
+    check-image-requires
+    returns-2)

@@ -1,0 +1,65 @@
+-- `loads::check_header` meets its contract.
+-- Each return is a field that is wrong, or both right.
+use mathlib.Core.Path.{sym, ap, ap₂, _∙_}
+use mathlib.Core.Bool.{Bool, _&&_}
+use Prim.Native.Nat.{_-_}
+use native.Mathlib.Omega.{arith}
+use lib.Dec.{eqb, leb}
+use lib.ListN.{length}
+use borrow.Author.Tests.{eq-eqb, ne-eqb, le-leb, lt-leb}
+use Rattle.search.specs.Search.{and-both}
+use Rattle.image.specs.Bytes.{numberAt}
+use Rattle.image.specs.ByteLaws.{number-small}
+use Rattle.image.specs.Checks.{field, checkHeader}
+use Rattle.image.specs.Format.{rulesIn, imageBytes}
+use Rattle.image.specs.CheckLaws.{field-wrong, field-right, field-last, field-last-wrong}
+use borrow.Author.Needs.{needs}
+use Rattle.loads.proofs.check_header.Statement.{statement}
+use Rattle.loads.proofs.check_header.Tie as tie
+
+returns : tie.Need-returns
+unfolding checkHeader
+returns c = field-wrong 0 (field (leb (rulesIn (c .before .before .args .image .now)) (c .before .before .args .slots) && eqb (length (c .before .before .args .image .now)) (imageBytes 2 (rulesIn (c .before .before .args .image .now)))) 2) (ap (λ (q : Bool). q && eqb (numberAt (c .before .before .args .image .now) 0 2) (c .before .before .args .slots)) (lt-leb 4 _ (c .if1 .taken)))
+
+number-at-requires : tie.Need-number-at-requires
+number-at-requires c κs = search needs
+
+returns-2 : tie.Need-returns-2
+unfolding checkHeader
+returns-2 c = field-wrong 0 _ (ap₂ _&&_ (le-leb 4 _ (c .before .before .if1 .left)) (ne-eqb _ _ (λ e. c .if2 .taken (c .before .number-at .ensures ∙ e))))
+
+number-at-requires-2 : tie.Need-number-at-requires-2
+number-at-requires-2 c κs = search needs
+
+mul-if3 : tie.Need-mul-if3
+mul-if3 c =
+    omega (arith, c .number-at2 .ensures, number-small 2 (c .before .before .before .before .before .args .image .now) 2 (λ i. omega (arith, c .before .before .before .before .shared-slice-known .given i)))
+
+add-if3 : tie.Need-add-if3
+add-if3 c =
+    omega (arith, c .number-at2 .ensures, number-small 2 (c .before .before .before .before .before .args .image .now) 2 (λ i. omega (arith, c .before .before .before .before .shared-slice-known .given i)))
+
+returns-3 : tie.Need-returns-3
+unfolding checkHeader
+returns-3 c =
+    field-right 0 (and-both _ _ (le-leb 4 _ (c .before .before .before .before .if1 .left)) (eq-eqb _ _ (sym (c .before .before .before .number-at .ensures) ∙ c .before .before .if2 .left)))
+    (field-last 2 (rw (c .before .number-at2 .ensures) at (c .if3 .taken)))
+
+returns-4 : tie.Need-returns-4
+unfolding checkHeader
+returns-4 c =
+    field-right 0 (and-both _ _ (le-leb 4 _ (c .before .before .before .before .if1 .left)) (eq-eqb _ _ (sym (c .before .before .before .number-at .ensures) ∙ c .before .before .if2 .left)))
+    (field-last-wrong 2 (rw (c .before .number-at2 .ensures) at (c .if3 .left)))
+
+pub check-header-spec : {M : Type 1} → statement M
+check-header-spec =
+    tie.close
+    (tie.spec
+    returns
+    number-at-requires
+    returns-2
+    number-at-requires-2
+    mul-if3
+    add-if3
+    returns-3
+    returns-4)

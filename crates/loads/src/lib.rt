@@ -1,0 +1,234 @@
+// Loading an image: every field is checked and the table meant is built apart, before the lent table is written.
+// A refused load leaves the lent table as it was; of it only the length counts.
+use image::LoadAnswer;
+use image::fields::number_at;
+use records::Cause;
+use records::Check;
+use records::checks::check_order;
+use records::checks::check_shape;
+use records::checks::check_twice;
+use records::slot::parts_sound;
+use records::slot::put_record;
+ghost use mathlib.Core.Path.{_≡_};
+ghost use Prim.Native.Nat.{ℕ, _+_, _*_, _/_, _≤_, _<_};
+ghost use lib.ListN.{length, replicate};
+ghost use Rattle.records.specs.Checks.{orElse, checkShape, checkTwice, checkOrder};
+ghost use Rattle.records.specs.declared.Check.the-variants.{Pass};
+ghost use Rattle.image.specs.Format.{imageBytes, slotAt, rulesIn, recordAt};
+ghost use Rattle.image.specs.Checks.{checkHeader, lowestSlot, checkEntry, checkBody, checkContents, checkBodies, imageChecks, filled, meant, loadChecks};
+ghost use Rattle.image.specs.Answers.{loadTold, loadAnswer, loadTable};
+
+// Slots as the lent table's; rules no more than slots, and as many bytes as so many rules have.
+fn check_header(image: &[u8], slots: usize) -> Check
+    ensures { λ r. ⌜ r ≡ checkHeader 2 (now (image .entry)) slots ⌝ }
+{
+    let bytes = image.len();
+    if bytes < 4 {
+        return Check::Fail(Cause::Image, 0);
+    }
+    if number_at(image, 0, 2) as usize != slots {
+        return Check::Fail(Cause::Image, 0);
+    }
+    let rules = number_at(image, 2, 2) as usize;
+    if (rules <= slots) & (bytes == 4 + rules * 50) {
+        return Check::Pass;
+    }
+    Check::Fail(Cause::Image, 2)
+}
+
+// The lowest slot that an entry may name: above the entry before.
+fn lowest_slot(image: &[u8], entry: usize) -> u64
+    requires { ⌜ (entry ≤ 1024) × (4 + entry * 10 ≤ length (now image)) ⌝ }
+    ensures { λ r. ⌜ r ≡ lowestSlot (now (image .entry)) entry ⌝ }
+{
+    if entry == 0 {
+        return 0;
+    }
+    number_at(image, 4 + (entry - 1) * 10 + 4, 2) + 1
+}
+
+// An entry of the contents: id, slot and offset, each a field of its own.
+fn check_entry(image: &[u8], slots: usize, rules: usize, entry: usize) -> Check
+    requires { ⌜ (rules ≤ 1024) × (entry < rules) × (imageBytes 2 rules ≤ length (now image)) ⌝ }
+    ensures { λ r. ⌜ r ≡ checkEntry 2 (now (image .entry)) slots rules entry ⌝ }
+{
+    let at = 4 + entry * 10;
+    if number_at(image, at, 4) == 0 {
+        return Check::Fail(Cause::Image, at as u32);
+    }
+    let slot = number_at(image, at + 4, 2);
+    let lowest = lowest_slot(image, entry);
+    if !((slot < slots as u64) & (lowest <= slot)) {
+        return Check::Fail(Cause::Image, (at + 4) as u32);
+    }
+    if number_at(image, at + 6, 4) as usize != 4 + rules * 10 + entry * 40 {
+        return Check::Fail(Cause::Image, (at + 6) as u32);
+    }
+    Check::Pass
+}
+
+// The record that an entry and its body mean.
+fn record_at(image: &[u8], rules: usize, entry: usize) -> [u64; 6]
+    requires { ⌜ (rules ≤ 1024) × (entry < rules) × (imageBytes 2 rules ≤ length (now image)) ⌝ }
+    ensures { λ r. ⌜ r ≡ recordAt 2 (now (image .entry)) rules entry ⌝ }
+{
+    let body = 4 + rules * 10 + entry * 40;
+    let id = number_at(image, 4 + entry * 10, 4);
+    let action = number_at(image, body + 36, 4);
+    [
+        number_at(image, body, 8),
+        number_at(image, body + 8, 8),
+        number_at(image, body + 16, 8),
+        number_at(image, body + 24, 8),
+        id * 4294967296 + action,
+        number_at(image, body + 32, 4),
+    ]
+}
+
+// A body: its value and priority are a sound rule's.
+fn check_body(image: &[u8], rules: usize, entry: usize) -> Check
+    requires { ⌜ (rules ≤ 1024) × (entry < rules) × (imageBytes 2 rules ≤ length (now image)) ⌝ }
+    ensures { λ r. ⌜ r ≡ checkBody 2 (now (image .entry)) rules entry ⌝ }
+{
+    let words = record_at(image, rules, entry);
+    let sound = parts_sound(
+        words[4] / 4294967296,
+        words[5],
+        words[0],
+        words[1],
+        words[2],
+        words[3],
+    );
+    if sound {
+        return Check::Pass;
+    }
+    Check::Fail(Cause::Image, (4 + rules * 10 + entry * 40) as u32)
+}
+
+// Each contents entry in turn.
+fn check_contents(image: &[u8], slots: usize, rules: usize) -> Check
+    requires { ⌜ (rules ≤ 1024) × (imageBytes 2 rules ≤ length (now image)) ⌝ }
+    ensures { λ r. ⌜ r ≡ checkContents 2 (now (image .entry)) slots rules ⌝ }
+{
+    let mut entry = 0;
+    while entry < rules {
+        let check = check_entry(image, slots, rules, entry);
+        if let Check::Fail(cause, spot) = check {
+            return Check::Fail(cause, spot);
+        }
+        entry += 1;
+    }
+    Check::Pass
+}
+
+// Each body in turn.
+fn check_bodies(image: &[u8], rules: usize) -> Check
+    requires { ⌜ (rules ≤ 1024) × (imageBytes 2 rules ≤ length (now image)) ⌝ }
+    ensures { λ r. ⌜ r ≡ checkBodies 2 (now (image .entry)) rules ⌝ }
+{
+    let mut entry = 0;
+    while entry < rules {
+        let check = check_body(image, rules, entry);
+        if let Check::Fail(cause, spot) = check {
+            return Check::Fail(cause, spot);
+        }
+        entry += 1;
+    }
+    Check::Pass
+}
+
+// Every field of an image, for a table of so many slots.
+fn check_image(image: &[u8], slots: usize) -> Check
+    requires { ⌜ slots ≤ 1024 ⌝ }
+    ensures { λ r. ⌜ r ≡ imageChecks 2 (now (image .entry)) slots ⌝ }
+{
+    let header = check_header(image, slots);
+    if let Check::Fail(cause, spot) = header {
+        return Check::Fail(cause, spot);
+    }
+    let rules = number_at(image, 2, 2) as usize;
+    let contents = check_contents(image, slots, rules);
+    if let Check::Fail(cause, spot) = contents {
+        return Check::Fail(cause, spot);
+    }
+    check_bodies(image, rules)
+}
+
+// The shape of the lent table, then the image.
+fn check_fields(image: &[u8], table: &[u64]) -> Check
+    ensures { λ r. ⌜ r ≡ orElse (checkShape 2 (now (table .entry))) (imageChecks 2 (now (image .entry)) (length (now (table .entry)) / 6)) ⌝ }
+{
+    let shape = check_shape(table);
+    if let Check::Fail(cause, spot) = shape {
+        return Check::Fail(cause, spot);
+    }
+    check_image(image, table.len() / 6)
+}
+
+// Puts each rule's record into its slot.
+fn fill(image: &[u8], rules: usize, table: &mut [u64])
+    requires { ⌜ (rules ≤ 1024) × (imageBytes 2 rules ≤ length (now image)) ⌝ }
+    requires { ⌜ ((k : ℕ) → k < rules → slotAt (now image) k < length (now table) / 6) ⌝ }
+    ensures { λ _. ⌜ now (table .exit) ≡ filled 2 (now (image .entry)) rules (now (table .entry)) rules ⌝ }
+{
+    let mut entry = 0;
+    while entry < rules {
+        let slot = number_at(image, 4 + entry * 10 + 4, 2) as usize;
+        put_record(table, slot, record_at(image, rules, entry));
+        entry += 1;
+    }
+}
+
+// Checks 3 and 4 of the table meant.
+fn check_meant(table: &[u64]) -> Check
+    requires { ⌜ length (now table) ≤ 6144 ⌝ }
+    ensures { λ r. ⌜ r ≡ orElse (checkTwice 2 (now (table .entry))) (checkOrder 2 (now (table .entry))) ⌝ }
+{
+    let twice = check_twice(table);
+    if let Check::Fail(cause, spot) = twice {
+        return Check::Fail(cause, spot);
+    }
+    check_order(table)
+}
+
+// Writes a table's words over another's.
+fn copy_words(from: &[u64], to: &mut [u64])
+    requires { ⌜ length (now from) ≡ length (now to) ⌝ }
+    ensures { λ _. ⌜ now (to .exit) ≡ now (from .entry) ⌝ }
+{
+    let mut word = 0;
+    while word < from.len() {
+        to[word] = from[word];
+        word += 1;
+    }
+}
+
+// The table meant by an image that passes its checks: built in a working table of zeros, checked there, then written.
+fn load_through(image: &[u8], working: &mut [u64], table: &mut [u64]) -> LoadAnswer
+    requires { ⌜ (orElse (checkShape 2 (now table)) (imageChecks 2 (now image) (length (now table) / 6)) ≡ Pass) × (now working ≡ replicate (length (now table)) 0) ⌝ }
+    ensures { λ r. ⌜ loadTold r ≡ loadAnswer 2 (now (image .entry)) (now (table .entry)) ⌝ }
+    ensures { λ _. ⌜ now (table .exit) ≡ loadTable 2 (now (image .entry)) (now (table .entry)) ⌝ }
+{
+    let rules = number_at(image, 2, 2) as usize;
+    fill(image, rules, working);
+    let check = check_meant(working);
+    if let Check::Fail(cause, spot) = check {
+        return LoadAnswer::Refused(cause, spot);
+    }
+    copy_words(working, table);
+    LoadAnswer::Loaded
+}
+
+// The table of an image, into the lent table, or a refusal that leaves it as it was.
+pub fn load(image: &[u8], table: &mut [u64]) -> LoadAnswer
+    ensures { λ r. ⌜ loadTold r ≡ loadAnswer 2 (now (image .entry)) (now (table .entry)) ⌝ }
+    ensures { λ _. ⌜ now (table .exit) ≡ loadTable 2 (now (image .entry)) (now (table .entry)) ⌝ }
+{
+    let check = check_fields(image, table);
+    if let Check::Fail(cause, spot) = check {
+        return LoadAnswer::Refused(cause, spot);
+    }
+    let words = table.len();
+    let mut working = [0u64; 6144];
+    load_through(image, &mut working[0..words], table)
+}
