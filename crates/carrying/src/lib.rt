@@ -1,9 +1,5 @@
-// Carrying a plan out, one write per call: the checks of document 01's "Carrying out" in their order, then the write.
-// How far a plan is carried out is handed in as numbers; the answer tells how far it is afterwards.
-pub mod step;
-pub mod whole;
-pub mod writes;
-
+// What carrying a plan out answers; specs/ has the definitions of a step and of steps one after the other, for every table and plan.
+// The calls are in `steps`.
 use records::Cause;
 
 // What a step that wrote tells: how many writes are done now.

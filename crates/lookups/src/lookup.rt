@@ -3,12 +3,12 @@
 use crate::Hit;
 use crate::LookupAnswer;
 use records::Check;
-use records::checks::check_slots;
-use records::checks::first_match;
-use records::rules::lower_half;
-use records::rules::upper_half;
-use records::slot::slot_empty;
-use records::slot::slot_word;
+use table_checks::check_slots;
+use table_checks::first_match;
+use slots::rules::lower_half;
+use slots::rules::upper_half;
+use slots::slot_empty;
+use slots::slot_word;
 ghost use mathlib.Core.Path.{_≡_};
 ghost use Prim.Native.Nat.{_+_, _*_, _<_, _≤_, _/_};
 ghost use lib.ListN.{length};

@@ -1,8 +1,8 @@
 // The windows of a table's rules along one direction, for the planner: position p is slot p going down, slot n − 1 − p going up.
 // Words are read in the table itself; the numbers go into a lent array.
 use planner::slot_at;
-use records::slot::misordered_pair;
-use records::slot::slot_empty;
+use slots::misordered_pair;
+use slots::slot_empty;
 ghost use mathlib.Core.Path.{_≡_};
 ghost use mathlib.Core.List.{_++_};
 ghost use Prim.Native.Nat.{_≤_, _<_, _/_};

@@ -1,12 +1,7 @@
-// The words of a lent table: slot records and rules, the checks that refuse a table, the first match of a key.
-// Words are read in the table itself; definitions are in specs/, for any number of words of a value.
-pub mod checks;
-
+// A rule, the causes of refusals and what a check answers; specs/ has what the words of a lent table mean, for any number of words of a value.
+// The code that reads the words is in `slots`, the checks of a whole table in `table_checks`.
 ghost use mathlib.Core.Path.{_≡_};
 ghost use Rattle.records.specs.Checks.{causeNumber};
-
-pub mod rules;
-pub mod slot;
 
 // A rule as the calls take it: value and mask as two words each, high word first.
 pub struct Rule {

@@ -5,7 +5,7 @@ use answers::print_miss;
 use answers::print_plan;
 use answers::print_refusal;
 use answers::print_table;
-use carrying::whole::carry_whole;
+use steps::whole::carry_whole;
 use commands::Command;
 use commands::key_of;
 use commands::parse;

@@ -14,7 +14,7 @@ use planner::write_plan;
 use records::Cause;
 use records::Check;
 use records::Rule;
-use records::rules::record_of;
+use slots::rules::record_of;
 ghost use mathlib.Core.Path.{_≡_};
 ghost use mathlib.Core.Bool.{true, false, cond};
 ghost use Prim.Native.Nat.{_+_, _-_, _≤_, _<_, _/_};

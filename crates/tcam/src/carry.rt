@@ -6,7 +6,7 @@ ghost use Rattle.tcam.specs.Cells.{ruleFrom};
 ghost use Rattle.tcam.specs.Carried.{carriedStep, CarryLeft};
 use crate::rule_from;
 use carrying::StepAnswer;
-use carrying::step::step;
+use steps::step::step;
 use records::cause_number;
 
 // How far a plan is carried out: writes done, writes in all.

@@ -1,0 +1,226 @@
+// One slot of a table, or two, read in the table itself.
+// A function on slots asks that they exist; the table may hold anything.
+pub mod rules;
+
+ghost use mathlib.Core.Path.{_≡_};
+ghost use mathlib.Core.List.{[], _∷_};
+ghost use mathlib.Core.Bool.{not, _&&_};
+ghost use Prim.Native.Nat.{_<_, _/_};
+ghost use lib.Dec.{leb};
+ghost use lib.ListN.{length};
+ghost use Rattle.records.specs.Record.{word, slotWords, empty, occupied, ident, rank, sound, soundParts, patternMatches, slotMatches, listed, putSlot};
+ghost use Rattle.records.specs.Order.{sameId, distinct, tied, precedes, misordered, overlapping};
+ghost use Rattle.records.specs.Checks.{unsoundAt};
+
+// Word `index` of a slot's record.
+pub fn slot_word(table: &[u64], slot: usize, index: usize) -> u64
+    requires { ⌜ (slot < length (now table) / 6) × (index < 6) ⌝ }
+    ensures { λ r. ⌜ r ≡ slotWords 2 (now (table .entry)) slot index ⌝ }
+{
+    table[slot * 6 + index]
+}
+
+// Whether a rule of these parts is sound.
+pub fn parts_sound(
+    id: u64,
+    rank: u64,
+    value_high: u64,
+    value_low: u64,
+    mask_high: u64,
+    mask_low: u64,
+) -> bool
+    ensures { λ r. ⌜ r ≡ soundParts 2 id rank (word («value_high» ∷ «value_low» ∷ [])) (word («mask_high» ∷ «mask_low» ∷ [])) ⌝ }
+{
+    let high = ternary::word_within(value_high, mask_high);
+    let low = ternary::word_within(value_low, mask_low);
+    (id != 0) & (rank <= 65535) & (high & low)
+}
+
+// Whether a slot's words are all zero.
+pub fn slot_empty(table: &[u64], slot: usize) -> bool
+    requires { ⌜ slot < length (now table) / 6 ⌝ }
+    ensures { λ r. ⌜ r ≡ empty 2 (slotWords 2 (now (table .entry)) slot) ⌝ }
+{
+    (slot_word(table, slot, 0) == 0)
+        & (slot_word(table, slot, 1) == 0)
+        & (slot_word(table, slot, 2) == 0)
+        & (slot_word(table, slot, 3) == 0)
+        & (slot_word(table, slot, 4) == 0)
+        & (slot_word(table, slot, 5) == 0)
+}
+
+// Whether a slot, read as a rule, is sound.
+fn slot_sound(table: &[u64], slot: usize) -> bool
+    requires { ⌜ slot < length (now table) / 6 ⌝ }
+    ensures { λ r. ⌜ r ≡ sound 2 (slotWords 2 (now (table .entry)) slot) ⌝ }
+{
+    parts_sound(
+        slot_word(table, slot, 4) / 4294967296,
+        slot_word(table, slot, 5),
+        slot_word(table, slot, 0),
+        slot_word(table, slot, 1),
+        slot_word(table, slot, 2),
+        slot_word(table, slot, 3),
+    )
+}
+
+// Whether a slot is neither empty nor a sound rule.
+pub fn slot_unsound(table: &[u64], slot: usize) -> bool
+    requires { ⌜ slot < length (now table) / 6 ⌝ }
+    ensures { λ r. ⌜ r ≡ unsoundAt 2 (now (table .entry)) slot ⌝ }
+{
+    if !slot_sound(table, slot) {
+        return !slot_empty(table, slot);
+    }
+    false
+}
+
+// Whether a key matches a slot's pattern, the slot read as a rule.
+fn pattern_matches(table: &[u64], slot: usize, key_high: u64, key_low: u64) -> bool
+    requires { ⌜ slot < length (now table) / 6 ⌝ }
+    ensures { λ r. ⌜ r ≡ patternMatches 2 (word («key_high» ∷ «key_low» ∷ [])) (slotWords 2 (now (table .entry)) slot) ⌝ }
+{
+    let high_agrees = ternary::word_matches(
+        key_high,
+        slot_word(table, slot, 0),
+        slot_word(table, slot, 2),
+    );
+    let low_agrees = ternary::word_matches(
+        key_low,
+        slot_word(table, slot, 1),
+        slot_word(table, slot, 3),
+    );
+    high_agrees & low_agrees
+}
+
+// Exactly which keys a slot matches: an empty one none.
+pub fn slot_matches(table: &[u64], slot: usize, key_high: u64, key_low: u64) -> bool
+    requires { ⌜ slot < length (now table) / 6 ⌝ }
+    ensures { λ r. ⌜ r ≡ slotMatches 2 (word («key_high» ∷ «key_low» ∷ [])) (slotWords 2 (now (table .entry)) slot) ⌝ }
+{
+    if pattern_matches(table, slot, key_high, key_low) {
+        let vacant = slot_empty(table, slot);
+        return !vacant;
+    }
+    false
+}
+
+// Pairs: a slot of one table and a slot of another, or of the same; a rule to be inserted is a table of one slot.
+
+// Whether two slots' patterns overlap, the slots read as rules.
+pub fn slots_overlap(table: &[u64], slot: usize, others: &[u64], other: usize) -> bool
+    requires { ⌜ (slot < length (now table) / 6) × (other < length (now others) / 6) ⌝ }
+    ensures { λ r. ⌜ r ≡ overlapping 2 (slotWords 2 (now (table .entry)) slot) (slotWords 2 (now (others .entry)) other) ⌝ }
+{
+    let high = ternary::words_overlap(
+        slot_word(table, slot, 0),
+        slot_word(table, slot, 2),
+        slot_word(others, other, 0),
+        slot_word(others, other, 2),
+    );
+    let low = ternary::words_overlap(
+        slot_word(table, slot, 1),
+        slot_word(table, slot, 3),
+        slot_word(others, other, 1),
+        slot_word(others, other, 3),
+    );
+    high & low
+}
+
+// Whether both slots are occupied.
+pub fn both_occupied(table: &[u64], slot: usize, others: &[u64], other: usize) -> bool
+    requires { ⌜ (slot < length (now table) / 6) × (other < length (now others) / 6) ⌝ }
+    ensures { λ r. ⌜ r ≡ (occupied 2 (slotWords 2 (now (table .entry)) slot) && occupied 2 (slotWords 2 (now (others .entry)) other)) ⌝ }
+{
+    let slot_is_empty = slot_empty(table, slot);
+    let other_is_empty = slot_empty(others, other);
+    !slot_is_empty & !other_is_empty
+}
+
+// The id of a slot's record.
+pub fn slot_id(table: &[u64], slot: usize) -> u64
+    requires { ⌜ slot < length (now table) / 6 ⌝ }
+    ensures { λ r. ⌜ r ≡ ident 2 (slotWords 2 (now (table .entry)) slot) ⌝ }
+{
+    slot_word(table, slot, 4) / 4294967296
+}
+
+// Whether one id stands in both slots.
+pub fn same_id(table: &[u64], slot: usize, others: &[u64], other: usize) -> bool
+    requires { ⌜ (slot < length (now table) / 6) × (other < length (now others) / 6) ⌝ }
+    ensures { λ r. ⌜ r ≡ sameId 2 (slotWords 2 (now (table .entry)) slot) (slotWords 2 (now (others .entry)) other) ⌝ }
+{
+    if slot_id(table, slot) == slot_id(others, other) {
+        return both_occupied(table, slot, others, other);
+    }
+    false
+}
+
+// Whether the slots hold two rules of different ids.
+pub fn distinct_rules(table: &[u64], slot: usize, others: &[u64], other: usize) -> bool
+    requires { ⌜ (slot < length (now table) / 6) × (other < length (now others) / 6) ⌝ }
+    ensures { λ r. ⌜ r ≡ distinct 2 (slotWords 2 (now (table .entry)) slot) (slotWords 2 (now (others .entry)) other) ⌝ }
+{
+    let differ = slot_id(table, slot) != slot_id(others, other);
+    differ & both_occupied(table, slot, others, other)
+}
+
+// Whether a slot's pattern overlaps another's and its priority is not the higher one.
+fn overlap_no_higher(table: &[u64], slot: usize, others: &[u64], other: usize) -> bool
+    requires { ⌜ (slot < length (now table) / 6) × (other < length (now others) / 6) ⌝ }
+    ensures { λ r. ⌜ r ≡ (overlapping 2 (slotWords 2 (now (table .entry)) slot) (slotWords 2 (now (others .entry)) other) && leb (rank 2 (slotWords 2 (now (table .entry)) slot)) (rank 2 (slotWords 2 (now (others .entry)) other))) ⌝ }
+{
+    let overlap = slots_overlap(table, slot, others, other);
+    overlap & (slot_word(table, slot, 5) <= slot_word(others, other, 5))
+}
+
+// Whether a slot's standing before another is out of order.
+pub fn misordered_pair(table: &[u64], slot: usize, others: &[u64], other: usize) -> bool
+    requires { ⌜ (slot < length (now table) / 6) × (other < length (now others) / 6) ⌝ }
+    ensures { λ r. ⌜ r ≡ misordered 2 (slotWords 2 (now (table .entry)) slot) (slotWords 2 (now (others .entry)) other) ⌝ }
+{
+    if overlap_no_higher(table, slot, others, other) {
+        return distinct_rules(table, slot, others, other);
+    }
+    false
+}
+
+// Whether two rules overlap at equal priority.
+pub fn tied_pair(table: &[u64], slot: usize, others: &[u64], other: usize) -> bool
+    requires { ⌜ (slot < length (now table) / 6) × (other < length (now others) / 6) ⌝ }
+    ensures { λ r. ⌜ r ≡ tied 2 (slotWords 2 (now (table .entry)) slot) (slotWords 2 (now (others .entry)) other) ⌝ }
+{
+    let overlap = slots_overlap(table, slot, others, other);
+    let equal = slot_word(table, slot, 5) == slot_word(others, other, 5);
+    if overlap & equal {
+        return distinct_rules(table, slot, others, other);
+    }
+    false
+}
+
+// Whether a rule precedes another: they overlap, and its priority is the higher one.
+pub fn precedes_pair(table: &[u64], slot: usize, others: &[u64], other: usize) -> bool
+    requires { ⌜ (slot < length (now table) / 6) × (other < length (now others) / 6) ⌝ }
+    ensures { λ r. ⌜ r ≡ precedes 2 (slotWords 2 (now (table .entry)) slot) (slotWords 2 (now (others .entry)) other) ⌝ }
+{
+    let overlap = slots_overlap(table, slot, others, other);
+    let higher = slot_word(others, other, 5) < slot_word(table, slot, 5);
+    if overlap & higher {
+        return distinct_rules(table, slot, others, other);
+    }
+    false
+}
+
+// Puts a record's words into a slot.
+pub fn put_record(table: &mut [u64], slot: usize, words: [u64; 6])
+    requires { ⌜ slot < length (now table) / 6 ⌝ }
+    ensures { λ _. ⌜ now (table .exit) ≡ putSlot 2 (now (table .entry)) slot (listed 6 (word words)) ⌝ }
+{
+    let first = slot * 6;
+    table[first] = words[0];
+    table[first + 1] = words[1];
+    table[first + 2] = words[2];
+    table[first + 3] = words[3];
+    table[first + 4] = words[4];
+    table[first + 5] = words[5];
+}

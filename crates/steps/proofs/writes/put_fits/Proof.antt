@@ -1,0 +1,18 @@
+-- `steps::writes::put_fits` meets its contract.
+-- The slot is asked for only where it exists.
+use borrow.Author.Needs.{needs}
+use borrow.Author.Tests.{lt-ltb, le-ltb}
+use Rattle.steps.proofs.writes.put_fits.Statement.{statement}
+use Rattle.steps.proofs.writes.put_fits.Tie as tie
+
+slot-free-requires : tie.Need-slot-free-requires
+slot-free-requires c κs = search needs
+
+returns : tie.Need-returns
+returns c = rw (c .slot-free .ensures, lt-ltb _ _ (c .before .if1 .taken))
+
+returns-2 : tie.Need-returns-2
+returns-2 c = rw (le-ltb _ _ (c .if1 .left))
+
+pub put-fits-spec : {M : Type 1} → statement M
+put-fits-spec = tie.close (tie.spec slot-free-requires returns returns-2)

@@ -1,0 +1,18 @@
+-- `steps::writes::rule_in` meets its contract.
+-- The slot is asked for only where it exists.
+use borrow.Author.Needs.{needs}
+use borrow.Author.Tests.{lt-ltb, le-ltb}
+use Rattle.steps.proofs.writes.rule_in.Statement.{statement}
+use Rattle.steps.proofs.writes.rule_in.Tie as tie
+
+slot-empty-requires : tie.Need-slot-empty-requires
+slot-empty-requires c κs = search needs
+
+returns : tie.Need-returns
+returns c = rw (c .slot-empty .ensures, lt-ltb _ _ (c .before .if1 .taken))
+
+returns-2 : tie.Need-returns-2
+returns-2 c = rw (le-ltb _ _ (c .if1 .left))
+
+pub rule-in-spec : {M : Type 1} → statement M
+rule-in-spec = tie.close (tie.spec slot-empty-requires returns returns-2)

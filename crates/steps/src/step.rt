@@ -1,0 +1,63 @@
+// The step: one write of a plan, where the checks pass and the plan is not finished.
+// A step that declines or is finished changes nothing.
+use carrying::StepAnswer;
+use carrying::StepInfo;
+use crate::writes::word_fits;
+use crate::writes::write_word;
+use records::Cause;
+use records::Check;
+use records::Rule;
+use table_checks::check_slots;
+use slots::rules::rule_sound;
+ghost use mathlib.Core.Path.{_≡_};
+ghost use lib.ListN.{length};
+ghost use Rattle.carrying.specs.Carrying.{stepTold, progressChecks, writeChecks, stepAnswer, stepTable};
+
+// Checks 1 and 2, and 12 for more writes done than in all or more in all than the plan has words.
+fn check_progress(table: &[u64], plan: &[u32], done: u32, total: u32) -> Check
+    ensures { λ r. ⌜ r ≡ progressChecks 2 (now (table .entry)) (length (now (plan .entry))) done total ⌝ }
+{
+    let slots = check_slots(table);
+    if let Check::Fail(cause, spot) = slots {
+        return Check::Fail(cause, spot);
+    }
+    if (done <= total) & (total as usize <= plan.len()) {
+        return Check::Pass;
+    }
+    Check::Fail(Cause::Write, done)
+}
+
+// 5 for an unsound rule where one is put in, then 12 for a write that does not fit.
+fn check_write(table: &[u64], rule: Rule, word: u32, done: u32) -> Check
+    ensures { λ r. ⌜ r ≡ writeChecks 2 (now (table .entry)) rule word done ⌝ }
+{
+    let sound = rule_sound(rule);
+    if (word / 65536 == 65535) & !sound {
+        return Check::Fail(Cause::Rule, 0);
+    }
+    if word_fits(table, word) {
+        return Check::Pass;
+    }
+    Check::Fail(Cause::Write, done)
+}
+
+// The next write of a plan, or "finished", or a refusal that leaves the table as it was.
+pub fn step(table: &mut [u64], plan: &[u32], rule: Rule, done: u32, total: u32) -> StepAnswer
+    ensures { λ r. ⌜ stepTold r ≡ stepAnswer 2 (now (table .entry)) (now (plan .entry)) rule done total ⌝ }
+    ensures { λ _. ⌜ now (table .exit) ≡ stepTable 2 (now (table .entry)) (now (plan .entry)) rule done total ⌝ }
+{
+    let progress = check_progress(table, plan, done, total);
+    if let Check::Fail(cause, spot) = progress {
+        return StepAnswer::Refused(cause, spot);
+    }
+    if done == total {
+        return StepAnswer::Finished;
+    }
+    let word = plan[done as usize];
+    let fitting = check_write(table, rule, word, done);
+    if let Check::Fail(cause, spot) = fitting {
+        return StepAnswer::Refused(cause, spot);
+    }
+    write_word(table, rule, word);
+    StepAnswer::Wrote(StepInfo { done: done + 1 })
+}

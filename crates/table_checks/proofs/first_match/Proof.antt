@@ -1,0 +1,55 @@
+-- `table_checks::first_match`: no slot below the loop's matches.
+-- Assumes nothing.
+use Prim.Native.Nat.{_-_}
+use mathlib.Core.Path.{sym, _∙_}
+use native.Mathlib.Omega.{arith}
+use Prim.Native.Nat.{ℕ}
+use mathlib.Core.List.{[], _∷_}
+use Rattle.search.specs.Search.{NoneBelow, none-start, none-more, least-at, least-none}
+use Rattle.records.specs.Record.{word, slotWords, slotMatches}
+use Rattle.records.specs.Checks.{firstMatch}
+use Rattle.table_checks.proofs.first_match.Statement.{statement}
+use Rattle.table_checks.proofs.first_match.Tie as tie
+
+abbrev Inv-loop : tie.InvT-loop
+Inv-loop table key-high key-low slots slot₀ slot = NoneBelow (λ (i : ℕ). slotMatches 2 (word (key-high ∷ key-low ∷ [])) (slotWords 2 table i)) slots slot
+
+abbrev μ-loop : tie.MeasureT-loop
+μ-loop table key-high key-low slots slot₀ slot = slots - slot
+
+loop-holds : tie.Need-loop-holds Inv-loop μ-loop
+loop-holds c = none-start _ _
+
+slot-matches-requires : tie.Need-slot-matches-requires Inv-loop μ-loop
+slot-matches-requires c κs = omega arith
+
+returns : tie.Need-returns Inv-loop μ-loop
+unfolding firstMatch
+returns c = sym (least-at _ _ _ (omega arith) (c .before .before .before .loop .inv .1) (sym (c .before .slot-matches .ensures) ∙ c .if1 .taken))
+
+add-slot : tie.Need-add-slot Inv-loop μ-loop
+add-slot c = omega arith
+
+loop-less : tie.Need-loop-less Inv-loop μ-loop
+loop-less c = omega arith
+
+loop-again : tie.Need-loop-again Inv-loop μ-loop
+loop-again c = none-more _ _ _ (c .before .before .before .loop .inv) (omega arith) (sym (c .before .slot-matches .ensures) ∙ c .if1 .left)
+
+returns-2 : tie.Need-returns-2 Inv-loop μ-loop
+unfolding firstMatch
+returns-2 c = sym (least-none _ _ (λ k h. c .before .loop .inv .1 k (omega arith)))
+
+pub first-match-spec : {M : Type 1} → statement M
+first-match-spec =
+    tie.close
+    (tie.spec
+    Inv-loop
+    μ-loop
+    loop-holds
+    slot-matches-requires
+    returns
+    add-slot
+    loop-less
+    loop-again
+    returns-2)

@@ -1,0 +1,145 @@
+// Checks 1 to 4 of a table, each with the lowest slot that fails it, and the first match of a key.
+// A planning call makes all four checks; lookup makes the first two.
+use records::Cause;
+use records::Check;
+use slots::misordered_pair;
+use slots::same_id;
+use slots::slot_matches;
+use slots::slot_unsound;
+ghost use mathlib.Core.Path.{_≡_};
+ghost use mathlib.Core.List.{[], _∷_};
+ghost use Prim.Native.Nat.{_≤_, _<_, _/_};
+ghost use lib.ListN.{length};
+ghost use Rattle.records.specs.Record.{word};
+ghost use Rattle.records.specs.Checks.{checkShape, checkRecords, checkTwice, checkOrder, slotChecks, tableChecks, twiceAt, disorderAt, firstMatch};
+
+// Check 1: the table's words are six for each of 1 to 1,024 slots.
+pub fn check_shape(table: &[u64]) -> Check
+    ensures { λ r. ⌜ r ≡ checkShape 2 (now (table .entry)) ⌝ }
+{
+    let words = table.len();
+    let slots = words / 6;
+    if (words % 6 == 0) & (1 <= slots) & (slots <= 1024) {
+        return Check::Pass;
+    }
+    Check::Fail(Cause::Shape, 0)
+}
+
+// Check 2: each slot is empty or a sound rule.
+pub fn check_records(table: &[u64]) -> Check
+    requires { ⌜ length (now table) ≤ 6144 ⌝ }
+    ensures { λ r. ⌜ r ≡ checkRecords 2 (now (table .entry)) ⌝ }
+{
+    let slots = table.len() / 6;
+    let mut slot = 0;
+    while slot < slots {
+        if slot_unsound(table, slot) {
+            return Check::Fail(Cause::Record, slot as u32);
+        }
+        slot += 1;
+    }
+    Check::Pass
+}
+
+// Whether an earlier slot has this slot's id.
+fn id_before(table: &[u64], slot: usize) -> bool
+    requires { ⌜ slot < length (now table) / 6 ⌝ }
+    ensures { λ r. ⌜ r ≡ twiceAt 2 (now (table .entry)) slot ⌝ }
+{
+    let mut earlier = 0;
+    while earlier < slot {
+        if same_id(table, earlier, table, slot) {
+            return true;
+        }
+        earlier += 1;
+    }
+    false
+}
+
+// Check 3: no id stands in an earlier slot too.
+pub fn check_twice(table: &[u64]) -> Check
+    requires { ⌜ length (now table) ≤ 6144 ⌝ }
+    ensures { λ r. ⌜ r ≡ checkTwice 2 (now (table .entry)) ⌝ }
+{
+    let slots = table.len() / 6;
+    let mut slot = 0;
+    while slot < slots {
+        if id_before(table, slot) {
+            return Check::Fail(Cause::Twice, slot as u32);
+        }
+        slot += 1;
+    }
+    Check::Pass
+}
+
+// Whether an earlier overlapping rule has no higher priority than this slot's.
+fn disorder_before(table: &[u64], slot: usize) -> bool
+    requires { ⌜ slot < length (now table) / 6 ⌝ }
+    ensures { λ r. ⌜ r ≡ disorderAt 2 (now (table .entry)) slot ⌝ }
+{
+    let mut earlier = 0;
+    while earlier < slot {
+        if misordered_pair(table, earlier, table, slot) {
+            return true;
+        }
+        earlier += 1;
+    }
+    false
+}
+
+// Check 4: of two overlapping rules the earlier one has the strictly higher priority.
+pub fn check_order(table: &[u64]) -> Check
+    requires { ⌜ length (now table) ≤ 6144 ⌝ }
+    ensures { λ r. ⌜ r ≡ checkOrder 2 (now (table .entry)) ⌝ }
+{
+    let slots = table.len() / 6;
+    let mut slot = 0;
+    while slot < slots {
+        if disorder_before(table, slot) {
+            return Check::Fail(Cause::Order, slot as u32);
+        }
+        slot += 1;
+    }
+    Check::Pass
+}
+
+// The lowest-numbered slot that matches a key, or the number of slots where none does.
+pub fn first_match(table: &[u64], key_high: u64, key_low: u64) -> usize
+    ensures { λ r. ⌜ r ≡ firstMatch 2 (now (table .entry)) (word («key_high» ∷ «key_low» ∷ [])) ⌝ }
+{
+    let slots = table.len() / 6;
+    let mut slot = 0;
+    while slot < slots {
+        if slot_matches(table, slot, key_high, key_low) {
+            return slot;
+        }
+        slot += 1;
+    }
+    slots
+}
+
+// Checks 1 and 2.
+pub fn check_slots(table: &[u64]) -> Check
+    ensures { λ r. ⌜ r ≡ slotChecks 2 (now (table .entry)) ⌝ }
+{
+    let shape = check_shape(table);
+    if let Check::Fail(cause, spot) = shape {
+        return Check::Fail(cause, spot);
+    }
+    check_records(table)
+}
+
+// Checks 1 to 4.
+pub fn check_table(table: &[u64]) -> Check
+    ensures { λ r. ⌜ r ≡ tableChecks 2 (now (table .entry)) ⌝ }
+{
+    let slots = check_slots(table);
+    if let Check::Fail(cause, spot) = slots {
+        return Check::Fail(cause, spot);
+    }
+    let twice = check_twice(table);
+    if let Check::Fail(cause, spot) = twice {
+        return Check::Fail(cause, spot);
+    }
+    check_order(table)
+}
