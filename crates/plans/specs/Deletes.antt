@@ -11,7 +11,7 @@ use Rattle.search.specs.Search.{least, least-law, and-right}
 use Rattle.layout.specs.Write.{clear, writeWord}
 use Rattle.records.specs.Record.{slotWords, ident, occupied, putSlot}
 use Rattle.records.specs.Order.{slots}
-use Rattle.records.specs.Checks.{Told, orElse, checkShape, tableChecks}
+use Rattle.records.specs.Checks.{Told, unless, orElse, checkShape, tableChecks}
 use Rattle.records.specs.Laws.{or-else-pass, pass-law, slot-checks-law, table-checks-law, table-checks-length}
 use Rattle.records.specs.Entries.{vacant, shaped-slots}
 use Rattle.records.specs.Writes.{writeOf, write-of-word, applyWrite, applyWords, fitsWord}
@@ -66,6 +66,12 @@ id-found w t id slot e h = rw (← e, lt-ltb slot (slots w t) h)
 pub id-absent : (w : ℕ) (t : List ℕ) (id slot : ℕ) → slot ≡ slotOfId w t id → slots w t ≤ slot → Fail Unknown 0 ≡ checkUnknown w t id
 unfolding checkUnknown
 id-absent w t id slot e h = rw (← e, le-ltb slot (slots w t) h)
+
+-- document 01's number of an absent id is 7, its spot 0
+pub absent-told : (w : ℕ) (t : List ℕ) (id : ℕ) → slots w t ≤ slotOfId w t id → (answer : Told)
+    → unless (checkUnknown w t id) answer ≡ record { number = 7; values = 0 ∷ [] }
+unfolding checkUnknown
+absent-told w t id h answer = rw (le-ltb (slotOfId w t id) (slots w t) h)
 
 -- where the checks pass the slot is one of at most 1,024
 pub delete-small : (t : List ℕ) (id : ℕ) → deleteChecks 2 t id ≡ Pass → slotOfId 2 t id ≤ 1024
