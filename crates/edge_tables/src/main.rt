@@ -2,21 +2,21 @@
 // A slot id action, M (miss), R number spot; P count and B with the buffer's first words; C: passes checks 1 to 4; W words last: a slot's record; S 0 or 1: is a rule sound.
 ghost use mathlib.Core.Path.{_≡_};
 ghost use lib.ListN.{length};
+use lookups::LookupAnswer;
+use lookups::lookup::lookup;
+use lookups::lookup::slot_record;
+use plans::PlanAnswer;
+use plans::deletes::plan_delete;
 use records::Cause;
 use records::Check;
 use records::Rule;
 use records::cause_number;
-use table_checks::check_table;
+use slots::put_record;
 use slots::rules::record_of;
 use slots::rules::rule_of;
 use slots::rules::rule_sound;
-use slots::put_record;
-use lookups::LookupAnswer;
-use plans::PlanAnswer;
-use plans::deletes::plan_delete;
 use table::inserts::plan_insert;
-use lookups::lookup::lookup;
-use lookups::lookup::slot_record;
+use table_checks::check_table;
 
 fn number(value: u64) {
     io::write_all(1, b" ");

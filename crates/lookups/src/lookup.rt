@@ -3,12 +3,12 @@
 use crate::Hit;
 use crate::LookupAnswer;
 use records::Check;
-use table_checks::check_slots;
-use table_checks::first_match;
 use slots::rules::lower_half;
 use slots::rules::upper_half;
 use slots::slot_empty;
 use slots::slot_word;
+use table_checks::check_slots;
+use table_checks::first_match;
 ghost use mathlib.Core.Path.{_≡_};
 ghost use Prim.Native.Nat.{_+_, _*_, _<_, _≤_, _/_};
 ghost use lib.ListN.{length};

@@ -3,13 +3,13 @@
 use records::Cause;
 use records::Check;
 use records::Rule;
-use table_checks::check_table;
+use slots::precedes_pair;
 use slots::rules::record_of;
 use slots::rules::rule_sound;
-use slots::precedes_pair;
 use slots::same_id;
 use slots::slot_empty;
 use slots::tied_pair;
+use table_checks::check_table;
 ghost use mathlib.Core.Path.{_≡_};
 ghost use Prim.Native.Nat.{_≤_, _<_};
 ghost use lib.ListN.{length};

@@ -5,19 +5,19 @@ use answers::print_miss;
 use answers::print_plan;
 use answers::print_refusal;
 use answers::print_table;
-use steps::whole::carry_whole;
 use commands::Command;
 use commands::key_of;
 use commands::parse;
 use commands::rule_of;
+use lookups::LookupAnswer;
+use lookups::lookup::lookup;
+use plans::PlanAnswer;
+use plans::deletes::plan_delete;
 use records::Cause;
 use records::Rule;
 use records::cause_number;
-use lookups::LookupAnswer;
-use plans::PlanAnswer;
-use plans::deletes::plan_delete;
+use steps::whole::carry_whole;
 use table::inserts::plan_insert;
-use lookups::lookup::lookup;
 
 pub mod reading;
 

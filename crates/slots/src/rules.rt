@@ -1,7 +1,7 @@
 // A rule and its slot record of six words, and when a rule is sound.
 // Calls take the rule; tables hold the record.
-use records::Rule;
 use crate::parts_sound;
+use records::Rule;
 ghost use mathlib.Core.Path.{_≡_};
 ghost use Prim.Native.Nat.{_/_, _%_, min};
 ghost use Rattle.records.specs.Record.{word, recordOf, ruleOf, soundRule};

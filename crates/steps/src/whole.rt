@@ -1,7 +1,7 @@
 // A plan carried out in full, for callers that look nothing up between its writes.
 // Step after step; it ends with the first that does not write.
-use carrying::StepAnswer;
 use crate::step::step;
+use carrying::StepAnswer;
 use records::Rule;
 ghost use mathlib.Core.Path.{_≡_};
 ghost use Rattle.carrying.specs.Carrying.{stepTold, stepTable, stepDone};

@@ -1,7 +1,5 @@
 // Planning an insert: costs in both directions, the choice between them, and the words of its chain.
 // The table is never changed, and a call that declines leaves the plan buffer as it was.
-use plans::PlanAnswer;
-use plans::PlanInfo;
 use neighbours::checks::after_a;
 use neighbours::checks::check_insert;
 use neighbours::checks::slot_b;
@@ -11,6 +9,8 @@ use planner::Range;
 use planner::choose;
 use planner::fill_costs;
 use planner::write_plan;
+use plans::PlanAnswer;
+use plans::PlanInfo;
 use records::Cause;
 use records::Check;
 use records::Rule;

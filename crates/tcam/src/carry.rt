@@ -6,8 +6,8 @@ ghost use Rattle.tcam.specs.Cells.{ruleFrom};
 ghost use Rattle.tcam.specs.Carried.{carriedStep, CarryLeft};
 use crate::rule_from;
 use carrying::StepAnswer;
-use steps::step::step;
 use records::cause_number;
+use steps::step::step;
 
 // How far a plan is carried out: writes done, writes in all.
 #[repr(C)]
@@ -48,13 +48,13 @@ fn carry(
         mask_low,
         action,
     );
-    let finished = 4294967295;
+    let end = 4294967295;
     match step(table, plan, rule, done, total) {
         StepAnswer::Wrote(info) => Carried {
             done: info.done,
             result: 0,
         },
-        StepAnswer::Finished => Carried { done, result: finished },
+        StepAnswer::Finished => Carried { done, result: end },
         StepAnswer::Refused(cause, spot) => Carried {
             done,
             result: cause_number(cause) as u64 + spot as u64 * 4294967296,

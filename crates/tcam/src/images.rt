@@ -3,8 +3,8 @@
 use image::LoadAnswer;
 use image::SaveAnswer;
 use loads::load;
-use saves::save;
 use records::cause_number;
+use saves::save;
 ghost use Rattle.tcam.specs.Images.{SaveLeft, LoadLeft};
 
 // The image of a table, into the lent buffer: its bytes, or a refusal.

@@ -7,14 +7,14 @@ ghost use mathlib.Core.Path.{_≡_};
 ghost use Rattle.lookups.specs.Lookup.{partStart, partLength};
 ghost use Rattle.plans.specs.Plans.{planTold};
 ghost use Rattle.tcam.specs.Cells.{keyAnswer, dataCell, spotCell, ruleFrom, InsertLeft, DeleteLeft};
-use records::Rule;
-use records::cause_number;
 use lookups::LookupAnswer;
-use plans::PlanAnswer;
-use plans::deletes::plan_delete;
-use table::inserts::plan_insert;
 use lookups::lookup::lookup;
 use lookups::lookup::slot_record;
+use plans::PlanAnswer;
+use plans::deletes::plan_delete;
+use records::Rule;
+use records::cause_number;
+use table::inserts::plan_insert;
 
 // Slot, id and action of the lowest-numbered slot that matches a key; all 0 for a miss.
 #[no_mangle]

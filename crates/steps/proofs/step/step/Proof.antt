@@ -19,7 +19,7 @@ same-length : tie.Need-same-length
 same-length c = search needs
 
 returns : tie.Need-returns
-returns c = 
+returns c =
     let a = c .before .before .before .before .before .before .before .args in
     let r = step-declined 2 (now (a .table)) (now (a .plan)) (a .rule) (a .done) (a .total) (c .before .before .before .check-progress .ensures) (c .before .progress .given .1) in
     (r .0, r .1)
@@ -31,7 +31,7 @@ same-length-2 : tie.Need-same-length-2
 same-length-2 c = search needs
 
 returns-2 : tie.Need-returns-2
-returns-2 c = 
+returns-2 c =
     let a = c .before .before .before .before .before .before .before .args in
     let r = step-finished 2 (now (a .table)) (now (a .plan)) (a .rule) (a .done) (a .total) (c .before .before .before .check-progress .ensures) (c .before .enum-told .given .1) (c .if1 .taken) in
     (r .0, r .1)
@@ -52,7 +52,7 @@ same-length-3 : tie.Need-same-length-3
 same-length-3 c = search needs
 
 returns-3 : tie.Need-returns-3
-returns-3 c = 
+returns-3 c =
     let a = c .before .before .before .before .before .before .before .before .before .before .before .before .before .args in
     let r = step-unfit 2 (now (a .table)) (now (a .plan)) (a .rule) (a .done) (a .total) (c .before .before .before .before .before .before .before .before .before .check-progress .ensures) (c .before .before .before .before .before .before .before .enum-told .given .1) (c .before .before .before .before .before .before .if1 .left) (c .before .before .before .check-write .ensures) (c .before .fitting .given .1) in
     (r .0, r .1)
@@ -70,7 +70,7 @@ same-length-4 : tie.Need-same-length-4
 same-length-4 c = search needs
 
 returns-4 : tie.Need-returns-4
-returns-4 c = 
+returns-4 c =
     let a = c .before .before .before .before .before .before .before .before .before .before .before .before .before .before .before .before .args in
     let r = step-wrote 2 (now (a .table)) (now (a .plan)) (a .rule) (a .done) (a .total) (c .before .before .before .before .before .before .before .before .before .before .before .before .check-progress .ensures) (c .before .before .before .before .before .before .before .before .before .before .enum-told .given .1) (c .before .before .before .before .before .before .before .before .before .if1 .left) (c .before .before .before .before .before .before .check-write .ensures) (c .before .before .before .before .enum-told2 .given .1) in
     (r .0, c .before .before .write-word .ensures ∙ r .1)
