@@ -1,6 +1,6 @@
 -- The windows of a table's rules, seen along one direction: position p is slot p going down, and slot n − 1 − p going up.
 -- One definition serves both directions; the planner works on these numbers alone.
-use mathlib.Core.Path.{_≡_, refl, sym, ap, _∙_}
+use mathlib.Core.Path.{_≡_, refl, sym, ap, _∙_, subst}
 use mathlib.Core.Bool.{Bool, true, false, cond, false≢true, true≢false}
 use mathlib.Core.List.{List, _++_}
 use Prim.Native.Nat.{ℕ, suc, _+_, _-_, _≤_, _<_, min}
@@ -9,10 +9,11 @@ use native.Mathlib.Numerals.{add-one}
 use lib.ListN.{length, getD, set, drop}
 use lib.Seq.{drop-cons, set-at, append-snoc}
 use Rattle.ternary.specs.Pattern.{Words}
-use Rattle.search.specs.Search.{least, Least, least-law, least-unique}
+use Rattle.search.specs.Search.{least, Least, least-law, least-unique, afterLast, AfterLast, after-last-law}
 use Rattle.records.specs.Record.{slotWords, empty, listed}
 use Rattle.records.specs.Rules.{length-listed}
 use Rattle.records.specs.Order.{slots, misordered}
+use Rattle.scans.specs.Scans.{notBefore, notAfter}
 use Rattle.planner.specs.Emit.{slotAt}
 
 -- the rule at position q, later along the direction, stands on the wrong side if it comes before the one at p
@@ -28,37 +29,38 @@ windowEndAt w t up p = min (suc (least (misplacedAt w t up p) (slots w t - suc p
 unfoldable pub endAt : ℕ → List ℕ → Bool → ℕ → ℕ
 endAt w t up p = cond (empty w (slotWords w t (slotAt (slots w t) up p))) 0 (windowEndAt w t up p)
 
--- the pair that is tested going up, and going down
-pub misplaced-up : (w : ℕ) (t : List ℕ) (up : Bool) (p q : ℕ) → up ≡ true
-    → misordered w (slotWords w t (slotAt (slots w t) up p)) (slotWords w t (slotAt (slots w t) up q)) ≡ misplacedAt w t up p q
-unfolding misplacedAt
-misplaced-up w t true p q e = refl
-misplaced-up w t false p q e = absurd (false≢true e)
-
-pub misplaced-down : (w : ℕ) (t : List ℕ) (up : Bool) (p q : ℕ) → up ≡ false
-    → misordered w (slotWords w t (slotAt (slots w t) up q)) (slotWords w t (slotAt (slots w t) up p)) ≡ misplacedAt w t up p q
-unfolding misplacedAt
-misplaced-down w t true p q e = absurd (true≢false e)
-misplaced-down w t false p q e = refl
-
--- a loop over the later positions ends in one of two ways
-pub window-found : (w : ℕ) (t : List ℕ) (up : Bool) (p q : ℕ) → p < q → q < slots w t
-    → ((k : ℕ) → suc p ≤ k → k < q → misplacedAt w t up p k ≡ false) → misplacedAt w t up p q ≡ true → windowEndAt w t up p ≡ q + 1
-unfolding windowEndAt
-window-found w t up p q l h f e =
-    let at : least (misplacedAt w t up p) (slots w t - suc p) (suc p) ≡ q =
-    least-unique (least-law (misplacedAt w t up p) (slots w t - suc p) (suc p))
-    (record { low = l; high = omega arith; before = f; hit = λ _. e }) in
+-- going down, the window ends at the first slot after p's that may not stand before it
+pub window-down : (w : ℕ) (t : List ℕ) (p m : ℕ) → p < slots w t → m ≡ least (notBefore w t p) (slots w t - (p + 1)) (p + 1)
+    → windowEndAt w t false p ≡ min (m + 1) (slots w t)
+unfolding windowEndAt misplacedAt
+window-down w t p m h e =
+    let one : p + 1 ≡ suc p = omega arith in
+    let at : m ≡ least (notBefore w t p) (slots w t - suc p) (suc p) = rw one at e in
     omega arith
 
-pub window-open : (w : ℕ) (t : List ℕ) (up : Bool) (p : ℕ) → p < slots w t
-    → ((k : ℕ) → suc p ≤ k → k < slots w t → misplacedAt w t up p k ≡ false) → windowEndAt w t up p ≡ slots w t
-unfolding windowEndAt
-window-open w t up p h f =
-    let at : least (misplacedAt w t up p) (slots w t - suc p) (suc p) ≡ slots w t =
-    least-unique (least-law (misplacedAt w t up p) (slots w t - suc p) (suc p))
-    (record { low = h; high = omega arith; before = f; hit = λ l. absurd (omega arith) }) in
+pub up-high : (w : ℕ) (t : List ℕ) (s a : ℕ) → a ≡ afterLast (notAfter w t s) s → a ≤ s
+up-high w t s a e = omega (arith, after-last-law (notAfter w t s) s .high)
+
+-- going up, at the last slot before p's that may not stand after it
+pub window-up : (w : ℕ) (t : List ℕ) (p s a : ℕ) → p < slots w t → s ≡ slots w t - 1 - p → a ≡ afterLast (notAfter w t s) s
+    → windowEndAt w t true p ≡ min (slots w t - a + 1) (slots w t)
+unfolding windowEndAt misplacedAt
+window-up w t p s a h f e =
+    let at : least (misplacedAt w t true p) (slots w t - suc p) (suc p) ≡ slots w t - a =
+    least-unique (least-law (misplacedAt w t true p) (slots w t - suc p) (suc p))
+    (record {
+      low = omega (arith, law .high);
+      high = omega (arith, law .high);
+      before = λ j l r. law .after (slots w t - suc j) (omega arith) (omega arith);
+      hit = λ l. ap (λ (i : ℕ). notAfter w t (slots w t - suc p) i) {x = slots w t - suc (slots w t - a)} {y = a - 1} (omega (arith, law .high)) ∙ law .hit (a - 1) (omega arith);
+    }) in
     omega arith
+  where
+    same : s ≡ slots w t - suc p
+    same = omega arith
+
+    law : AfterLast (notAfter w t (slots w t - suc p)) (slots w t - suc p) a
+    law = subst (AfterLast (notAfter w t (slots w t - suc p)) (slots w t - suc p)) (sym (rw same at e)) (after-last-law (notAfter w t (slots w t - suc p)) (slots w t - suc p))
 
 pub window-high : (w : ℕ) (t : List ℕ) (up : Bool) (p : ℕ) → windowEndAt w t up p ≤ slots w t
 unfolding windowEndAt

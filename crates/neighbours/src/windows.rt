@@ -1,27 +1,36 @@
 // The windows of a table's rules along one direction, for the planner: position p is slot p going down, slot n − 1 − p going up.
 // Words are read in the table itself; the numbers go into a lent array.
 use planner::slot_at;
-use slots::misordered_pair;
+use scans::first_not_before;
+use scans::last_not_after;
 use slots::slot_empty;
 ghost use mathlib.Core.Path.{_≡_};
+ghost use mathlib.Core.Bool.{true, false};
 ghost use mathlib.Core.List.{_++_};
 ghost use Prim.Native.Nat.{_≤_, _<_, _/_};
 ghost use lib.ListN.{length, drop};
 ghost use Rattle.records.specs.Record.{listed};
-ghost use Rattle.neighbours.specs.Windows.{misplacedAt, windowEndAt, endAt};
+ghost use Rattle.neighbours.specs.Windows.{windowEndAt, endAt};
 
-// Whether the rule at a later position may not come before the one at a position.
-fn misplaced_pair(table: &[u64], up: bool, position: usize, later: usize) -> bool
-    requires { ⌜ (position < length (now table) / 6) × (later < length (now table) / 6) ⌝ }
-    ensures { λ r. ⌜ r ≡ misplacedAt 2 (now (table .entry)) up position later ⌝ }
+// One past the last position of a window going down: positions are slots.
+fn end_down(table: &[u64], position: usize) -> usize
+    requires { ⌜ position < length (now table) / 6 ⌝ }
+    ensures { λ r. ⌜ r ≡ windowEndAt 2 (now (table .entry)) false position ⌝ }
 {
     let slots = table.len() / 6;
-    let slot = slot_at(slots, up, position);
-    let other = slot_at(slots, up, later);
-    if up {
-        return misordered_pair(table, slot, table, other);
-    }
-    misordered_pair(table, other, table, slot)
+    let next = first_not_before(table, position, position + 1, slots);
+    if next < slots { next + 1 } else { slots }
+}
+
+// One past the last position of a window going up: the slots below, from the nearest one down.
+fn end_up(table: &[u64], position: usize) -> usize
+    requires { ⌜ position < length (now table) / 6 ⌝ }
+    ensures { λ r. ⌜ r ≡ windowEndAt 2 (now (table .entry)) true position ⌝ }
+{
+    let slots = table.len() / 6;
+    let slot = slots - 1 - position;
+    let after = last_not_after(table, slot, slot);
+    if 0 < after { slots - after + 1 } else { slots }
 }
 
 // One past the last position of a window.
@@ -29,15 +38,10 @@ fn window_end(table: &[u64], up: bool, position: usize) -> usize
     requires { ⌜ position < length (now table) / 6 ⌝ }
     ensures { λ r. ⌜ r ≡ windowEndAt 2 (now (table .entry)) up position ⌝ }
 {
-    let slots = table.len() / 6;
-    let mut later = position + 1;
-    while later < slots {
-        if misplaced_pair(table, up, position, later) {
-            return later + 1;
-        }
-        later += 1;
+    if up {
+        return end_up(table, position);
     }
-    slots
+    end_down(table, position)
 }
 
 // The planner's number for a position: 0 where it is empty, else the end of its window.

@@ -5,9 +5,11 @@ pub mod rules;
 ghost use mathlib.Core.Path.{_≡_};
 ghost use mathlib.Core.List.{[], _∷_};
 ghost use mathlib.Core.Bool.{not, _&&_};
-ghost use Prim.Native.Nat.{_<_, _/_};
+ghost use Prim.Native.Nat.{_+_, _<_, _/_};
 ghost use lib.Dec.{leb};
 ghost use lib.ListN.{length};
+ghost use Rattle.ternary.specs.Word.{agree, both};
+ghost use Rattle.ternary.specs.Pattern.{within};
 ghost use Rattle.records.specs.Record.{word, slotWords, empty, occupied, ident, rank, sound, soundParts, patternMatches, slotMatches, listed, putSlot};
 ghost use Rattle.records.specs.Order.{sameId, distinct, tied, precedes, misordered, overlapping};
 ghost use Rattle.records.specs.Checks.{unsoundAt};
@@ -18,6 +20,18 @@ pub fn slot_word(table: &[u64], slot: usize, index: usize) -> u64
     ensures { λ r. ⌜ r ≡ slotWords 2 (now (table .entry)) slot index ⌝ }
 {
     table[slot * 6 + index]
+}
+
+// The tests of this file end at the first word that decides: most slots and most pairs are told apart by it.
+
+// Whether each value bit outside the mask is 0.
+fn value_within(value_high: u64, value_low: u64, mask_high: u64, mask_low: u64) -> bool
+    ensures { λ r. ⌜ r ≡ within 2 (word («value_high» ∷ «value_low» ∷ [])) (word («mask_high» ∷ «mask_low» ∷ [])) ⌝ }
+{
+    if ternary::word_within(value_high, mask_high) {
+        return ternary::word_within(value_low, mask_low);
+    }
+    false
 }
 
 // Whether a rule of these parts is sound.
@@ -31,9 +45,10 @@ pub fn parts_sound(
 ) -> bool
     ensures { λ r. ⌜ r ≡ soundParts 2 id rank (word («value_high» ∷ «value_low» ∷ [])) (word («mask_high» ∷ «mask_low» ∷ [])) ⌝ }
 {
-    let high = ternary::word_within(value_high, mask_high);
-    let low = ternary::word_within(value_low, mask_low);
-    (id != 0) & (rank <= 65535) & (high & low)
+    if (id != 0) & (rank <= 65535) {
+        return value_within(value_high, value_low, mask_high, mask_low);
+    }
+    false
 }
 
 // Whether a slot's words are all zero.
@@ -75,22 +90,27 @@ pub fn slot_unsound(table: &[u64], slot: usize) -> bool
     false
 }
 
+// Whether a word of a key agrees with that word of a slot's pattern.
+fn word_agrees(table: &[u64], slot: usize, key: u64, index: usize) -> bool
+    requires { ⌜ (slot < length (now table) / 6) × (index < 2) ⌝ }
+    ensures { λ r. ⌜ r ≡ agree key (slotWords 2 (now (table .entry)) slot index) (slotWords 2 (now (table .entry)) slot (index + 2)) ⌝ }
+{
+    ternary::word_matches(
+        key,
+        slot_word(table, slot, index),
+        slot_word(table, slot, index + 2),
+    )
+}
+
 // Whether a key matches a slot's pattern, the slot read as a rule.
 fn pattern_matches(table: &[u64], slot: usize, key_high: u64, key_low: u64) -> bool
     requires { ⌜ slot < length (now table) / 6 ⌝ }
     ensures { λ r. ⌜ r ≡ patternMatches 2 (word («key_high» ∷ «key_low» ∷ [])) (slotWords 2 (now (table .entry)) slot) ⌝ }
 {
-    let high_agrees = ternary::word_matches(
-        key_high,
-        slot_word(table, slot, 0),
-        slot_word(table, slot, 2),
-    );
-    let low_agrees = ternary::word_matches(
-        key_low,
-        slot_word(table, slot, 1),
-        slot_word(table, slot, 3),
-    );
-    high_agrees & low_agrees
+    if word_agrees(table, slot, key_high, 0) {
+        return word_agrees(table, slot, key_low, 1);
+    }
+    false
 }
 
 // Exactly which keys a slot matches: an empty one none.
@@ -107,24 +127,29 @@ pub fn slot_matches(table: &[u64], slot: usize, key_high: u64, key_low: u64) -> 
 
 // Pairs: a slot of one table and a slot of another, or of the same; a rule to be inserted is a table of one slot.
 
+// Whether two slots' patterns overlap in one of their words.
+fn word_overlaps(table: &[u64], slot: usize, others: &[u64], other: usize, index: usize) -> bool
+    requires { ⌜ (slot < length (now table) / 6) × (other < length (now others) / 6) × (index < 2) ⌝ }
+    ensures { λ r. ⌜ r ≡ agree (slotWords 2 (now (table .entry)) slot index) (slotWords 2 (now (others .entry)) other index)
+        (both (slotWords 2 (now (table .entry)) slot (index + 2)) (slotWords 2 (now (others .entry)) other (index + 2))) ⌝ }
+{
+    ternary::words_overlap(
+        slot_word(table, slot, index),
+        slot_word(table, slot, index + 2),
+        slot_word(others, other, index),
+        slot_word(others, other, index + 2),
+    )
+}
+
 // Whether two slots' patterns overlap, the slots read as rules.
 pub fn slots_overlap(table: &[u64], slot: usize, others: &[u64], other: usize) -> bool
     requires { ⌜ (slot < length (now table) / 6) × (other < length (now others) / 6) ⌝ }
     ensures { λ r. ⌜ r ≡ overlapping 2 (slotWords 2 (now (table .entry)) slot) (slotWords 2 (now (others .entry)) other) ⌝ }
 {
-    let high = ternary::words_overlap(
-        slot_word(table, slot, 0),
-        slot_word(table, slot, 2),
-        slot_word(others, other, 0),
-        slot_word(others, other, 2),
-    );
-    let low = ternary::words_overlap(
-        slot_word(table, slot, 1),
-        slot_word(table, slot, 3),
-        slot_word(others, other, 1),
-        slot_word(others, other, 3),
-    );
-    high & low
+    if word_overlaps(table, slot, others, other, 0) {
+        return word_overlaps(table, slot, others, other, 1);
+    }
+    false
 }
 
 // Whether both slots are occupied.
@@ -170,8 +195,10 @@ fn overlap_no_higher(table: &[u64], slot: usize, others: &[u64], other: usize) -
     requires { ⌜ (slot < length (now table) / 6) × (other < length (now others) / 6) ⌝ }
     ensures { λ r. ⌜ r ≡ (overlapping 2 (slotWords 2 (now (table .entry)) slot) (slotWords 2 (now (others .entry)) other) && leb (rank 2 (slotWords 2 (now (table .entry)) slot)) (rank 2 (slotWords 2 (now (others .entry)) other))) ⌝ }
 {
-    let overlap = slots_overlap(table, slot, others, other);
-    overlap & (slot_word(table, slot, 5) <= slot_word(others, other, 5))
+    if slots_overlap(table, slot, others, other) {
+        return slot_word(table, slot, 5) <= slot_word(others, other, 5);
+    }
+    false
 }
 
 // Whether a slot's standing before another is out of order.

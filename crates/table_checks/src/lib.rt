@@ -2,7 +2,7 @@
 // A planning call makes all four checks; lookup makes the first two.
 use records::Cause;
 use records::Check;
-use slots::misordered_pair;
+use scans::first_not_before;
 use slots::same_id;
 use slots::slot_matches;
 use slots::slot_unsound;
@@ -77,14 +77,7 @@ fn disorder_before(table: &[u64], slot: usize) -> bool
     requires { ⌜ slot < length (now table) / 6 ⌝ }
     ensures { λ r. ⌜ r ≡ disorderAt 2 (now (table .entry)) slot ⌝ }
 {
-    let mut earlier = 0;
-    while earlier < slot {
-        if misordered_pair(table, earlier, table, slot) {
-            return true;
-        }
-        earlier += 1;
-    }
-    false
+    first_not_before(table, slot, 0, slot) < slot
 }
 
 // Check 4: of two overlapping rules the earlier one has the strictly higher priority.

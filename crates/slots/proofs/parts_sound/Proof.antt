@@ -1,21 +1,22 @@
 -- `slots::parts_sound` meets its contract.
--- The two value words lie within their masks exactly when the definition's test over all words holds.
-use borrow.Author.Needs.{needs}
-use Rattle.ternary.specs.Pattern.{within}
+-- Id and priority first, then the value's words.
+use mathlib.Core.Path.{refl}
 use Rattle.records.specs.Record.{soundParts}
-use Rattle.search.specs.Search.{all}
+use Rattle.search.specs.Search.{and-more, and-stop}
+use borrow.Author.Needs.{needs}
 use Rattle.slots.proofs.parts_sound.Statement.{statement}
 use Rattle.slots.proofs.parts_sound.Tie as tie
 
-word-within-requires : tie.Need-word-within-requires
-word-within-requires c κs = search needs
-
-word-within-requires-2 : tie.Need-word-within-requires-2
-word-within-requires-2 c κs = search needs
+value-within-requires : tie.Need-value-within-requires
+value-within-requires c κs = search needs
 
 returns : tie.Need-returns
-unfolding soundParts within all
-returns c = rw (c .word-within2 .ensures, c .before .word-within .ensures)
+unfolding soundParts
+returns c = and-more refl (c .before .if1 .taken) (c .value-within .ensures)
+
+returns-2 : tie.Need-returns-2
+unfolding soundParts
+returns-2 c = and-stop _ refl (c .if1 .left)
 
 pub parts-sound-spec : {M : Type 1} → statement M
-parts-sound-spec = tie.close (tie.spec word-within-requires word-within-requires-2 returns)
+parts-sound-spec = tie.close (tie.spec value-within-requires returns returns-2)
