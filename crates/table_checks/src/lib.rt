@@ -1,9 +1,12 @@
 // Checks 1 to 4 of a table, each with the lowest slot that fails it, and the first match of a key.
 // A planning call makes all four checks; lookup makes the first two.
+pub mod ids;
+
+use crate::ids::fill_ids;
+use crate::ids::lowest_twice;
 use records::Cause;
 use records::Check;
 use scans::first_not_before;
-use slots::same_id;
 use slots::slot_matches;
 use slots::slot_unsound;
 ghost use mathlib.Core.Path.{_≡_};
@@ -11,7 +14,7 @@ ghost use mathlib.Core.List.{[], _∷_};
 ghost use Prim.Native.Nat.{_≤_, _<_, _/_};
 ghost use lib.ListN.{length};
 ghost use Rattle.records.specs.Record.{word};
-ghost use Rattle.records.specs.Checks.{checkShape, checkRecords, checkTwice, checkOrder, slotChecks, tableChecks, twiceAt, disorderAt, firstMatch};
+ghost use Rattle.records.specs.Checks.{checkShape, checkRecords, checkTwice, checkOrder, slotChecks, tableChecks, disorderAt, firstMatch};
 
 // Check 1: the table's words are six for each of 1 to 1,024 slots.
 pub fn check_shape(table: &[u64]) -> Check
@@ -41,35 +44,14 @@ pub fn check_records(table: &[u64]) -> Check
     Check::Pass
 }
 
-// Whether an earlier slot has this slot's id.
-fn id_before(table: &[u64], slot: usize) -> bool
-    requires { ⌜ slot < length (now table) / 6 ⌝ }
-    ensures { λ r. ⌜ r ≡ twiceAt 2 (now (table .entry)) slot ⌝ }
-{
-    let mut earlier = 0;
-    while earlier < slot {
-        if same_id(table, earlier, table, slot) {
-            return true;
-        }
-        earlier += 1;
-    }
-    false
-}
-
 // Check 3: no id stands in an earlier slot too.
 pub fn check_twice(table: &[u64]) -> Check
     requires { ⌜ length (now table) ≤ 6144 ⌝ }
     ensures { λ r. ⌜ r ≡ checkTwice 2 (now (table .entry)) ⌝ }
 {
-    let slots = table.len() / 6;
-    let mut slot = 0;
-    while slot < slots {
-        if id_before(table, slot) {
-            return Check::Fail(Cause::Twice, slot as u32);
-        }
-        slot += 1;
-    }
-    Check::Pass
+    let mut ids = [0u32; 1024];
+    fill_ids(table, &mut ids);
+    lowest_twice(table, &ids)
 }
 
 // Whether an earlier overlapping rule has no higher priority than this slot's.

@@ -1,4 +1,4 @@
--- `table_checks::id_before`: no slot below the loop's has the slot's id.
+-- `table_checks::ids::id_before`: no slot below the loop's has the slot's id.
 -- Assumes nothing.
 use Prim.Native.Nat.{_-_}
 use mathlib.Core.Path.{sym, _∙_}
@@ -8,8 +8,8 @@ use Rattle.search.specs.Search.{NoneBelow, none-start, none-more, any-some, any
 use Rattle.records.specs.Record.{slotWords}
 use Rattle.records.specs.Order.{sameId}
 use Rattle.records.specs.Checks.{twiceAt}
-use Rattle.table_checks.proofs.id_before.Statement.{statement}
-use Rattle.table_checks.proofs.id_before.Tie as tie
+use Rattle.table_checks.proofs.ids.id_before.Statement.{statement}
+use Rattle.table_checks.proofs.ids.id_before.Tie as tie
 
 abbrev Inv-loop : tie.InvT-loop
 Inv-loop table slot earlier₀ earlier = NoneBelow (λ (i : ℕ). sameId 2 (slotWords 2 table i) (slotWords 2 table slot)) slot earlier

@@ -1,0 +1,98 @@
+// Check 3 over a column of ids: a table's row is read only where the column finds the slot's id twice.
+// A column of 32-bit words is compared several slots at a time; the records, six words apart, are not.
+use records::Cause;
+use records::Check;
+use slots::same_id;
+use slots::slot_empty;
+use slots::slot_word;
+ghost use mathlib.Core.Path.{_≡_};
+ghost use Prim.Native.Nat.{_≤_, _<_, _/_};
+ghost use lib.ListN.{length};
+ghost use Rattle.records.specs.Record.{slotWords, ident};
+ghost use Rattle.records.specs.Checks.{checkTwice, twiceAt};
+ghost use Rattle.table_checks.specs.Ids.{IdColumn, listedTwice};
+
+// The id of a slot's record, as a number of 32 bits.
+fn short_id(table: &[u64], slot: usize) -> u32
+    requires { ⌜ slot < length (now table) / 6 ⌝ }
+    ensures { λ r. ⌜ r ≡ ident 2 (slotWords 2 (now (table .entry)) slot) ⌝ }
+{
+    (slot_word(table, slot, 4) / 4294967296) as u32
+}
+
+// The ids of all slots, into the front of a lent column.
+pub fn fill_ids(table: &[u64], ids: &mut [u32])
+    requires { ⌜ length (now table) / 6 ≤ length (now ids) ⌝ }
+    ensures { λ _. ⌜ IdColumn 2 (now (table .entry)) (now (ids .exit)) (length (now (table .entry)) / 6) ⌝ }
+{
+    let slots = table.len() / 6;
+    let mut slot = 0;
+    while slot < slots {
+        ids[slot] = short_id(table, slot);
+        slot += 1;
+    }
+}
+
+// Whether an earlier entry of the column is this slot's.
+// It has no early exit, so that the compiler compares several entries at a time.
+fn listed_before(ids: &[u32], slot: usize) -> bool
+    requires { ⌜ slot < length (now ids) ⌝ }
+    ensures { λ r. ⌜ r ≡ listedTwice (now (ids .entry)) slot ⌝ }
+{
+    let id = ids[slot];
+    let mut found = false;
+    let mut earlier = 0;
+    while earlier < slot {
+        found = found | (ids[earlier] == id);
+        earlier += 1;
+    }
+    found
+}
+
+// Whether an earlier slot has this slot's id, read in the table.
+fn id_before(table: &[u64], slot: usize) -> bool
+    requires { ⌜ slot < length (now table) / 6 ⌝ }
+    ensures { λ r. ⌜ r ≡ twiceAt 2 (now (table .entry)) slot ⌝ }
+{
+    let mut earlier = 0;
+    while earlier < slot {
+        if same_id(table, earlier, table, slot) {
+            return true;
+        }
+        earlier += 1;
+    }
+    false
+}
+
+// The same, by the column first: where it finds the id, the table decides.
+// Empty slots are passed over: they all have id 0, which the column would find in each of their rows.
+fn id_twice(table: &[u64], ids: &[u32], slot: usize) -> bool
+    requires { ⌜ (slot < length (now table) / 6) × (length (now table) / 6 ≤ length (now ids)) ⌝ }
+    requires { ⌜ IdColumn 2 (now table) (now ids) (length (now table) / 6) ⌝ }
+    ensures { λ r. ⌜ r ≡ twiceAt 2 (now (table .entry)) slot ⌝ }
+{
+    if slot_empty(table, slot) {
+        return false;
+    }
+    if listed_before(ids, slot) {
+        return id_before(table, slot);
+    }
+    false
+}
+
+// The lowest slot whose id stands in an earlier one too.
+pub fn lowest_twice(table: &[u64], ids: &[u32]) -> Check
+    requires { ⌜ (length (now table) ≤ 6144) × (length (now table) / 6 ≤ length (now ids)) ⌝ }
+    requires { ⌜ IdColumn 2 (now table) (now ids) (length (now table) / 6) ⌝ }
+    ensures { λ r. ⌜ r ≡ checkTwice 2 (now (table .entry)) ⌝ }
+{
+    let slots = table.len() / 6;
+    let mut slot = 0;
+    while slot < slots {
+        if id_twice(table, ids, slot) {
+            return Check::Fail(Cause::Twice, slot as u32);
+        }
+        slot += 1;
+    }
+    Check::Pass
+}
