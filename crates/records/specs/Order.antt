@@ -1,13 +1,14 @@
 -- Two records side by side: overlap, precedence, one id in two slots, and which pair is out of order. A table's order.
 -- Copies of one id are not compared with each other, so that these definitions hold in the middle of a plan too.
 use mathlib.Core.Path.{_≡_}
-use mathlib.Core.Bool.{Bool, true, not, _&&_}
+use mathlib.Core.Bool.{Bool, true, false, not, _&&_, and-false}
 use mathlib.Core.List.{List}
 use Prim.Native.Nat.{ℕ, _/_, _<_}
 use lib.Dec.{eqb, ltb, leb}
 use lib.ListN.{length}
-use Rattle.ternary.specs.Pattern.{Words, Overlap, overlaps}
-use Rattle.records.specs.Record.{recordWords, slotWords, value, mask, ident, rank, occupied}
+use Rattle.search.specs.Search.{and-turned, and-middle}
+use Rattle.ternary.specs.Pattern.{Words, Overlap, overlaps, overlaps-turned}
+use Rattle.records.specs.Record.{recordWords, slotWords, value, mask, ident, rank, empty, occupied}
 
 -- how many slots a table has
 abbrev pub slots : ℕ → List ℕ → ℕ
@@ -35,6 +36,24 @@ sameId w a b = eqb (ident w a) (ident w b) && (occupied w a && occupied w b)
 -- a standing before b is out of order: two rules that overlap, and a's priority is not higher
 unfoldable pub misordered : ℕ → Words → Words → Bool
 misordered w a b = (overlapping w a b && leb (rank w a) (rank w b)) && distinct w a b
+
+-- the test with the priorities asked first
+pub misordered-asked : (w : ℕ) (a b : Words) {r : Bool} → leb (rank w a) (rank w b) ≡ true → r ≡ distinct w a b && overlapping w a b → r ≡ misordered w a b
+unfolding misordered
+misordered-asked w a b l e = and-turned (overlapping w a b) (leb (rank w a) (rank w b)) (distinct w a b) l e
+
+pub misordered-higher : (w : ℕ) (a b : Words) → leb (rank w a) (rank w b) ≡ false → false ≡ misordered w a b
+unfolding misordered
+misordered-higher w a b l = and-middle (overlapping w a b) (distinct w a b) l
+
+-- where two patterns do not overlap, neither rule's standing is out of order; nor is a standing before an empty slot
+pub misordered-apart : (w : ℕ) (a b : Words) → overlapping w a b ≡ false → (misordered w a b ≡ false) × (misordered w b a ≡ false)
+unfolding misordered
+misordered-apart w a b e = (rw e, rw (overlaps-turned w (value a) (mask w a) (value b) (mask w b) e))
+
+pub misordered-empty : (w : ℕ) (a b : Words) → empty w b ≡ true → misordered w a b ≡ false
+unfolding misordered distinct
+misordered-empty w a b e = rw (e, and-false, and-false, and-false)
 
 -- a may stand before b
 abbrev pub Ordered : ℕ → Words → Words → Type 0

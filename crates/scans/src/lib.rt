@@ -1,35 +1,85 @@
 // The nearest slot that is out of order with a slot: the searches of check 4 and of the windows.
-// Four slots a step, since a search that may end at each slot is not unrolled by the compiler.
+// Slots that do not overlap are passed over four at a time; the rest are asked one by one.
 use slots::misordered_pair;
+use slots::pattern_overlaps;
+use slots::slot_word;
 ghost use mathlib.Core.Path.{_≡_};
+ghost use mathlib.Core.Bool.{_||_};
+ghost use mathlib.Core.List.{[], _∷_};
 ghost use Prim.Native.Nat.{_+_, _-_, _≤_, _<_, _/_};
 ghost use lib.ListN.{length};
-ghost use Rattle.search.specs.Search.{least, afterLast};
-ghost use Rattle.search.specs.Fours.{lastOf};
-ghost use Rattle.scans.specs.Scans.{notBefore, notAfter};
+ghost use Rattle.search.specs.Search.{least, afterLast, NoneFrom, NoneAbove};
+ghost use Rattle.search.specs.Parts.{lastOf};
+ghost use Rattle.records.specs.Record.{word};
+ghost use Rattle.scans.specs.Scans.{notBefore, notAfter, meets, meetsSlot};
 
-// Of four slots, the first that may not stand before a slot; the one after them where none is.
-fn first_of_four(table: &[u64], slot: usize, from: usize) -> usize
-    requires { ⌜ (slot < length (now table) / 6) × (from + 4 ≤ length (now table) / 6) ⌝ }
-    ensures { λ r. ⌜ r ≡ least (notBefore 2 (now (table .entry)) slot) 4 from ⌝ }
+// Whether one of four slots overlaps a pattern whose words are at hand.
+fn one_overlaps(
+    table: &[u64],
+    from: usize,
+    value_high: u64,
+    value_low: u64,
+    mask_high: u64,
+    mask_low: u64,
+) -> bool
+    requires { ⌜ from + 4 ≤ length (now table) / 6 ⌝ }
+    ensures { λ r. ⌜ r ≡ (meets 2 (now (table .entry)) (word («value_high» ∷ «value_low» ∷ [])) (word («mask_high» ∷ «mask_low» ∷ [])) from
+        || meets 2 (now (table .entry)) (word («value_high» ∷ «value_low» ∷ [])) (word («mask_high» ∷ «mask_low» ∷ [])) (from + 1)
+        || meets 2 (now (table .entry)) (word («value_high» ∷ «value_low» ∷ [])) (word («mask_high» ∷ «mask_low» ∷ [])) (from + 2)
+        || meets 2 (now (table .entry)) (word («value_high» ∷ «value_low» ∷ [])) (word («mask_high» ∷ «mask_low» ∷ [])) (from + 3)) ⌝ }
 {
-    if misordered_pair(table, from, table, slot) {
-        return from;
+    if pattern_overlaps(table, from, value_high, value_low, mask_high, mask_low) {
+        return true;
     }
-    if misordered_pair(table, from + 1, table, slot) {
-        return from + 1;
+    if pattern_overlaps(table, from + 1, value_high, value_low, mask_high, mask_low) {
+        return true;
     }
-    if misordered_pair(table, from + 2, table, slot) {
-        return from + 2;
+    if pattern_overlaps(table, from + 2, value_high, value_low, mask_high, mask_low) {
+        return true;
     }
-    if misordered_pair(table, from + 3, table, slot) {
-        return from + 3;
-    }
-    from + 4
+    pattern_overlaps(table, from + 3, value_high, value_low, mask_high, mask_low)
 }
 
-// The same of any number of slots, one a step.
-fn first_of_few(table: &[u64], slot: usize, from: usize, to: usize) -> usize
+// From a slot upward, a slot up to which none overlaps this one's pattern.
+fn skip_up(table: &[u64], slot: usize, from: usize, to: usize) -> usize
+    requires { ⌜ (slot < length (now table) / 6) × (from ≤ to) × (to ≤ length (now table) / 6) ⌝ }
+    ensures { λ r. ⌜ NoneFrom (meetsSlot 2 (now (table .entry)) slot) from to r ⌝ }
+{
+    let value_high = slot_word(table, slot, 0);
+    let value_low = slot_word(table, slot, 1);
+    let mask_high = slot_word(table, slot, 2);
+    let mask_low = slot_word(table, slot, 3);
+    let mut at = from;
+    while at + 4 <= to {
+        if one_overlaps(table, at, value_high, value_low, mask_high, mask_low) {
+            return at;
+        }
+        at += 4;
+    }
+    at
+}
+
+// From an end downward, a slot from which on none overlaps this one's pattern.
+fn skip_down(table: &[u64], slot: usize, end: usize) -> usize
+    requires { ⌜ (slot < length (now table) / 6) × (end ≤ length (now table) / 6) ⌝ }
+    ensures { λ r. ⌜ NoneAbove (meetsSlot 2 (now (table .entry)) slot) end r ⌝ }
+{
+    let value_high = slot_word(table, slot, 0);
+    let value_low = slot_word(table, slot, 1);
+    let mask_high = slot_word(table, slot, 2);
+    let mask_low = slot_word(table, slot, 3);
+    let mut after = end;
+    while 4 <= after {
+        if one_overlaps(table, after - 4, value_high, value_low, mask_high, mask_low) {
+            return after;
+        }
+        after -= 4;
+    }
+    after
+}
+
+// Of the slots from `from` up to, not including, `to`, the first that may not stand before a slot, each slot asked.
+fn first_asked(table: &[u64], slot: usize, from: usize, to: usize) -> usize
     requires { ⌜ (slot < length (now table) / 6) × (from ≤ to) × (to ≤ length (now table) / 6) ⌝ }
     ensures { λ r. ⌜ r ≡ least (notBefore 2 (now (table .entry)) slot) (to - from) from ⌝ }
 {
@@ -43,55 +93,35 @@ fn first_of_few(table: &[u64], slot: usize, from: usize, to: usize) -> usize
     to
 }
 
-// Of the slots from `from` up to, not including, `to`, the first that may not stand before a slot; `to` where none is.
-pub fn first_not_before(table: &[u64], slot: usize, from: usize, to: usize) -> usize
-    requires { ⌜ (slot < length (now table) / 6) × (from ≤ to) × (to ≤ length (now table) / 6) ⌝ }
-    ensures { λ r. ⌜ r ≡ least (notBefore 2 (now (table .entry)) slot) (to - from) from ⌝ }
-{
-    let mut at = from;
-    while at + 4 <= to {
-        let first = first_of_four(table, slot, at);
-        if first < at + 4 {
-            return first;
-        }
-        at += 4;
-    }
-    first_of_few(table, slot, at, to)
-}
-
-// Of the four slots below an end, one past the last that may not stand after a slot; the lowest where none is.
-fn last_of_four(table: &[u64], slot: usize, end: usize) -> usize
-    requires { ⌜ (slot < length (now table) / 6) × (4 ≤ end) × (end ≤ length (now table) / 6) ⌝ }
-    ensures { λ r. ⌜ r ≡ lastOf (notAfter 2 (now (table .entry)) slot) 4 end ⌝ }
-{
-    if misordered_pair(table, slot, table, end - 1) {
-        return end;
-    }
-    if misordered_pair(table, slot, table, end - 2) {
-        return end - 1;
-    }
-    if misordered_pair(table, slot, table, end - 3) {
-        return end - 2;
-    }
-    if misordered_pair(table, slot, table, end - 4) {
-        return end - 3;
-    }
-    end - 4
-}
-
-// The same of all slots below an end, one a step.
-fn last_of_few(table: &[u64], slot: usize, end: usize) -> usize
-    requires { ⌜ (slot < length (now table) / 6) × (end ≤ length (now table) / 6) ⌝ }
-    ensures { λ r. ⌜ r ≡ afterLast (notAfter 2 (now (table .entry)) slot) end ⌝ }
+// One past the last slot below `end`, not below `from`, that may not stand after a slot, each slot asked.
+fn last_asked(table: &[u64], slot: usize, from: usize, end: usize) -> usize
+    requires { ⌜ (slot < length (now table) / 6) × (from ≤ end) × (end ≤ length (now table) / 6) ⌝ }
+    ensures { λ r. ⌜ r ≡ lastOf (notAfter 2 (now (table .entry)) slot) (end - from) end ⌝ }
 {
     let mut after = end;
-    while 0 < after {
+    while from < after {
         if misordered_pair(table, slot, table, after - 1) {
             return after;
         }
         after -= 1;
     }
-    0
+    from
+}
+
+// Of the slots from `from` up to, not including, `to`, the first that may not stand before a slot; `to` where none is.
+pub fn first_not_before(table: &[u64], slot: usize, from: usize, to: usize) -> usize
+    requires { ⌜ (slot < length (now table) / 6) × (from ≤ to) × (to ≤ length (now table) / 6) ⌝ }
+    ensures { λ r. ⌜ r ≡ least (notBefore 2 (now (table .entry)) slot) (to - from) from ⌝ }
+{
+    let mut at = skip_up(table, slot, from, to);
+    while at + 4 <= to {
+        let first = first_asked(table, slot, at, at + 4);
+        if first < at + 4 {
+            return first;
+        }
+        at = skip_up(table, slot, at + 4, to);
+    }
+    first_asked(table, slot, at, to)
 }
 
 // One past the last of the slots below an end that may not stand after a slot; 0 where none is.
@@ -99,13 +129,13 @@ pub fn last_not_after(table: &[u64], slot: usize, end: usize) -> usize
     requires { ⌜ (slot < length (now table) / 6) × (end ≤ length (now table) / 6) ⌝ }
     ensures { λ r. ⌜ r ≡ afterLast (notAfter 2 (now (table .entry)) slot) end ⌝ }
 {
-    let mut after = end;
+    let mut after = skip_down(table, slot, end);
     while 4 <= after {
-        let last = last_of_four(table, slot, after);
+        let last = last_asked(table, slot, after - 4, after);
         if after - 4 < last {
             return last;
         }
-        after -= 4;
+        after = skip_down(table, slot, after - 4);
     }
-    last_of_few(table, slot, after)
+    last_asked(table, slot, 0, after)
 }

@@ -57,6 +57,18 @@ pub and-stop : {a x : Bool} (y : Bool) → a ≡ x → a ≡ false → false ≡
 and-stop {x = true} y p t = absurd (false≢true (sym t ∙ p))
 and-stop {x = false} y p t = refl
 
+-- three tests, the middle one asked first
+pub and-turned : (a b c : Bool) {r : Bool} → b ≡ true → r ≡ c && a → r ≡ a && b && c
+and-turned true true true p q = q
+and-turned true true false p q = q
+and-turned true false c p q = absurd (false≢true p)
+and-turned false b true p q = q
+and-turned false b false p q = q
+
+pub and-middle : (a : Bool) {b : Bool} (c : Bool) → b ≡ false → false ≡ a && b && c
+and-middle true {b} c e = rw e
+and-middle false c e = refl
+
 -- what holds below n, and at n, holds below suc n
 pub below-suc : (P : ℕ → Type 0) (n : ℕ) → ((j : ℕ) → j < n → P j) → P n → (j : ℕ) → j < suc n → P j
 below-suc P n below here j h = pick (ℕ-discrete j n)
@@ -73,6 +85,10 @@ all-law p (suc n) = (
   λ e. below-suc (λ (j : ℕ). p j ≡ true) n (all-law p n .0 (and-left (all p n) (p n) e)) (and-right (all p n) (p n) e),
   λ h. and-both (all p n) (p n) (all-law p n .1 (λ j l. h j (omega arith))) (h n (omega arith)),
 )
+
+-- a test that fails below n
+pub all-not : (p : ℕ → Bool) (n j : ℕ) → j < n → p j ≡ false → all p n ≡ false
+all-not p n j h e = ⊎-elim (λ t. absurd (true≢false (sym (all-law p n .0 t j h) ∙ e))) (λ f. f) (decided (all p n))
 
 -- a search reads its test only at the indices that it passes
 pub all-cong : {p q : ℕ → Bool} (n : ℕ) → ((j : ℕ) → j < n → p j ≡ q j) → all p n ≡ all q n

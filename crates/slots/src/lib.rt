@@ -6,11 +6,10 @@ ghost use mathlib.Core.Path.{_≡_};
 ghost use mathlib.Core.List.{[], _∷_};
 ghost use mathlib.Core.Bool.{not, _&&_};
 ghost use Prim.Native.Nat.{_+_, _<_, _/_};
-ghost use lib.Dec.{leb};
 ghost use lib.ListN.{length};
-ghost use Rattle.ternary.specs.Word.{agree, both};
-ghost use Rattle.ternary.specs.Pattern.{within};
-ghost use Rattle.records.specs.Record.{word, slotWords, empty, occupied, ident, rank, sound, soundParts, patternMatches, slotMatches, listed, putSlot};
+ghost use Rattle.ternary.specs.Word.{agree, inside};
+ghost use Rattle.ternary.specs.Pattern.{within, overlaps};
+ghost use Rattle.records.specs.Record.{word, slotWords, value, mask, empty, occupied, ident, sound, soundParts, patternMatches, slotMatches, listed, putSlot};
 ghost use Rattle.records.specs.Order.{sameId, distinct, tied, precedes, misordered, overlapping};
 ghost use Rattle.records.specs.Checks.{unsoundAt};
 
@@ -56,27 +55,58 @@ pub fn slot_empty(table: &[u64], slot: usize) -> bool
     requires { ⌜ slot < length (now table) / 6 ⌝ }
     ensures { λ r. ⌜ r ≡ empty 2 (slotWords 2 (now (table .entry)) slot) ⌝ }
 {
-    (slot_word(table, slot, 0) == 0)
-        & (slot_word(table, slot, 1) == 0)
-        & (slot_word(table, slot, 2) == 0)
-        & (slot_word(table, slot, 3) == 0)
-        & (slot_word(table, slot, 4) == 0)
-        & (slot_word(table, slot, 5) == 0)
+    if slot_word(table, slot, 4) == 0 {
+        return (slot_word(table, slot, 0) == 0)
+            & (slot_word(table, slot, 1) == 0)
+            & (slot_word(table, slot, 2) == 0)
+            & (slot_word(table, slot, 3) == 0)
+            & (slot_word(table, slot, 5) == 0);
+    }
+    false
 }
 
-// Whether a slot, read as a rule, is sound.
+// The id of a slot's record.
+pub fn slot_id(table: &[u64], slot: usize) -> u64
+    requires { ⌜ slot < length (now table) / 6 ⌝ }
+    ensures { λ r. ⌜ r ≡ ident 2 (slotWords 2 (now (table .entry)) slot) ⌝ }
+{
+    slot_word(table, slot, 4) / 4294967296
+}
+
+// Whether a word of a slot's value lies within that word of its mask.
+fn word_inside(table: &[u64], slot: usize, index: usize) -> bool
+    requires { ⌜ (slot < length (now table) / 6) × (index < 2) ⌝ }
+    ensures { λ r. ⌜ r ≡ inside (slotWords 2 (now (table .entry)) slot index) (slotWords 2 (now (table .entry)) slot (index + 2)) ⌝ }
+{
+    ternary::word_within(
+        slot_word(table, slot, index),
+        slot_word(table, slot, index + 2),
+    )
+}
+
+// Whether each value bit of a slot outside its mask is 0.
+fn slot_within(table: &[u64], slot: usize) -> bool
+    requires { ⌜ slot < length (now table) / 6 ⌝ }
+    ensures { λ r. ⌜ r ≡ within 2 (value (slotWords 2 (now (table .entry)) slot)) (mask 2 (slotWords 2 (now (table .entry)) slot)) ⌝ }
+{
+    if word_inside(table, slot, 0) {
+        return word_inside(table, slot, 1);
+    }
+    false
+}
+
+// Whether a slot, read as a rule, is sound: the test of `parts_sound`, each word read where it is asked for.
 fn slot_sound(table: &[u64], slot: usize) -> bool
     requires { ⌜ slot < length (now table) / 6 ⌝ }
     ensures { λ r. ⌜ r ≡ sound 2 (slotWords 2 (now (table .entry)) slot) ⌝ }
 {
-    parts_sound(
-        slot_word(table, slot, 4) / 4294967296,
-        slot_word(table, slot, 5),
-        slot_word(table, slot, 0),
-        slot_word(table, slot, 1),
-        slot_word(table, slot, 2),
-        slot_word(table, slot, 3),
-    )
+    if slot_id(table, slot) == 0 {
+        return false;
+    }
+    if slot_word(table, slot, 5) <= 65535 {
+        return slot_within(table, slot);
+    }
+    false
 }
 
 // Whether a slot is neither empty nor a sound rule.
@@ -118,27 +148,42 @@ pub fn slot_matches(table: &[u64], slot: usize, key_high: u64, key_low: u64) -> 
     requires { ⌜ slot < length (now table) / 6 ⌝ }
     ensures { λ r. ⌜ r ≡ slotMatches 2 (word («key_high» ∷ «key_low» ∷ [])) (slotWords 2 (now (table .entry)) slot) ⌝ }
 {
-    if pattern_matches(table, slot, key_high, key_low) {
-        let vacant = slot_empty(table, slot);
-        return !vacant;
+    if slot_empty(table, slot) {
+        return false;
     }
-    false
+    pattern_matches(table, slot, key_high, key_low)
 }
 
 // Pairs: a slot of one table and a slot of another, or of the same; a rule to be inserted is a table of one slot.
 
-// Whether two slots' patterns overlap in one of their words.
-fn word_overlaps(table: &[u64], slot: usize, others: &[u64], other: usize, index: usize) -> bool
-    requires { ⌜ (slot < length (now table) / 6) × (other < length (now others) / 6) × (index < 2) ⌝ }
-    ensures { λ r. ⌜ r ≡ agree (slotWords 2 (now (table .entry)) slot index) (slotWords 2 (now (others .entry)) other index)
-        (both (slotWords 2 (now (table .entry)) slot (index + 2)) (slotWords 2 (now (others .entry)) other (index + 2))) ⌝ }
+// Whether a slot's pattern overlaps one whose words are at hand.
+pub fn pattern_overlaps(
+    table: &[u64],
+    slot: usize,
+    value_high: u64,
+    value_low: u64,
+    mask_high: u64,
+    mask_low: u64,
+) -> bool
+    requires { ⌜ slot < length (now table) / 6 ⌝ }
+    ensures { λ r. ⌜ r ≡ overlaps 2 (value (slotWords 2 (now (table .entry)) slot)) (mask 2 (slotWords 2 (now (table .entry)) slot))
+        (word («value_high» ∷ «value_low» ∷ [])) (word («mask_high» ∷ «mask_low» ∷ [])) ⌝ }
 {
-    ternary::words_overlap(
-        slot_word(table, slot, index),
-        slot_word(table, slot, index + 2),
-        slot_word(others, other, index),
-        slot_word(others, other, index + 2),
-    )
+    let high = ternary::words_overlap(
+        slot_word(table, slot, 0),
+        slot_word(table, slot, 2),
+        value_high,
+        mask_high,
+    );
+    if high {
+        return ternary::words_overlap(
+            slot_word(table, slot, 1),
+            slot_word(table, slot, 3),
+            value_low,
+            mask_low,
+        );
+    }
+    false
 }
 
 // Whether two slots' patterns overlap, the slots read as rules.
@@ -146,10 +191,14 @@ pub fn slots_overlap(table: &[u64], slot: usize, others: &[u64], other: usize) -
     requires { ⌜ (slot < length (now table) / 6) × (other < length (now others) / 6) ⌝ }
     ensures { λ r. ⌜ r ≡ overlapping 2 (slotWords 2 (now (table .entry)) slot) (slotWords 2 (now (others .entry)) other) ⌝ }
 {
-    if word_overlaps(table, slot, others, other, 0) {
-        return word_overlaps(table, slot, others, other, 1);
-    }
-    false
+    pattern_overlaps(
+        table,
+        slot,
+        slot_word(others, other, 0),
+        slot_word(others, other, 1),
+        slot_word(others, other, 2),
+        slot_word(others, other, 3),
+    )
 }
 
 // Whether both slots are occupied.
@@ -157,17 +206,11 @@ pub fn both_occupied(table: &[u64], slot: usize, others: &[u64], other: usize) -
     requires { ⌜ (slot < length (now table) / 6) × (other < length (now others) / 6) ⌝ }
     ensures { λ r. ⌜ r ≡ (occupied 2 (slotWords 2 (now (table .entry)) slot) && occupied 2 (slotWords 2 (now (others .entry)) other)) ⌝ }
 {
-    let slot_is_empty = slot_empty(table, slot);
-    let other_is_empty = slot_empty(others, other);
-    !slot_is_empty & !other_is_empty
-}
-
-// The id of a slot's record.
-pub fn slot_id(table: &[u64], slot: usize) -> u64
-    requires { ⌜ slot < length (now table) / 6 ⌝ }
-    ensures { λ r. ⌜ r ≡ ident 2 (slotWords 2 (now (table .entry)) slot) ⌝ }
-{
-    slot_word(table, slot, 4) / 4294967296
+    if slot_empty(table, slot) {
+        return false;
+    }
+    let vacant = slot_empty(others, other);
+    !vacant
 }
 
 // Whether one id stands in both slots.
@@ -186,28 +229,30 @@ pub fn distinct_rules(table: &[u64], slot: usize, others: &[u64], other: usize) 
     requires { ⌜ (slot < length (now table) / 6) × (other < length (now others) / 6) ⌝ }
     ensures { λ r. ⌜ r ≡ distinct 2 (slotWords 2 (now (table .entry)) slot) (slotWords 2 (now (others .entry)) other) ⌝ }
 {
-    let differ = slot_id(table, slot) != slot_id(others, other);
-    differ & both_occupied(table, slot, others, other)
-}
-
-// Whether a slot's pattern overlaps another's and its priority is not the higher one.
-fn overlap_no_higher(table: &[u64], slot: usize, others: &[u64], other: usize) -> bool
-    requires { ⌜ (slot < length (now table) / 6) × (other < length (now others) / 6) ⌝ }
-    ensures { λ r. ⌜ r ≡ (overlapping 2 (slotWords 2 (now (table .entry)) slot) (slotWords 2 (now (others .entry)) other) && leb (rank 2 (slotWords 2 (now (table .entry)) slot)) (rank 2 (slotWords 2 (now (others .entry)) other))) ⌝ }
-{
-    if slots_overlap(table, slot, others, other) {
-        return slot_word(table, slot, 5) <= slot_word(others, other, 5);
+    if both_occupied(table, slot, others, other) {
+        return slot_id(table, slot) != slot_id(others, other);
     }
     false
 }
 
-// Whether a slot's standing before another is out of order.
+// Whether the slots hold two rules of different ids that overlap.
+fn rules_overlap(table: &[u64], slot: usize, others: &[u64], other: usize) -> bool
+    requires { ⌜ (slot < length (now table) / 6) × (other < length (now others) / 6) ⌝ }
+    ensures { λ r. ⌜ r ≡ (distinct 2 (slotWords 2 (now (table .entry)) slot) (slotWords 2 (now (others .entry)) other) && overlapping 2 (slotWords 2 (now (table .entry)) slot) (slotWords 2 (now (others .entry)) other)) ⌝ }
+{
+    if distinct_rules(table, slot, others, other) {
+        return slots_overlap(table, slot, others, other);
+    }
+    false
+}
+
+// Whether a slot's standing before another is out of order. Priorities first: in a table in order most pairs are told by them.
 pub fn misordered_pair(table: &[u64], slot: usize, others: &[u64], other: usize) -> bool
     requires { ⌜ (slot < length (now table) / 6) × (other < length (now others) / 6) ⌝ }
     ensures { λ r. ⌜ r ≡ misordered 2 (slotWords 2 (now (table .entry)) slot) (slotWords 2 (now (others .entry)) other) ⌝ }
 {
-    if overlap_no_higher(table, slot, others, other) {
-        return distinct_rules(table, slot, others, other);
+    if slot_word(table, slot, 5) <= slot_word(others, other, 5) {
+        return rules_overlap(table, slot, others, other);
     }
     false
 }

@@ -7,6 +7,7 @@ use crate::ids::lowest_twice;
 use records::Cause;
 use records::Check;
 use scans::first_not_before;
+use slots::slot_empty;
 use slots::slot_matches;
 use slots::slot_unsound;
 ghost use mathlib.Core.Path.{_≡_};
@@ -59,6 +60,9 @@ fn disorder_before(table: &[u64], slot: usize) -> bool
     requires { ⌜ slot < length (now table) / 6 ⌝ }
     ensures { λ r. ⌜ r ≡ disorderAt 2 (now (table .entry)) slot ⌝ }
 {
+    if slot_empty(table, slot) {
+        return false;
+    }
     first_not_before(table, slot, 0, slot) < slot
 }
 

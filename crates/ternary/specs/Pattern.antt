@@ -1,11 +1,11 @@
 -- Patterns of any number of words: match, overlap, value within mask. Document 01's sentences, and the tests that decide them.
 -- A value, a mask and a key are read word by word, word 0 the highest; w is the number of words.
 use mathlib.Core.Path.{_≡_, refl, sym, ap, _∙_}
-use mathlib.Core.Bool.{Bool, true}
-use mathlib.Core.Logic.{_↔_}
+use mathlib.Core.Bool.{Bool, true, false, true≢false}
+use mathlib.Core.Logic.{_↔_, ⊎-elim}
 use Prim.Native.Nat.{ℕ, _^_, _<_}
 use native.Mathlib.Decide.{ℕ-discrete}
-use Rattle.search.specs.Search.{all, all-law, all-cong}
+use Rattle.search.specs.Search.{all, all-law, all-cong, decided}
 use Rattle.ternary.specs.Bit.{bit}
 use Rattle.ternary.specs.Word.{agree, agree-law, inside, inside-law, both, both-law, common, common-left, common-right, common-fits}
 
@@ -93,6 +93,13 @@ unfolding overlaps
 overlaps-law w value mask value′ mask′ =
     each (λ (j : ℕ). agree (value j) (value′ j) (both (mask j) (mask′ j))) (λ (j : ℕ). (i : ℕ) → Clash value mask value′ mask′ j i → ⊥)
     (no-clash value mask value′ mask′) w
+
+-- the first pattern does not overlap the second where the second does not overlap the first
+pub overlaps-turned : (w : ℕ) (value mask value′ mask′ : Words) → overlaps w value mask value′ mask′ ≡ false → overlaps w value′ mask′ value mask ≡ false
+overlaps-turned w value mask value′ mask′ e =
+    ⊎-elim
+    (λ t. absurd (true≢false (sym (overlaps-law w value mask value′ mask′ .1 (λ j h i c. overlaps-law w value′ mask′ value mask .0 t j h i (c .1, c .0, λ f. c .2 (sym f)))) ∙ e)))
+    (λ f. f) (decided (overlaps w value′ mask′ value mask))
 
 -- a key that two overlapping patterns both match
 unfoldable pub commonKey : Words → Words → Words → Words → Words

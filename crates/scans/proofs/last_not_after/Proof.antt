@@ -1,39 +1,52 @@
 -- `scans::last_not_after` meets its contract.
--- No slot from the loop's on is out of order with the slot.
+-- No slot from the loop's on is out of order with the slot: each was passed over or asked.
 use mathlib.Core.Path.{sym, _∙_}
 use native.Mathlib.Omega.{arith}
-use Rattle.search.specs.Search.{NoneAbove, none-above}
-use Rattle.search.specs.Fours.{none-above-four, last-in-four, last-rest}
-use Rattle.scans.specs.Scans.{notAfter}
+use denote.Ref.{now}
+use Rattle.search.specs.Search.{NoneAbove}
+use Rattle.search.specs.Parts.{none-above-weaker, none-above-join, none-above-part, last-in-part, last-rest}
+use Rattle.scans.specs.Scans.{notAfter, apart-after}
 use Rattle.scans.proofs.last_not_after.Statement.{statement}
 use Rattle.scans.proofs.last_not_after.Tie as tie
 
 abbrev Inv-loop : tie.InvT-loop
-Inv-loop table slot end after₀ after = NoneAbove (notAfter 2 table slot) after₀ after
+Inv-loop table slot end after₀ after = NoneAbove (notAfter 2 table slot) end after
 
 abbrev μ-loop : tie.MeasureT-loop
 μ-loop table slot end after₀ after = after
 
-loop-holds : tie.Need-loop-holds Inv-loop μ-loop
-loop-holds c = none-above _ _
+skip-down-requires : tie.Need-skip-down-requires Inv-loop μ-loop
+skip-down-requires c κs = omega arith
 
-last-of-four-requires : tie.Need-last-of-four-requires Inv-loop μ-loop
-last-of-four-requires c κs = omega arith
+loop-holds : tie.Need-loop-holds Inv-loop μ-loop
+loop-holds c =
+    let a = c .before .before .args in
+    none-above-weaker _ _ _ _ (λ k e. apart-after 2 (now (a .table)) (a .slot) k e) (c .skip-down .ensures)
+
+last-asked-requires : tie.Need-last-asked-requires Inv-loop μ-loop
+last-asked-requires c κs = omega arith
 
 returns : tie.Need-returns Inv-loop μ-loop
-returns c = c .before .last-of-four .ensures ∙ sym (last-in-four _ _ _ (c .before .before .before .loop .inv) (omega arith) (omega (arith, c .before .last-of-four .ensures)))
+returns c = sym (last-in-part _ _ _ _ _ (c .before .before .before .loop .inv) (omega arith) (c .before .last-asked .ensures) (omega arith))
+
+skip-down-requires-2 : tie.Need-skip-down-requires-2 Inv-loop μ-loop
+skip-down-requires-2 c κs = omega arith
 
 loop-less : tie.Need-loop-less Inv-loop μ-loop
-loop-less c = omega arith
+loop-less c = omega (arith, c .skip-down2 .ensures .0)
 
 loop-again : tie.Need-loop-again Inv-loop μ-loop
-loop-again c = none-above-four _ _ _ (c .before .before .before .loop .inv) (omega arith) (λ l. omega (arith, c .before .last-of-four .ensures))
+loop-again c =
+    let a = c .before .before .before .before .before .before .before .args in
+    none-above-join _ _ _ _
+    (none-above-join _ _ _ _ (c .before .before .before .before .loop .inv) (none-above-part _ _ _ _ (omega arith) (c .before .before .last-asked .ensures) (omega arith)))
+    (none-above-weaker _ _ _ _ (λ k e. apart-after 2 (now (a .table)) (a .slot) k e) (c .skip-down2 .ensures))
 
-last-of-few-requires : tie.Need-last-of-few-requires Inv-loop μ-loop
-last-of-few-requires c κs = omega arith
+last-asked-requires-2 : tie.Need-last-asked-requires-2 Inv-loop μ-loop
+last-asked-requires-2 c κs = omega arith
 
 returns-2 : tie.Need-returns-2 Inv-loop μ-loop
-returns-2 c = c .last-of-few .ensures ∙ last-rest _ _ _ (c .before .before .loop .inv)
+returns-2 c = sym (last-rest _ _ _ _ (c .before .before .loop .inv) (c .last-asked2 .ensures))
 
 pub last-not-after-spec : {M : Type 1} → statement M
 last-not-after-spec =
@@ -41,10 +54,12 @@ last-not-after-spec =
     (tie.spec
     Inv-loop
     μ-loop
+    skip-down-requires
     loop-holds
-    last-of-four-requires
+    last-asked-requires
     returns
+    skip-down-requires-2
     loop-less
     loop-again
-    last-of-few-requires
+    last-asked-requires-2
     returns-2)

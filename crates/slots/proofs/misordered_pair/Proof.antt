@@ -1,25 +1,29 @@
 -- `slots::misordered_pair` meets its contract.
--- The cheap tests first; two rules of different ids only where they hold.
+-- Priorities first, then whether two rules overlap.
+use mathlib.Core.Path.{sym, ap₂, _∙_}
+use lib.Dec.{leb}
+use borrow.Author.Tests.{le-leb, lt-leb}
+use Rattle.records.specs.Order.{misordered-asked, misordered-higher}
 use borrow.Author.Needs.{needs}
-use Rattle.search.specs.Search.{and-more, and-stop}
-use Rattle.records.specs.Order.{misordered}
 use Rattle.slots.proofs.misordered_pair.Statement.{statement}
 use Rattle.slots.proofs.misordered_pair.Tie as tie
 
-overlap-no-higher-requires : tie.Need-overlap-no-higher-requires
-overlap-no-higher-requires c κs = search needs
+slot-word-requires : tie.Need-slot-word-requires
+slot-word-requires c κs = search needs
 
-distinct-rules-requires : tie.Need-distinct-rules-requires
-distinct-rules-requires c κs = search needs
+slot-word-requires-2 : tie.Need-slot-word-requires-2
+slot-word-requires-2 c κs = search needs
+
+rules-overlap-requires : tie.Need-rules-overlap-requires
+rules-overlap-requires c κs = search needs
 
 returns : tie.Need-returns
-unfolding misordered
-returns c = and-more (c .before .before .overlap-no-higher .ensures) (c .before .if1 .taken) (c .distinct-rules .ensures)
+returns c = misordered-asked 2 _ _ (ap₂ leb (sym (c .before .before .before .slot-word .ensures)) (sym (c .before .before .slot-word2 .ensures)) ∙ le-leb _ _ (c .before .if1 .taken)) (c .rules-overlap .ensures)
 
 returns-2 : tie.Need-returns-2
-unfolding misordered
-returns-2 c = and-stop _ (c .before .overlap-no-higher .ensures) (c .if1 .left)
+returns-2 c = misordered-higher 2 _ _ (ap₂ leb (sym (c .before .before .slot-word .ensures)) (sym (c .before .slot-word2 .ensures)) ∙ lt-leb _ _ (c .if1 .left))
 
 pub misordered-pair-spec : {M : Type 1} → statement M
 misordered-pair-spec =
-    tie.close (tie.spec overlap-no-higher-requires distinct-rules-requires returns returns-2)
+    tie.close
+    (tie.spec slot-word-requires slot-word-requires-2 rules-overlap-requires returns returns-2)

@@ -1,47 +1,47 @@
 -- `slots::slot_sound` meets its contract.
--- The words read are the slot's, handed on as parts.
-use mathlib.Core.Path.{_∙_}
-use borrow.Author.Needs.{needs}
-use Rattle.ternary.specs.Pattern.{within}
+-- Id, priority and value in turn; the first that fails decides.
+use mathlib.Core.Path.{sym, ap, _∙_}
+use Prim.Native.Nat.{ℕ}
+use lib.Dec.{eqb, leb}
+use borrow.Author.Tests.{eq-eqb, ne-eqb, le-leb, lt-leb}
 use Rattle.records.specs.Record.{soundParts}
-use Rattle.search.specs.Search.{all}
+use borrow.Author.Needs.{needs}
 use Rattle.slots.proofs.slot_sound.Statement.{statement}
 use Rattle.slots.proofs.slot_sound.Tie as tie
+
+slot-id-requires : tie.Need-slot-id-requires
+slot-id-requires c κs = search needs
+
+returns : tie.Need-returns
+unfolding soundParts
+returns c = rw (ap (λ (id : ℕ). eqb id 0) (sym (c .before .slot-id .ensures)) ∙ eq-eqb _ 0 (c .if1 .taken))
 
 slot-word-requires : tie.Need-slot-word-requires
 slot-word-requires c κs = search needs
 
-slot-word-requires-2 : tie.Need-slot-word-requires-2
-slot-word-requires-2 c κs = search needs
+slot-within-requires : tie.Need-slot-within-requires
+slot-within-requires c κs = search needs
 
-slot-word-requires-3 : tie.Need-slot-word-requires-3
-slot-word-requires-3 c κs = search needs
+returns-2 : tie.Need-returns-2
+unfolding soundParts
+returns-2 c =
+    rw
+    (
+      ap (λ (id : ℕ). eqb id 0) (sym (c .before .before .before .before .slot-id .ensures)) ∙ ne-eqb _ 0 (c .before .before .before .if1 .left),
+      ap (λ (rank : ℕ). leb rank 65535) (sym (c .before .before .slot-word .ensures)) ∙ le-leb _ 65535 (c .before .if2 .taken),
+    )
+    (c .slot-within .ensures)
 
-slot-word-requires-4 : tie.Need-slot-word-requires-4
-slot-word-requires-4 c κs = search needs
-
-slot-word-requires-5 : tie.Need-slot-word-requires-5
-slot-word-requires-5 c κs = search needs
-
-slot-word-requires-6 : tie.Need-slot-word-requires-6
-slot-word-requires-6 c κs = search needs
-
-parts-sound-requires : tie.Need-parts-sound-requires
-parts-sound-requires c κs = search needs
-
-returns : tie.Need-returns
-unfolding soundParts within all
-returns c = c .parts-sound .ensures ∙ rw (c .before .slot-word6 .ensures, c .before .before .slot-word5 .ensures, c .before .before .before .slot-word4 .ensures, c .before .before .before .before .slot-word3 .ensures, c .before .before .before .before .before .slot-word2 .ensures, c .before .before .before .before .before .before .slot-word .ensures)
+returns-3 : tie.Need-returns-3
+unfolding soundParts
+returns-3 c =
+    rw
+    (
+      ap (λ (id : ℕ). eqb id 0) (sym (c .before .before .before .slot-id .ensures)) ∙ ne-eqb _ 0 (c .before .before .if1 .left),
+      ap (λ (rank : ℕ). leb rank 65535) (sym (c .before .slot-word .ensures)) ∙ lt-leb _ 65535 (c .if2 .left),
+    )
 
 pub slot-sound-spec : {M : Type 1} → statement M
 slot-sound-spec =
     tie.close
-    (tie.spec
-    slot-word-requires
-    slot-word-requires-2
-    slot-word-requires-3
-    slot-word-requires-4
-    slot-word-requires-5
-    slot-word-requires-6
-    parts-sound-requires
-    returns)
+    (tie.spec slot-id-requires returns slot-word-requires slot-within-requires returns-2 returns-3)

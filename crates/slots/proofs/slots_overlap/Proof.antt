@@ -1,25 +1,38 @@
 -- `slots::slots_overlap` meets its contract.
--- The low words are asked where the high ones overlap.
+-- The words at hand are the other slot's.
+use mathlib.Core.Path.{_∙_}
 use Rattle.ternary.specs.Pattern.{overlaps}
-use Rattle.search.specs.Search.{all, and-more, and-stop}
+use Rattle.search.specs.Search.{all}
 use borrow.Author.Needs.{needs}
 use Rattle.slots.proofs.slots_overlap.Statement.{statement}
 use Rattle.slots.proofs.slots_overlap.Tie as tie
 
-word-overlaps-requires : tie.Need-word-overlaps-requires
-word-overlaps-requires c κs = search needs
+slot-word-requires : tie.Need-slot-word-requires
+slot-word-requires c κs = search needs
 
-word-overlaps-requires-2 : tie.Need-word-overlaps-requires-2
-word-overlaps-requires-2 c κs = search needs
+slot-word-requires-2 : tie.Need-slot-word-requires-2
+slot-word-requires-2 c κs = search needs
+
+slot-word-requires-3 : tie.Need-slot-word-requires-3
+slot-word-requires-3 c κs = search needs
+
+slot-word-requires-4 : tie.Need-slot-word-requires-4
+slot-word-requires-4 c κs = search needs
+
+pattern-overlaps-requires : tie.Need-pattern-overlaps-requires
+pattern-overlaps-requires c κs = search needs
 
 returns : tie.Need-returns
 unfolding overlaps all
-returns c = and-more (c .before .before .word-overlaps .ensures) (c .before .if1 .taken) (c .word-overlaps2 .ensures)
-
-returns-2 : tie.Need-returns-2
-unfolding overlaps all
-returns-2 c = and-stop _ (c .before .word-overlaps .ensures) (c .if1 .left)
+returns c = c .pattern-overlaps .ensures ∙ rw (c .before .slot-word4 .ensures, c .before .before .slot-word3 .ensures, c .before .before .before .slot-word2 .ensures, c .before .before .before .before .slot-word .ensures)
 
 pub slots-overlap-spec : {M : Type 1} → statement M
 slots-overlap-spec =
-    tie.close (tie.spec word-overlaps-requires word-overlaps-requires-2 returns returns-2)
+    tie.close
+    (tie.spec
+    slot-word-requires
+    slot-word-requires-2
+    slot-word-requires-3
+    slot-word-requires-4
+    pattern-overlaps-requires
+    returns)

@@ -1,13 +1,13 @@
--- `scans::first_of_few` meets its contract.
+-- `scans::first_asked` meets its contract.
 -- No slot from the first one up to the loop's is out of order with the slot.
 use Prim.Native.Nat.{_-_}
 use mathlib.Core.Path.{sym, _∙_}
 use native.Mathlib.Omega.{arith}
 use Rattle.search.specs.Search.{NoneFrom, none-from-start, none-from-more}
-use Rattle.search.specs.Fours.{least-here, least-open}
+use Rattle.search.specs.Parts.{least-here, least-open}
 use Rattle.scans.specs.Scans.{notBefore}
-use Rattle.scans.proofs.first_of_few.Statement.{statement}
-use Rattle.scans.proofs.first_of_few.Tie as tie
+use Rattle.scans.proofs.first_asked.Statement.{statement}
+use Rattle.scans.proofs.first_asked.Tie as tie
 
 abbrev Inv-loop : tie.InvT-loop
 Inv-loop table slot from to at₀ at = NoneFrom (notBefore 2 table slot) from to at
@@ -36,8 +36,8 @@ loop-again c = none-from-more _ _ _ _ (c .before .before .before .loop .inv) (om
 returns-2 : tie.Need-returns-2 Inv-loop μ-loop
 returns-2 c = sym (least-open _ _ _ _ (c .before .loop .inv) (omega arith))
 
-pub first-of-few-spec : {M : Type 1} → statement M
-first-of-few-spec =
+pub first-asked-spec : {M : Type 1} → statement M
+first-asked-spec =
     tie.close
     (tie.spec
     Inv-loop
