@@ -1,5 +1,5 @@
 // The script program against the reference: seeded scripts on its standard input, its output compared byte for byte.
-// Use: scripts [--scripts N] [--seed S] -- PROGRAM [ARGUMENT ..]; without a program the reference itself reads standard input.
+// Use: script_differential [--scripts N] [--seed S] -- PROGRAM [ARGUMENT ..]; without `--` it is the reference as a program.
 
 mod make;
 
@@ -31,7 +31,10 @@ fn main() {
         lines += script.split(|&byte| byte == b'\n').count();
         count_refusals(&expected, &mut refusals);
     }
-    println!("scripts: {scripts} scripts of {lines} lines in all, seed {seed}; refusals by number: {:?}", &refusals[1..]);
+    println!(
+        "script differential: {scripts} scripts of {lines} lines in all, seed {seed}; refusals by number: {:?}",
+        &refusals[1..]
+    );
     let reached = [1, 5, 6, 7, 8, 9, 10, 13].iter().all(|&number| refusals[number] > 0);
     assert!(reached || scripts < 100, "a refusal that a script can meet was never met");
 }
@@ -67,7 +70,7 @@ fn output_of(program: &[String], script: &[u8]) -> Vec<u8> {
 
 /// The script with as few lines and bytes as still give another output.
 fn report(program: &[String], number: u64, script: Vec<u8>) {
-    println!("scripts: MISMATCH at script {number}");
+    println!("script differential: MISMATCH at script {number}");
     let fails = |smaller: &[u8]| output_of(program, smaller) != run_script(smaller);
     let mut script = script;
     for part in [Part::Line, Part::Byte] {
