@@ -24,7 +24,7 @@ fn main() {
     for number in 0..scripts {
         let script = make::script(&mut Random::new(seed, number));
         let expected = run_script(&script);
-        if output_of(program, &script) != expected {
+        if answer_of(program, &script) != Some(expected.clone()) {
             report(program, number, script);
             std::process::exit(1);
         }
@@ -53,7 +53,8 @@ fn count_refusals(output: &[u8], refusals: &mut [u64; 15]) {
     }
 }
 
-fn output_of(program: &[String], script: &[u8]) -> Vec<u8> {
+/// What the program prints; nothing if it ends with another status than 0.
+fn answer_of(program: &[String], script: &[u8]) -> Option<Vec<u8>> {
     let mut child = Command::new(&program[0])
         .args(&program[1..])
         .stdin(Stdio::piped())
@@ -63,15 +64,15 @@ fn output_of(program: &[String], script: &[u8]) -> Vec<u8> {
     let mut input = child.stdin.take().unwrap();
     let script = script.to_vec();
     let writer = std::thread::spawn(move || drop(input.write_all(&script)));
-    let output = child.wait_with_output().expect("the program ends").stdout;
+    let answer = child.wait_with_output().expect("the program ends");
     writer.join().unwrap();
-    output
+    answer.status.success().then_some(answer.stdout)
 }
 
 /// The script with as few lines and bytes as still give another output.
 fn report(program: &[String], number: u64, script: Vec<u8>) {
     println!("script differential: MISMATCH at script {number}");
-    let fails = |smaller: &[u8]| output_of(program, smaller) != run_script(smaller);
+    let fails = |smaller: &[u8]| answer_of(program, smaller) != Some(run_script(smaller));
     let mut script = script;
     for part in [Part::Line, Part::Byte] {
         let mut place = 0;
@@ -84,7 +85,10 @@ fn report(program: &[String], number: u64, script: Vec<u8>) {
         }
     }
     println!("the smallest script found: {:?}", String::from_utf8_lossy(&script));
-    println!("  program:   {:?}", String::from_utf8_lossy(&output_of(program, &script)));
+    match answer_of(program, &script) {
+        Some(output) => println!("  program:   {:?}", String::from_utf8_lossy(&output)),
+        None => println!("  program:   ends with another status than 0"),
+    }
     println!("  reference: {:?}", String::from_utf8_lossy(&run_script(&script)));
 }
 
