@@ -36,8 +36,8 @@ pub fn make_rules(set: RuleSet, count: usize, random: &mut Random) -> Vec<Rule> 
     let mut patterns: Vec<Pattern> = Vec::new();
     while patterns.len() < count {
         let pattern = match set {
-            RuleSet::AccessList => access_list_pattern(random),
-            RuleSet::Firewall => firewall_pattern(random),
+            RuleSet::AccessList => list_pattern(random, &ACCESS_LIST),
+            RuleSet::Firewall => list_pattern(random, &FIREWALL),
             RuleSet::Routes => route_pattern(random, &patterns),
         };
         if seen.insert(pattern) {
@@ -106,8 +106,8 @@ fn choose(random: &mut Random, shares: &[(usize, u32)]) -> u32 {
 
 const PORTS: [u128; 16] = [20, 21, 22, 23, 25, 53, 80, 110, 123, 143, 161, 443, 993, 1433, 3306, 8080];
 
-/// A port: one of the well-known ones, a range of a power of two, or any.
-fn port(random: &mut Random, start: u32, exact: usize, range: usize) -> Pattern {
+/// A port: one of the well-known ones, a range of a power of two, or any, by the shares of the first two.
+fn port(random: &mut Random, start: u32, (exact, range): (usize, usize)) -> Pattern {
     let kind = random.below(100);
     if kind < exact {
         leading(random.pick(&PORTS), start, 16, 16)
@@ -126,27 +126,41 @@ fn protocol(random: &mut Random, any: usize) -> Pattern {
     }
 }
 
-fn access_list_pattern(random: &mut Random) -> Pattern {
-    let source = choose(random, &[(35, 0), (5, 8), (10, 16), (30, 24), (20, 32)]);
-    let destination = choose(random, &[(5, 0), (10, 16), (35, 24), (50, 32)]);
-    join(&[
-        leading(address(random), 0, 32, source),
-        leading(address(random), 32, 32, destination),
-        port(random, 64, 2, 3),
-        port(random, 80, 55, 15),
-        protocol(random, 15),
-    ])
+/// How the fields of a list's rules are spread, in hundredths: prefix lengths of both addresses, exact ports and ranges of
+/// both ports, and how often the protocol is any.
+struct Spread {
+    source: &'static [(usize, u32)],
+    destination: &'static [(usize, u32)],
+    source_port: (usize, usize),
+    destination_port: (usize, usize),
+    any_protocol: usize,
 }
 
-fn firewall_pattern(random: &mut Random) -> Pattern {
-    let source = choose(random, &[(50, 0), (15, 8), (15, 16), (15, 24), (5, 32)]);
-    let destination = choose(random, &[(30, 0), (10, 8), (20, 16), (25, 24), (15, 32)]);
+const ACCESS_LIST: Spread = Spread {
+    source: &[(35, 0), (5, 8), (10, 16), (30, 24), (20, 32)],
+    destination: &[(5, 0), (10, 16), (35, 24), (50, 32)],
+    source_port: (2, 3),
+    destination_port: (55, 15),
+    any_protocol: 15,
+};
+
+const FIREWALL: Spread = Spread {
+    source: &[(50, 0), (15, 8), (15, 16), (15, 24), (5, 32)],
+    destination: &[(30, 0), (10, 8), (20, 16), (25, 24), (15, 32)],
+    source_port: (5, 15),
+    destination_port: (35, 30),
+    any_protocol: 25,
+};
+
+fn list_pattern(random: &mut Random, spread: &Spread) -> Pattern {
+    let source = choose(random, spread.source);
+    let destination = choose(random, spread.destination);
     join(&[
         leading(address(random), 0, 32, source),
         leading(address(random), 32, 32, destination),
-        port(random, 64, 5, 15),
-        port(random, 80, 35, 30),
-        protocol(random, 25),
+        port(random, 64, spread.source_port),
+        port(random, 80, spread.destination_port),
+        protocol(random, spread.any_protocol),
     ])
 }
 

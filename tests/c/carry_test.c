@@ -8,9 +8,6 @@
 #define _DEFAULT_SOURCE /* for mmap without a file */
 #include "testing.h"
 
-#define COPY(from, to) ((uint32_t)(from) * 65536u + (uint32_t)(to))
-#define PUT(to) COPY(65535u, to)
-#define EMPTYING(to) COPY(65534u, to)
 #define REFUSED(number, spot) ((uint64_t)(spot) * 4294967296u + (number))
 
 /* ---- What is lent: a table, a plan, a rule as numbers and a progress record ---- */
@@ -22,6 +19,7 @@ static size_t words;
 static uint32_t plan[MOST_ROOM];
 static uint32_t room;
 static struct rule rule;
+static uint64_t rule_record[TCAM_SLOT_WORDS]; /* what six_slots()'s rule is in a slot */
 static tcam_progress progress;
 
 /* A rule whose action tells its id. */
@@ -72,12 +70,10 @@ static int ref_fits(uint32_t slots, uint32_t from, uint32_t to)
 /* One step on what is lent. */
 static uint64_t ref_step(void)
 {
-    uint32_t slots = (uint32_t)(words / 6), done = progress.done, total = progress.total;
-    if (words % 6 != 0 || words < 6 || words > 6144)
-        return REFUSED(1, 0);
-    for (uint32_t slot = 0; slot < slots; slot++)
-        if (!is_empty(table + SLOTS(slot)) && !is_sound(table + SLOTS(slot)))
-            return REFUSED(2, slot);
+    uint32_t done = progress.done, total = progress.total, spot;
+    uint32_t number = table_fault(table, words, 2, &spot);
+    if (number != 0)
+        return REFUSED(number, spot);
     if (done > total || total > room)
         return REFUSED(12, done);
     if (done == total)
@@ -89,7 +85,7 @@ static uint64_t ref_step(void)
         if (!is_sound(record))
             return REFUSED(5, 0);
     }
-    if (!ref_fits(slots, from, to))
+    if (!ref_fits(slots_of(words), from, to))
         return REFUSED(12, done);
     if (from < 65534)
         memcpy(record, table + SLOTS(from), sizeof record);
@@ -176,6 +172,7 @@ static void six_slots(void)
     hold(3, 3, 30, "0");
     hold(4, 2, 40, "1");
     rule = made_rule(9, 45, "10");
+    set_record(rule_record, &rule);
 }
 
 /* A plan of this one write is next, with some writes done before it and one behind it. */
@@ -310,15 +307,13 @@ static void unsound_rules(void)
     writes(2, record);
 }
 
-/* Each way in which a write does not fit, and the writes beside it that do. */
-static void unfit_writes(void)
+/* Writes from slots or to slots that do not exist. */
+static void absent_slots(void)
 {
     static const uint32_t absent[] = {6, 7, 1023, 1024, 1025, 6144, 32768, 65532, 65533};
-    uint64_t record[TCAM_SLOT_WORDS];
     HERE;
     six_slots();
-    set_record(record, &rule);
-    for (int index = 0; index < 9; index++) {
+    for (size_t index = 0; index < COUNT_OF(absent); index++) {
         unfit(COPY(absent[index], 2));
         unfit(COPY(absent[index], absent[index]));
         unfit(COPY(0, absent[index]));
@@ -330,7 +325,13 @@ static void unfit_writes(void)
         unfit(PUT(to));
         unfit(EMPTYING(to));
     }
+}
+
+/* A copy onto itself, from an empty slot, onto the only copy of a rule; a put-in there; an emptying of an empty slot. */
+static void unfit_writes(void)
+{
     HERE;
+    six_slots();
     for (uint32_t slot = 0; slot < 6; slot++)
         unfit(COPY(slot, slot));
     HERE;
@@ -346,8 +347,13 @@ static void unfit_writes(void)
     unfit(PUT(3));
     unfit(EMPTYING(2));
     unfit(EMPTYING(5));
+}
 
+/* A rule that has another copy may be written over; then the other copy may not. */
+static void other_copies(void)
+{
     HERE;
+    six_slots();
     next_write(COPY(3, 5), 1);
     writes(5, table + SLOTS(3));
     next_write(COPY(0, 3), 1); /* rule 3 has another copy now */
@@ -357,7 +363,7 @@ static void unfit_writes(void)
     HERE;
     six_slots();
     next_write(PUT(1), 1); /* rule 2 has another copy */
-    writes(1, record);
+    writes(1, rule_record);
     unfit(PUT(4));
     unfit(COPY(0, 4));
     HERE;
@@ -367,13 +373,18 @@ static void unfit_writes(void)
     next_write(EMPTYING(0), 1); /* the only copy */
     writes(0, no_words);
     unfit(EMPTYING(0));
+}
 
-    HERE; /* one slot */
+/* The same in a table of one slot. */
+static void one_slot(void)
+{
+    HERE;
+    six_slots();
     empty_table(1);
     unfit(COPY(0, 0));
     unfit(EMPTYING(0));
     next_write(PUT(0), 0);
-    writes(0, record);
+    writes(0, rule_record);
     unfit(PUT(0));
     next_write(EMPTYING(0), 0);
     writes(0, no_words);
@@ -558,7 +569,7 @@ static void random_plans(void)
 {
     unsigned long inserted = 0, deleted = 0, writes_of[4] = {0, 0, 0, 0};
     case_line = 0;
-    made_how = "planned";
+    made_how = "planned table";
     for (turn = 0; turn < 60; turn++) {
         empty_table(2 + below(12));
         held_count = 0;
@@ -595,7 +606,7 @@ static void random_calls(unsigned long most)
 {
     unsigned long seen[15] = {0}, wrote[3] = {0, 0, 0}, finished = 0;
     case_line = 0;
-    made_how = "random";
+    made_how = "random table";
     for (turn = 0; turn < most; turn++) {
         uint32_t slots = 1 + below(5);
         empty_table(slots);
@@ -646,25 +657,13 @@ static void halves(void)
 
 int main(int count, char **arguments)
 {
-    unsigned long most = 100000;
-    if (count > 1)
-        seed = strtoull(arguments[1], NULL, 0);
-    if (count > 2)
-        most = strtoul(arguments[2], NULL, 0);
-
-    open_pages(&table_pages, (SLOTS(MOST_SLOTS) + GUARDS) * sizeof(uint64_t));
+    static void (*const cases[])(void) = {
+        halves, shapes, records, records_of_progress, unsound_rules, absent_slots, unfit_writes, other_copies, one_slot,
+        five_slots, plans_in_the_middle, long_plan, random_plans,
+    };
+    unsigned long most = begin(count, arguments, 100000);
     open_pages(&plan_pages, (MOST_ROOM + PLAN_GUARDS) * sizeof(uint32_t));
-    random_state = seed;
-    halves();
-    shapes();
-    records();
-    records_of_progress();
-    unsound_rules();
-    unfit_writes();
-    five_slots();
-    plans_in_the_middle();
-    long_plan();
-    random_plans();
+    run_cases(cases, COUNT_OF(cases));
     random_calls(most);
 
     return verdict("carry_test");

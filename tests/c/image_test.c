@@ -21,54 +21,12 @@ struct told {
 #define LOADED ((struct told){TCAM_OK, 0, 0})
 #define REFUSED(number, spot) ((struct told){(number), (spot), 0})
 
-/* One of the 128 bits of two words, the highest bit of the first word being bit 0. */
-static int bit_of(const uint64_t *two, int index)
-{
-    return (int)(two[index / 64] >> (63 - index % 64) & 1);
-}
-
-static int ref_value_sound(const uint64_t *record)
-{
-    for (int index = 0; index < 128; index++)
-        if (bit_of(record + 2, index) == 0 && bit_of(record, index) == 1)
-            return 0;
-    return 1;
-}
-
-/* Checks 3 and 4. */
-static struct told ref_pairs(const uint64_t *table, uint32_t slots)
-{
-    for (uint32_t slot = 1; slot < slots; slot++)
-        for (uint32_t earlier = 0; earlier < slot; earlier++) {
-            const uint64_t *a = table + 6 * earlier, *b = table + 6 * slot;
-            if (!is_empty(a) && !is_empty(b) && a[4] / 4294967296u == b[4] / 4294967296u)
-                return REFUSED(3, slot);
-        }
-    for (uint32_t slot = 1; slot < slots; slot++)
-        for (uint32_t earlier = 0; earlier < slot; earlier++) {
-            const uint64_t *a = table + 6 * earlier, *b = table + 6 * slot;
-            if (!is_empty(a) && !is_empty(b) && a[5] <= b[5] && overlap(a, b))
-                return REFUSED(4, slot);
-        }
-    return LOADED;
-}
-
-/* The number of slots; 0 where the words are not 6 times 1 to 1,024. */
-static uint32_t ref_slots(size_t words)
-{
-    return words % 6 == 0 && words / 6 >= 1 && words / 6 <= 1024 ? (uint32_t)(words / 6) : 0;
-}
-
 /* Checks 1 to 4. */
 static struct told ref_checks(const uint64_t *table, size_t words)
 {
-    uint32_t slots = ref_slots(words);
-    if (slots == 0)
-        return REFUSED(1, 0);
-    for (uint32_t slot = 0; slot < slots; slot++)
-        if (!is_empty(table + 6 * slot) && !is_sound(table + 6 * slot))
-            return REFUSED(2, slot);
-    return ref_pairs(table, slots);
+    struct told told = LOADED;
+    told.number = table_fault(table, words, 4, &told.spot);
+    return told;
 }
 
 static uint8_t *ref_put(uint8_t *at, int bytes, uint64_t number)
@@ -114,14 +72,14 @@ static struct told ref_save(const uint64_t *table, size_t words, size_t room, ui
     struct told answer = ref_checks(table, words);
     if (answer.number != 0)
         return answer;
-    uint32_t bytes = ref_image(table, ref_slots(words), image);
+    uint32_t bytes = ref_image(table, slots_of(words), image);
     return room < bytes ? REFUSED(11, bytes) : SAVED(bytes);
 }
 
 /* Loads into `table`, which is all zero: what it holds counts where the answer is 0. */
 static struct told ref_load(const uint8_t *image, size_t bytes, uint64_t *table, size_t words)
 {
-    uint32_t slots = ref_slots(words), next = 0;
+    uint32_t slots = slots_of(words), next = 0;
     if (slots == 0)
         return REFUSED(1, 0);
     if (bytes < 4 || ref_get(image, 2) != slots)
@@ -146,10 +104,10 @@ static struct told ref_load(const uint8_t *image, size_t bytes, uint64_t *table,
             record[word] = ref_get(image + at + 8 * word, 8);
         record[4] = ref_get(image + 4 + 10 * rule, 4) * 4294967296u + ref_get(image + at + 36, 4);
         record[5] = ref_get(image + at + 32, 4);
-        if (record[5] > 65535 || !ref_value_sound(record))
+        if (!is_sound(record))
             return REFUSED(14, at);
     }
-    return ref_pairs(table, slots);
+    return ref_checks(table, words);
 }
 
 /* ---- Lent images and cells ---- */
@@ -188,20 +146,6 @@ static void check_marks(const uint8_t *image, size_t bytes, size_t lent)
 
 enum { BYTES = 1, SPOT = 3, CELLS = 5 };
 
-static void mark_cells(uint32_t *cell, uint32_t *before)
-{
-    static uint32_t mark = 0xA5A5A5A5u;
-    for (int index = 0; index < CELLS; index++) {
-        mark = mark * 1664525u + 1013904223u;
-        cell[index] = before[index] = mark | 0x40000000u;
-    }
-}
-
-static void check_cell_guards(const uint32_t *cell, const uint32_t *before)
-{
-    CHECK(cell[0] == before[0] && cell[2] == before[2] && cell[4] == before[4]);
-}
-
 /* ---- One call, with all that it promises ---- */
 
 static uint8_t wanted[MOST_BYTES + 4 * 50];
@@ -215,14 +159,14 @@ static void call_save(const uint64_t *table, size_t words, size_t room, unsigned
     uint32_t cell[CELLS], before[CELLS];
     struct lent lent = lend(table, words, (int)(shift % 2));
     uint8_t *image = lend_image(room, shift);
-    mark_cells(cell, before);
+    mark_cells(cell, before, CELLS);
     protect_table(0);
     protect_pages(&image_pages, want.number == TCAM_OK);
     uint32_t number = tcam_save(lent.table, words, image, room, &cell[BYTES], &cell[SPOT]);
     protect_pages(&image_pages, 1);
     protect_table(1);
     CHECK(number == want.number);
-    check_cell_guards(cell, before);
+    check_cell_guards(cell, before, CELLS);
     check_lent(&lent);
     if (want.number == TCAM_OK) {
         CHECK(cell[BYTES] == want.bytes);
@@ -250,7 +194,7 @@ static void call_load(const uint8_t *bytes, size_t count, const uint64_t *stood,
     struct lent lent = lend(stood, words, (int)(shift % 2));
     uint8_t *image = lend_image(count, shift);
     memcpy(image, bytes, count);
-    mark_cells(cell, before);
+    mark_cells(cell, before, CELLS);
     protect_pages(&image_pages, 0);
     protect_table(want.number == TCAM_OK);
     uint32_t number = tcam_load(image, count, lent.table, words, &cell[SPOT]);
@@ -258,7 +202,7 @@ static void call_load(const uint8_t *bytes, size_t count, const uint64_t *stood,
     protect_pages(&image_pages, 1);
     CHECK(number == want.number);
     CHECK(cell[BYTES] == before[BYTES]);
-    check_cell_guards(cell, before);
+    check_cell_guards(cell, before, CELLS);
     CHECK(memcmp(image, bytes, count) == 0);
     check_marks(image, count, count);
     CHECK(cell[SPOT] == (want.number == TCAM_OK ? before[SPOT] : want.spot));
@@ -282,7 +226,7 @@ static void save_case(int line, const uint64_t *table, size_t words, size_t room
 {
     case_line = line;
     if (want.number == TCAM_OK)
-        ref_image(table, ref_slots(words), wanted);
+        ref_image(table, slots_of(words), wanted);
     for (unsigned shift = 0; shift < 3; shift++)
         call_save(table, words, room, shift, want);
 }
@@ -313,12 +257,11 @@ static const uint64_t twice_and_disordered[SLOTS(3)] = {
     0, 0, 0, 0, TCAM_ID_ACTION(5, 1), 5,
 };
 
-static void save_cases(void)
-{
-    static const uint64_t empty[SLOTS(TCAM_MAX_SLOTS + 1)];
-    static const uint8_t empty_image[] = {0x00, 0x01, 0x00, 0x00}, widest_image[] = {0x04, 0x00, 0x00, 0x00};
-    uint64_t table[SLOTS(3)];
+static const uint64_t empty[SLOTS(TCAM_MAX_SLOTS + 1)];
 
+static void save_images(void)
+{
+    static const uint8_t empty_image[] = {0x00, 0x01, 0x00, 0x00}, widest_image[] = {0x04, 0x00, 0x00, 0x00};
     HERE;
     CHECK(ref_image(empty, 1, wanted) == 4 && memcmp(wanted, empty_image, 4) == 0);
     CHECK(ref_image(empty, 1024, wanted) == 4 && memcmp(wanted, widest_image, 4) == 0);
@@ -331,14 +274,27 @@ static void save_cases(void)
     SAVE_CASE(empty, SLOTS(1024), 4, SAVED(4));
     SAVE_CASE(three_slots, SLOTS(3), 104, SAVED(104));
     SAVE_CASE(three_slots, SLOTS(3), 105, SAVED(104));
+}
 
-    /* 1: no slot, part of a slot, 1,025 slots; a short buffer comes later */
+/* 1: no slot, part of a slot, 1,025 slots; a short buffer comes later. */
+static void save_lengths(void)
+{
     SAVE_CASE(three_slots, 0, 104, REFUSED(TCAM_SHAPE, 0));
     SAVE_CASE(three_slots, 5, 104, REFUSED(TCAM_SHAPE, 0));
     SAVE_CASE(three_slots, 17, 0, REFUSED(TCAM_SHAPE, 0));
     SAVE_CASE(empty, SLOTS(1025), 104, REFUSED(TCAM_SHAPE, 0));
 
-    /* 2: id 0, priority 65,536, a value bit outside the mask; the lowest slot */
+    /* 11: the bytes needed */
+    SAVE_CASE(three_slots, SLOTS(3), 103, REFUSED(TCAM_SHORT, 104));
+    SAVE_CASE(three_slots, SLOTS(3), 0, REFUSED(TCAM_SHORT, 104));
+    SAVE_CASE(empty, SLOTS(1), 3, REFUSED(TCAM_SHORT, 4));
+    SAVE_CASE(empty, SLOTS(1), 0, REFUSED(TCAM_SHORT, 4));
+}
+
+/* 2: id 0, priority 65,536, a value bit outside the mask; the lowest slot. */
+static void save_faults(void)
+{
+    uint64_t table[SLOTS(3)];
     memcpy(table, three_slots, sizeof table);
     table[16] = 9;
     SAVE_CASE(table, SLOTS(3), 104, REFUSED(TCAM_RECORD, 2));
@@ -362,12 +318,13 @@ static void save_cases(void)
     /* 3 before 4, which alone would tell slot 1 */
     SAVE_CASE(twice_and_disordered, SLOTS(3), 154, REFUSED(TCAM_TWICE, 2));
     SAVE_CASE(twice_and_disordered, SLOTS(3), 0, REFUSED(TCAM_TWICE, 2));
+}
 
-    /* 11: the bytes needed */
-    SAVE_CASE(three_slots, SLOTS(3), 103, REFUSED(TCAM_SHORT, 104));
-    SAVE_CASE(three_slots, SLOTS(3), 0, REFUSED(TCAM_SHORT, 104));
-    SAVE_CASE(empty, SLOTS(1), 3, REFUSED(TCAM_SHORT, 4));
-    SAVE_CASE(empty, SLOTS(1), 0, REFUSED(TCAM_SHORT, 4));
+static void save_cases(void)
+{
+    save_images();
+    save_lengths();
+    save_faults();
 }
 
 /* ---- Written cases: loading ---- */
@@ -386,116 +343,99 @@ static void load_case(int line, size_t bytes, size_t words, struct told want)
 }
 
 #define LOAD_CASE(bytes, words, want) load_case(__LINE__, (bytes), (words), (want))
+
+/* A byte of the image and what stands there in a case. */
+struct change {
+    uint8_t at, byte;
+};
+
+static void changed_case(int line, struct told want, const struct change *changes, size_t count)
+{
+    for (size_t index = 0; index < count; index++)
+        image[changes[index].at] = changes[index].byte;
+    load_case(line, sizeof three_slots_image, SLOTS(3), want);
+}
+
+#define CHANGED(want, ...) \
+    changed_case(__LINE__, want, (struct change[]){__VA_ARGS__}, sizeof((struct change[]){__VA_ARGS__}) / sizeof(struct change))
+#define AT(spot) REFUSED(TCAM_IMAGE, spot)
 #define BODY(k) (24 + 40 * (k))
 
-static void load_cases(void)
+/* SHAPE, whatever the image; then 14 at offsets 0 and 2: lengths, slots and the number of rules. */
+static void load_lengths(void)
 {
-    memcpy(image, three_slots_image, sizeof three_slots_image);
     LOAD_CASE(104, SLOTS(3), LOADED);
     CHECK(memcmp(scratch, three_slots, sizeof three_slots) == 0);
-
-    /* 1, whatever the image */
     LOAD_CASE(104, 0, REFUSED(TCAM_SHAPE, 0));
     LOAD_CASE(104, 17, REFUSED(TCAM_SHAPE, 0));
     LOAD_CASE(0, 19, REFUSED(TCAM_SHAPE, 0));
     LOAD_CASE(104, SLOTS(1025), REFUSED(TCAM_SHAPE, 0));
-
-    /* at 0: shorter than 4 bytes, other slots */
     for (size_t bytes = 0; bytes < 4; bytes++)
-        LOAD_CASE(bytes, SLOTS(3), REFUSED(TCAM_IMAGE, 0));
-    LOAD_CASE(104, SLOTS(2), REFUSED(TCAM_IMAGE, 0));
-    LOAD_CASE(104, SLOTS(4), REFUSED(TCAM_IMAGE, 0));
-    image[0] = 1;
-    LOAD_CASE(104, SLOTS(3), REFUSED(TCAM_IMAGE, 0));
-    image[1] = 0;
-    LOAD_CASE(104, SLOTS(3), REFUSED(TCAM_IMAGE, 0));
+        LOAD_CASE(bytes, SLOTS(3), AT(0));
+    LOAD_CASE(104, SLOTS(2), AT(0));
+    LOAD_CASE(104, SLOTS(4), AT(0));
+    CHANGED(AT(0), {0, 1});
+    CHANGED(AT(0), {1, 0});
+    CHANGED(AT(2), {3, 4});
+    CHANGED(AT(2), {2, 1});
+    CHANGED(AT(2), {2, 255}, {3, 255});
+    LOAD_CASE(103, SLOTS(3), AT(2));
+    LOAD_CASE(105, SLOTS(3), AT(2));
+    LOAD_CASE(4, SLOTS(3), AT(2));
+    CHANGED(AT(2), {3, 1});
+}
 
-    /* at 2: more rules than slots, another length */
-    image[3] = 4;
-    LOAD_CASE(104, SLOTS(3), REFUSED(TCAM_IMAGE, 2));
-    image[2] = 1;
-    LOAD_CASE(104, SLOTS(3), REFUSED(TCAM_IMAGE, 2));
-    image[2] = image[3] = 255;
-    LOAD_CASE(104, SLOTS(3), REFUSED(TCAM_IMAGE, 2));
-    LOAD_CASE(103, SLOTS(3), REFUSED(TCAM_IMAGE, 2));
-    LOAD_CASE(105, SLOTS(3), REFUSED(TCAM_IMAGE, 2));
-    LOAD_CASE(4, SLOTS(3), REFUSED(TCAM_IMAGE, 2));
-    image[3] = 1;
-    LOAD_CASE(104, SLOTS(3), REFUSED(TCAM_IMAGE, 2));
+/* Each field of each entry of the contents, the first wrong one: id, slot, offset. */
+static void load_contents(void)
+{
+    CHANGED(AT(4), {4, 0}, {5, 0}, {6, 0}, {7, 0});
+    CHANGED(AT(8), {9, 3}, {17, 0});
+    CHANGED(AT(8), {8, 1});
+    CHANGED(AT(10), {13, 0x19});
+    CHANGED(AT(10), {10, 1});
+    CHANGED(AT(14), {17, 0});
+    CHANGED(AT(18), {19, 3});
+    CHANGED(AT(18), {19, 0});
+    CHANGED(AT(18), {9, 2}, {19, 1});
+    CHANGED(AT(20), {23, 0x3F}, {BODY(0) + 33, 1});
+}
 
-    /* each field of each entry, the first wrong one */
-    memset(image + 4, 0, 4);
-    LOAD_CASE(104, SLOTS(3), REFUSED(TCAM_IMAGE, 4));
-    image[9] = 3;
-    image[17] = 0;
-    LOAD_CASE(104, SLOTS(3), REFUSED(TCAM_IMAGE, 8));
-    image[8] = 1;
-    LOAD_CASE(104, SLOTS(3), REFUSED(TCAM_IMAGE, 8));
-    image[13]++;
-    LOAD_CASE(104, SLOTS(3), REFUSED(TCAM_IMAGE, 10));
-    image[10] = 1;
-    LOAD_CASE(104, SLOTS(3), REFUSED(TCAM_IMAGE, 10));
-    image[17] = 0;
-    LOAD_CASE(104, SLOTS(3), REFUSED(TCAM_IMAGE, 14));
-    image[19] = 3;
-    LOAD_CASE(104, SLOTS(3), REFUSED(TCAM_IMAGE, 18));
-    image[19] = 0;
-    LOAD_CASE(104, SLOTS(3), REFUSED(TCAM_IMAGE, 18));
-    image[9] = 2;
-    image[19] = 1;
-    LOAD_CASE(104, SLOTS(3), REFUSED(TCAM_IMAGE, 18));
-    image[23]--;
-    image[BODY(0) + 33] = 1;
-    LOAD_CASE(104, SLOTS(3), REFUSED(TCAM_IMAGE, 20));
+/* Each body, at its start, for its value or its priority; then 3 and 4 of the table meant, where the spot is a slot. */
+static void load_bodies(void)
+{
+    CHANGED(AT(BODY(0)), {BODY(0), 0x8A}, {BODY(0) + 16, 0x7F});
+    CHANGED(AT(BODY(0)), {BODY(0) + 15, 4});
+    CHANGED(AT(BODY(0)), {BODY(0) + 33, 1}, {BODY(1) + 32, 1});
+    CHANGED(AT(BODY(1)), {BODY(1) + 32, 1});
+    CHANGED(AT(BODY(1)), {BODY(1), 1});
+    CHANGED(REFUSED(TCAM_ORDER, 2), {BODY(1) + 34, 255}, {BODY(1) + 35, 255}, {BODY(1) + 24, 0});
+    CHANGED(REFUSED(TCAM_TWICE, 2), {14, 1}, {15, 2}, {16, 3}, {17, 4});
+    CHANGED(REFUSED(TCAM_TWICE, 1), {14, 1}, {15, 2}, {16, 3}, {17, 4}, {19, 1}, {BODY(1) + 34, 2});
+    CHANGED(REFUSED(TCAM_ORDER, 2), {BODY(1) + 35, 0x2C});
+    CHANGED(REFUSED(TCAM_ORDER, 1), {19, 1}, {BODY(1) + 35, 0x2C});
+    CHANGED(LOADED, {19, 1});
+}
 
-    /* each body, at its start: value or priority */
-    image[BODY(0)] |= 0x80;
-    image[BODY(0) + 16] = 0x7F;
-    LOAD_CASE(104, SLOTS(3), REFUSED(TCAM_IMAGE, BODY(0)));
-    image[BODY(0) + 15] = 4;
-    LOAD_CASE(104, SLOTS(3), REFUSED(TCAM_IMAGE, BODY(0)));
-    image[BODY(0) + 33] = 1;
-    image[BODY(1) + 32] = 1;
-    LOAD_CASE(104, SLOTS(3), REFUSED(TCAM_IMAGE, BODY(0)));
-    image[BODY(1) + 32] = 1;
-    LOAD_CASE(104, SLOTS(3), REFUSED(TCAM_IMAGE, BODY(1)));
-    image[BODY(1)] = 1;
-    LOAD_CASE(104, SLOTS(3), REFUSED(TCAM_IMAGE, BODY(1)));
-    image[BODY(1) + 34] = image[BODY(1) + 35] = 255;
-    image[BODY(1) + 24] = 0;
-    LOAD_CASE(104, SLOTS(3), REFUSED(TCAM_ORDER, 2));
-
-    /* 3 and 4 of the table meant: spot is a slot */
-    memcpy(image + 14, image + 4, 4);
-    LOAD_CASE(104, SLOTS(3), REFUSED(TCAM_TWICE, 2));
-    memcpy(image + 14, image + 4, 4);
-    image[19] = 1;
-    image[BODY(1) + 34] = 2;
-    LOAD_CASE(104, SLOTS(3), REFUSED(TCAM_TWICE, 1));
-    image[BODY(1) + 35]++;
-    LOAD_CASE(104, SLOTS(3), REFUSED(TCAM_ORDER, 2));
-    image[19] = 1;
-    image[BODY(1) + 35]++;
-    LOAD_CASE(104, SLOTS(3), REFUSED(TCAM_ORDER, 1));
-    image[19] = 1;
-    LOAD_CASE(104, SLOTS(3), LOADED);
-
-    /* two faults, the first in the order of checks: slots and rules; id and slot; slot and offset; id and offset */
-    image[0] = image[2] = 1;
-    LOAD_CASE(104, SLOTS(3), REFUSED(TCAM_IMAGE, 0));
-    memset(image + 14, 0, 4);
-    image[19] = 0;
-    LOAD_CASE(104, SLOTS(3), REFUSED(TCAM_IMAGE, 14));
-    image[19] = 0;
-    image[23]--;
-    LOAD_CASE(104, SLOTS(3), REFUSED(TCAM_IMAGE, 18));
-    memset(image + 14, 0, 4);
-    image[23]--;
-    LOAD_CASE(104, SLOTS(3), REFUSED(TCAM_IMAGE, 14));
+/* Two faults, of which the first in the order of checks is told. */
+static void load_two_faults(void)
+{
+    CHANGED(AT(0), {0, 1}, {2, 1});                                  /* slots and rules */
+    CHANGED(AT(14), {14, 0}, {15, 0}, {16, 0}, {17, 0}, {19, 0});    /* id and slot */
+    CHANGED(AT(18), {19, 0}, {23, 0x3F});                            /* slot and offset */
+    CHANGED(AT(14), {14, 0}, {15, 0}, {16, 0}, {17, 0}, {23, 0x3F}); /* id and offset */
 
     /* 3 before 4, which alone would tell slot 1 */
     CHECK(ref_image(twice_and_disordered, 3, image) == 154);
     LOAD_CASE(154, SLOTS(3), REFUSED(TCAM_TWICE, 2));
+}
+
+static void load_cases(void)
+{
+    memcpy(image, three_slots_image, sizeof three_slots_image);
+    load_lengths();
+    load_contents();
+    load_bodies();
+    load_two_faults();
 }
 
 /* ---- Made tables ---- */
@@ -578,12 +518,9 @@ static void made_table(uint32_t slots, uint32_t rules, size_t step)
         damage(saved, told.bytes, words, step);
 }
 
-int main(int arguments, char **words)
+int main(int count, char **arguments)
 {
-    unsigned long tables = arguments > 2 ? strtoul(words[2], NULL, 10) : 40;
-    seed = arguments > 1 ? strtoull(words[1], NULL, 10) : seed;
-    random_state = seed;
-    open_pages(&table_pages, (SLOTS(MOST_SLOTS) + GUARDS) * sizeof(uint64_t));
+    unsigned long tables = begin(count, arguments, 40);
     open_pages(&image_pages, MOST_BYTES + 4 * MARGIN + 200);
     save_cases();
     load_cases();
@@ -592,7 +529,7 @@ int main(int arguments, char **words)
         uint32_t slots = 1 + below(turn % 4 == 0 ? 24 : 6);
         made_table(slots, below(slots + 1), 1);
     }
-    made_how = "large";
+    made_how = "large table";
     made_table(1024, 1024, 0);
     made_table(1024, 1, 5);
     made_table(1023, 40, 101);

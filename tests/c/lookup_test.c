@@ -24,31 +24,10 @@ static int bit_of(const uint64_t *two, int index)
     return (int)(two[index / 64] >> (63 - index % 64) & 1);
 }
 
-static int ref_empty(const uint64_t *record)
-{
-    for (int word = 0; word < 6; word++)
-        if (record[word] != 0)
-            return 0;
-    return 1;
-}
-
-static int ref_sound(const uint64_t *record)
-{
-    const uint64_t *value = record, *mask = record + 2;
-    if (record[4] / 4294967296u == 0)
-        return 0;
-    if (record[5] > 65535)
-        return 0;
-    for (int index = 0; index < 128; index++)
-        if (bit_of(mask, index) == 0 && bit_of(value, index) == 1)
-            return 0;
-    return 1;
-}
-
 static int ref_matches(const uint64_t *record, const uint64_t *key)
 {
     const uint64_t *value = record, *mask = record + 2;
-    if (ref_empty(record))
+    if (is_empty(record))
         return 0;
     for (int index = 0; index < 128; index++)
         if (bit_of(mask, index) == 1 && bit_of(key, index) != bit_of(value, index))
@@ -56,35 +35,13 @@ static int ref_matches(const uint64_t *record, const uint64_t *key)
     return 1;
 }
 
-/* The number of slots; 0 where the words are not 6 times 1 to 1,024. */
-static uint32_t ref_slots(size_t words)
-{
-    for (uint32_t slots = 1; slots <= 1024; slots++)
-        if (words == (size_t)6 * slots)
-            return slots;
-    return 0;
-}
-
-/* Checks 1 and 2. */
-static struct told ref_checks(const uint64_t *table, size_t words)
-{
-    uint32_t slots = ref_slots(words);
-    if (slots == 0)
-        return REFUSED(1, 0);
-    for (uint32_t slot = 0; slot < slots; slot++)
-        if (!ref_empty(table + 6 * slot) && !ref_sound(table + 6 * slot))
-            return REFUSED(2, slot);
-    return MISS;
-}
-
 static struct told ref_lookup(const uint64_t *table, size_t words, uint64_t key_high, uint64_t key_low)
 {
     uint64_t key[2] = {key_high, key_low};
-    struct told answer = ref_checks(table, words);
-    uint32_t slots = ref_slots(words);
-    if (answer.number != 0)
-        return answer;
-    for (uint32_t slot = 0; slot < slots; slot++) {
+    uint32_t spot, number = table_fault(table, words, 2, &spot);
+    if (number != 0)
+        return REFUSED(number, spot);
+    for (uint32_t slot = 0; slot < slots_of(words); slot++) {
         const uint64_t *record = table + 6 * slot;
         if (ref_matches(record, key))
             return HIT(slot, (uint32_t)(record[4] / 4294967296u), (uint32_t)(record[4] % 4294967296u));
@@ -95,39 +52,22 @@ static struct told ref_lookup(const uint64_t *table, size_t words, uint64_t key_
 /* Whether a slot's record is shown. */
 static int ref_shown(const uint64_t *table, size_t words, uint32_t slot)
 {
-    if (ref_checks(table, words).number != 0)
+    uint32_t spot;
+    if (table_fault(table, words, 2, &spot) != 0)
         return 0;
-    return slot < ref_slots(words) && !ref_empty(table + 6 * slot);
+    return slot < slots_of(words) && !is_empty(table + 6 * slot);
 }
 
 /* ---- Lent cells ---- */
 
-/* Lent cells, each between guard words, all filled beforehand with marks that change from call to call. */
 enum { SLOT = 1, ID = 3, ACTION = 5, SPOT = 7, FIRST = 9, CELLS = 11 };
-
-static void mark_cells(uint32_t *cell, uint32_t *before)
-{
-    static uint32_t mark = 0xA5A5A5A5u;
-    for (int index = 0; index < CELLS; index++) {
-        mark = mark * 1664525u + 1013904223u;
-        cell[index] = before[index] = mark | 0x40000000u;
-    }
-}
-
-static void check_cell_guards(const uint32_t *cell, const uint32_t *before)
-{
-    int guards_stay = 1;
-    for (int index = 0; index < CELLS; index += 2)
-        guards_stay &= cell[index] == before[index];
-    CHECK(guards_stay);
-}
 
 /* ---- One call, with all that it promises ---- */
 
 static void call_lookup(const uint64_t *table, size_t words, uint64_t key_high, uint64_t key_low, struct told want)
 {
     uint32_t cell[CELLS], before[CELLS];
-    mark_cells(cell, before);
+    mark_cells(cell, before, CELLS);
     uint32_t number = tcam_lookup(table, words, key_high, key_low, &cell[SLOT], &cell[ID], &cell[ACTION], &cell[SPOT]);
     CHECK(number == want.number);
     if (want.number == TCAM_OK) {
@@ -142,13 +82,13 @@ static void call_lookup(const uint64_t *table, size_t words, uint64_t key_high, 
         CHECK(cell[SPOT] == want.spot);
     }
     CHECK(cell[FIRST] == before[FIRST]);
-    check_cell_guards(cell, before);
+    check_cell_guards(cell, before, CELLS);
 }
 
 static void call_slot_record(const uint64_t *table, size_t words, uint32_t slot, int shown)
 {
     uint32_t cell[CELLS], before[CELLS];
-    mark_cells(cell, before);
+    mark_cells(cell, before, CELLS);
     uint32_t count = tcam_slot_record(table, words, slot, &cell[FIRST]);
     if (shown) {
         CHECK(count == TCAM_SLOT_WORDS);
@@ -161,7 +101,7 @@ static void call_slot_record(const uint64_t *table, size_t words, uint32_t slot,
     }
     for (int index = 0; index < FIRST; index++)
         CHECK(cell[index] == before[index]);
-    check_cell_guards(cell, before);
+    check_cell_guards(cell, before, CELLS);
 }
 
 /* A case: the table at both ends of the pages, which are read-only during the call. The reference must agree. */
@@ -281,7 +221,6 @@ static void constant_table(void)
 static void shapes(void)
 {
     static uint64_t long_table[3 * 65536 + 6]; /* its length ends in the 16 bits of a six */
-    uint32_t slot = 1, id = 2, action = 3, spot = 4, first = 5;
 
     clear();
     put(0, 0, 0, 0, 0, 11, 12, 13);
@@ -306,27 +245,32 @@ static void shapes(void)
     long_table[4] = TCAM_ID_ACTION(1, 1);
     call_lookup(long_table, 3 * 65536 + 6, 0, 0, REFUSED(TCAM_SHAPE, 0));
     call_slot_record(long_table, 3 * 65536 + 6, 0, 0);
+}
 
-    /* no table at all */
+/* No table at all. */
+static void no_table(void)
+{
+    uint32_t slot = 1, id = 2, action = 3, spot = 4, first = 5;
     HERE;
     CHECK(tcam_lookup(NULL, 0, 1, 2, &slot, &id, &action, &spot) == TCAM_SHAPE);
     CHECK(slot == 1 && id == 2 && action == 3 && spot == 0);
     CHECK(tcam_slot_record(NULL, 0, 0, &first) == 0);
     CHECK(first == 0);
     CHECK(tcam_slot_words(NULL, 0, 0) == NULL);
+}
 
-    /* check 1 comes before check 2 */
+/* Check 1 comes before check 2. */
+static void shape_before_record(void)
+{
     clear();
     table[0] = 1;
     LOOKUP(table, 7, 0, 0, REFUSED(TCAM_SHAPE, 0));
     LOOKUP(table, 6, 0, 0, REFUSED(TCAM_RECORD, 0));
 }
 
-static void records(void)
+/* Each word alone: only an id makes a rule, and that rule matches every key. */
+static void words_alone(void)
 {
-    static const uint64_t wrong_priority[] = {65536, 65537, 131072, 0x100000000u, 0x100000005u, TOP, ALL};
-
-    /* each word alone: only an id makes a rule, and that rule matches every key */
     for (int word = 0; word < TCAM_SLOT_WORDS; word++) {
         for (int bit = 0; bit < 64; bit++) {
             clear();
@@ -342,8 +286,12 @@ static void records(void)
             }
         }
     }
+}
 
-    /* id 0 in a rule that is otherwise sound */
+/* Id 0 in a rule that is otherwise sound. */
+static void ids_and_priorities(void)
+{
+    static const uint64_t wrong_priority[] = {65536, 65537, 131072, 0x100000000u, 0x100000005u, TOP, ALL};
     clear();
     put(0, 0, 5, 0, ALL, 0, 7, 9);
     LOOKUP(table, SLOTS(1), 0, 5, REFUSED(TCAM_RECORD, 0));
@@ -356,14 +304,17 @@ static void records(void)
     LOOKUP(table, SLOTS(1), 0, 5, HIT(0, 1, 7));
     put(0, 0, 5, 0, ALL, 1, 7, 65535);
     LOOKUP(table, SLOTS(1), 0, 5, HIT(0, 1, 7));
-    for (size_t index = 0; index < sizeof wrong_priority / sizeof *wrong_priority; index++) {
+    for (size_t index = 0; index < COUNT_OF(wrong_priority); index++) {
         put(0, 0, 5, 0, ALL, 1, 7, wrong_priority[index]);
         LOOKUP(table, SLOTS(1), 0, 5, REFUSED(TCAM_RECORD, 0));
         LOOKUP(table, SLOTS(1), 0, 6, REFUSED(TCAM_RECORD, 0));
         HIDDEN(table, SLOTS(1), 0);
     }
+}
 
-    /* a value bit outside the mask: each bit of the high and low words */
+/* A value bit outside the mask: each bit of the high and low words. */
+static void values_outside_masks(void)
+{
     for (int bit = 0; bit < 64; bit++) {
         uint64_t one = (uint64_t)1 << bit;
         clear();
@@ -380,8 +331,11 @@ static void records(void)
         put(0, 0, one, ALL, ~one, 3, 4, 5);
         LOOKUP(table, SLOTS(1), 0, 0, REFUSED(TCAM_RECORD, 0));
     }
+}
 
-    /* the lowest bad slot is named, and a match before it does not count */
+/* The lowest bad slot is named, and a match before it does not count. */
+static void lowest_bad_slot(void)
+{
     clear();
     put(0, 0, 0, 0, 0, 1, 1, 1);
     put(3, 0, 0, 0, 0, 2, 2, 65536);
@@ -418,8 +372,12 @@ static void matches(void)
         LOOKUP(table, SLOTS(1), 0x0123456789ABCDEFu ^ one, 0xFEDCBA9876543210u, MISS);
         LOOKUP(table, SLOTS(1), 0x0123456789ABCDEFu, 0xFEDCBA9876543210u ^ one, MISS);
     }
+}
 
-    /* one bit cared for, as 1 and as 0 */
+/* One bit cared for, as 1 and as 0. */
+static void one_bit(void)
+{
+    clear();
     for (int bit = 0; bit < 64; bit++) {
         uint64_t one = (uint64_t)1 << bit;
         put(0, one, 0, one, 0, 8, 9, 0);
@@ -435,8 +393,11 @@ static void matches(void)
         LOOKUP(table, SLOTS(1), ALL, one, MISS);
         LOOKUP(table, SLOTS(1), ALL, ~one, HIT(0, 8, 9));
     }
+}
 
-    /* an empty slot matches nothing, not even the key 0 */
+/* An empty slot matches nothing, not even the key 0. */
+static void empty_slots(void)
+{
     clear();
     LOOKUP(table, SLOTS(1), 0, 0, MISS);
     LOOKUP(table, SLOTS(1), ALL, ALL, MISS);
@@ -692,7 +653,6 @@ static void random_table(void)
 static void random_tables(unsigned long tables)
 {
     case_line = 0;
-    random_state = seed;
     for (turn = 0; turn < tables; turn++)
         random_table();
     if (tables < 10000)
@@ -712,21 +672,12 @@ static void random_tables(unsigned long tables)
 
 int main(int count, char **words)
 {
-    unsigned long tables = 202000;
-    if (count > 1)
-        seed = strtoull(words[1], NULL, 0);
-    if (count > 2)
-        tables = strtoul(words[2], NULL, 0);
-
-    open_pages(&table_pages, (SLOTS(MOST_SLOTS) + GUARDS) * sizeof(uint64_t));
-    names();
-    constant_table();
-    shapes();
-    records();
-    matches();
-    first_match();
-    full_table();
-    slot_records();
+    static void (*const cases[])(void) = {
+        names, constant_table, shapes, no_table, shape_before_record, words_alone, ids_and_priorities, values_outside_masks,
+        lowest_bad_slot, matches, one_bit, empty_slots, first_match, full_table, slot_records,
+    };
+    unsigned long tables = begin(count, words, 202000);
+    run_cases(cases, COUNT_OF(cases));
     random_tables(tables);
 
     return verdict("lookup_test");

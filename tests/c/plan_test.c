@@ -8,8 +8,6 @@
 #define _DEFAULT_SOURCE /* for mmap without a file */
 #include "testing.h"
 
-#define COUNT_OF(array) (sizeof(array) / sizeof *(array))
-
 static int matches(const uint64_t *record, const uint64_t *key)
 {
     return !is_empty(record) && (key[0] & record[2]) == record[0] && (key[1] & record[3]) == record[1];
@@ -23,22 +21,10 @@ struct told {
     uint32_t plan[TCAM_MAX_SLOTS];
 };
 
-#define COPY(from, to) ((uint32_t)(from) * 65536u + (uint32_t)(to))
-#define PUT(to) COPY(65535u, to)
-#define EMPTYING(to) COPY(65534u, to)
-
 /* What there was to choose in a plan, for the counts at the end. */
 static struct {
     int up, equal, choice_tie, hop_tie, on_dependant, around_dependant;
 } way;
-
-static uint32_t slots_of(size_t words)
-{
-    for (uint32_t slots = 1; slots <= 1024; slots++)
-        if (words == (size_t)6 * slots)
-            return slots;
-    return 0;
-}
 
 /* Whether the first of two rules precedes the second: they overlap and it has the higher priority. */
 static int precedes(const uint64_t *a, const uint64_t *b)
@@ -57,25 +43,8 @@ static uint32_t refuse(struct told *told, uint32_t number, uint32_t spot)
 /* Checks 1 to 4. */
 static uint32_t ref_table(const uint64_t *table, size_t words, struct told *told)
 {
-    uint32_t slots = slots_of(words);
-    if (slots == 0)
-        return refuse(told, 1, 0);
-    for (uint32_t slot = 0; slot < slots; slot++)
-        if (!is_empty(table + 6 * slot) && !is_sound(table + 6 * slot))
-            return refuse(told, 2, slot);
-    for (uint32_t slot = 0; slot < slots; slot++)
-        for (uint32_t earlier = 0; earlier < slot && !is_empty(table + 6 * slot); earlier++)
-            if (id_of(table + 6 * earlier) == id_of(table + 6 * slot))
-                return refuse(told, 3, slot);
-    for (uint32_t slot = 0; slot < slots; slot++) {
-        const uint64_t *rule = table + 6 * slot;
-        for (uint32_t earlier = 0; earlier < slot && !is_empty(rule); earlier++) {
-            const uint64_t *other = table + 6 * earlier;
-            if (other[5] <= rule[5] && !is_empty(other) && overlap(other, rule))
-                return refuse(told, 4, slot);
-        }
-    }
-    return refuse(told, 0, 0);
+    uint32_t spot, number = table_fault(table, words, 4, &spot);
+    return refuse(told, number, spot);
 }
 
 #define NEVER 1000000
@@ -259,15 +228,6 @@ static void ref_delete(const uint64_t *table, size_t words, uint32_t id, struct 
 
 static struct pages plan_pages;
 
-/* Marks that change from word to word and from call to call. None is a word of a plan. */
-static uint32_t mark = 0xA5A5A5A5u;
-
-static uint32_t next_mark(void)
-{
-    mark = mark * 1664525u + 1013904223u;
-    return mark | 0x40000000u;
-}
-
 /* The lent plan: its room in words, the marks that stood in it, and the guards at its open end. */
 static struct {
     uint32_t *words, *guards;
@@ -294,12 +254,6 @@ static struct {
     uint32_t now[CELLS], before[CELLS];
 } cells;
 
-static void mark_cells(void)
-{
-    for (int index = 0; index < CELLS; index++)
-        cells.now[index] = cells.before[index] = next_mark();
-}
-
 /* ---- One call, with all that it promises ---- */
 
 /* Everything after a call, against the answer wanted with a buffer of any length. */
@@ -323,17 +277,14 @@ static void check_left(const struct lent *lent, uint32_t number, const struct to
     CHECK(memcmp(plan.words, want->plan, written * sizeof *plan.words) == 0);
     CHECK(memcmp(plan.words + written, plan.before + written, (plan.room - written) * sizeof *plan.words) == 0);
     CHECK(memcmp(plan.guards, plan.guards_before, sizeof plan.guards_before) == 0);
-    int guards_stay = 1;
-    for (int index = 0; index < CELLS; index += 2)
-        guards_stay &= cells.now[index] == cells.before[index];
-    CHECK(guards_stay);
+    check_cell_guards(cells.now, cells.before, CELLS);
     check_lent(lent);
 }
 
 static uint32_t call_insert(const struct lent *lent, const struct rule *rule, uint32_t room, int at_end, const struct told *want)
 {
     lend_plan(room, at_end);
-    mark_cells();
+    mark_cells(cells.now, cells.before, CELLS);
     uint32_t number = tcam_plan_insert(lent->table, lent->words, rule->id, rule->priority, rule->value[0], rule->value[1],
                                        rule->mask[0], rule->mask[1], rule->action, plan.words, room, &cells.now[COUNT],
                                        &cells.now[SPOT]);
@@ -344,7 +295,7 @@ static uint32_t call_insert(const struct lent *lent, const struct rule *rule, ui
 static uint32_t call_delete(const struct lent *lent, uint32_t id, uint32_t room, int at_end, const struct told *want)
 {
     lend_plan(room, at_end);
-    mark_cells();
+    mark_cells(cells.now, cells.before, CELLS);
     uint32_t number = tcam_plan_delete(lent->table, lent->words, id, plan.words, room, &cells.now[COUNT], &cells.now[SPOT]);
     check_left(lent, number, want);
     return number;
@@ -620,6 +571,25 @@ static void put(uint32_t slot, struct rule rule)
     set_record(table + SLOTS(slot), &rule);
 }
 
+/* A rule and the slot that holds it. */
+struct placed {
+    uint32_t slot, id, priority;
+    const char *pattern;
+    uint32_t action;
+};
+
+/* The case's table: these rules, and no others. */
+static void hold(const struct placed *rules, size_t count)
+{
+    clear();
+    for (size_t index = 0; index < count; index++) {
+        const struct placed *rule = rules + index;
+        put(rule->slot, rule_of(rule->id, rule->priority, rule->pattern, rule->action));
+    }
+}
+
+#define HOLD(...) hold((struct placed[]){__VA_ARGS__}, sizeof((struct placed[]){__VA_ARGS__}) / sizeof(struct placed))
+
 static void check_ref(void)
 {
     CHECK(ref.number == want.number);
@@ -764,6 +734,12 @@ static void script(void)
     look_up(__LINE__, 6, 0x8000000000000000u, 0, 0, 0);               /* L 1000 */
 }
 
+/* 0 empty, 1 a, 2 b, and b depends on a. */
+static void between_two(void)
+{
+    HOLD({1, 20, 30, "111", 1}, {2, 21, 10, "1", 2});
+}
+
 /* The tables at the edge. */
 static void edge_tables(void)
 {
@@ -775,21 +751,19 @@ static void edge_tables(void)
     REFUSED(SLOTS(1), rule_of(2, 1, "1", 2), TCAM_FULL, 0);
 
     /* 0 a, 1 other, 2 c, 3 d, 4 empty; c depends on a, d on c; the new rule before a: around the nearest dependants */
-    clear();
-    put(0, rule_of(10, 30, "00**", 1));
-    put(1, rule_of(11, 5, "1***", 2));
-    put(2, rule_of(12, 20, "0*1*", 3));
-    put(3, rule_of(13, 10, "01**", 4));
+    HOLD({0, 10, 30, "00**", 1}, {1, 11, 5, "1***", 2}, {2, 12, 20, "0*1*", 3}, {3, 13, 10, "01**", 4});
     PLANNED(5, rule_of(14, 40, "000*", 5), COPY(1, 4), COPY(0, 1), PUT(0));
 
-    /* 0 empty, 1 a, 2 b, the new rule between: up, and down where slot 3 is empty too */
-    clear();
-    put(1, rule_of(20, 30, "111", 1));
-    put(2, rule_of(21, 10, "1", 2));
+    /* the new rule between two: up, and down where slot 3 is empty too */
+    between_two();
     PLANNED(3, rule_of(22, 20, "11", 3), COPY(1, 0), PUT(1));
     PLANNED(4, rule_of(22, 20, "11", 3), COPY(2, 3), PUT(2));
+}
 
-    /* a plan of two in a buffer of one word */
+/* A plan of two in a buffer of one word. */
+static void short_buffers(void)
+{
+    between_two();
     HERE;
     uint32_t two_words[2] = {77, 78}, count = 79, spot = 80;
     CHECK(tcam_plan_insert(table, SLOTS(3), 22, 20, 0xC000000000000000u, 0, 0xC000000000000000u, 0, 3, two_words, 1, &count,
@@ -810,8 +784,12 @@ static void edge_tables(void)
     spot = 80;
     CHECK(tcam_plan_delete(table, SLOTS(3), 21, two_words, 2, &count, &spot) == TCAM_OK);
     CHECK(two_words[0] == 0xFFFE0002u && two_words[1] == 78 && count == 1 && spot == 80);
+}
 
-    /* delete of an absent id, of id 0, of the last rule */
+/* Delete of an absent id, of id 0, of the last rule. */
+static void absent_ids(void)
+{
+    between_two();
     KEPT(SLOTS(4), 22, TCAM_UNKNOWN, 0);
     KEPT(SLOTS(4), 0, TCAM_RULE, 0);
     DELETED(4, 20, 1);
@@ -819,8 +797,11 @@ static void edge_tables(void)
     DELETED(4, 21, 2);
     KEPT(SLOTS(4), 21, TCAM_UNKNOWN, 0);
     KEPT(SLOTS(1), UINT32_MAX, TCAM_UNKNOWN, 0);
+}
 
-    /* priorities at their ends */
+/* Priorities at their ends. */
+static void priorities_at_ends(void)
+{
     clear();
     PLANNED(2, rule_of(1, 65535, "1", 1), PUT(0));
     PLANNED(2, rule_of(UINT32_MAX, 0, "1", UINT32_MAX), PUT(0));
@@ -834,11 +815,12 @@ static void edge_tables(void)
     PLANNED(3, rule_of(1, 1, "", 1), PUT(0));
     REFUSED(SLOTS(3), rule_of(1, 0, "", 1), TCAM_TIE, 1);
     PLANNED(3, rule_of(1, 0, "0", 1), PUT(0));
+}
 
-    /* mask 0 overlaps every rule */
-    clear();
-    put(0, rule_of(1, 30, "1", 1));
-    put(2, rule_of(2, 10, "0", 2));
+/* Mask 0 overlaps every rule. */
+static void mask_zero(void)
+{
+    HOLD({0, 1, 30, "1", 1}, {2, 2, 10, "0", 2});
     PLANNED(3, rule_of(3, 20, "", 3), PUT(1));
     PLANNED(3, rule_of(3, 40, "", 3), COPY(0, 1), PUT(0));
     PLANNED(3, rule_of(3, 5, "", 3), COPY(2, 1), PUT(2));
@@ -859,46 +841,37 @@ static void choices(void)
     PLANNED(5, rule_of(1, 1, "0", 1), PUT(0));
 
     /* the highest, up: of the slots that a displaced rule can go to, and of those that the new one can */
-    clear();
-    put(2, rule_of(2, 9, "1", 1));
-    put(3, rule_of(3, 5, "", 1));
+    HOLD({2, 2, 9, "1", 1}, {3, 3, 5, "", 1});
     PLANNED(4, rule_of(1, 7, "1", 1), COPY(2, 1), PUT(2));
-    clear();
-    put(1, rule_of(2, 9, "1", 1));
-    put(2, rule_of(3, 3, "0", 1));
-    put(3, rule_of(4, 3, "1", 1));
+    HOLD({1, 2, 9, "1", 1}, {2, 3, 3, "0", 1}, {3, 4, 3, "1", 1});
     PLANNED(4, rule_of(1, 6, "1", 1), COPY(2, 0), PUT(2));
 
     /* up, where down costs more; down, where up costs more */
-    clear();
-    put(1, rule_of(2, 50, "1", 1));
-    put(2, rule_of(3, 40, "1", 1));
-    put(3, rule_of(4, 30, "1", 1));
+    HOLD({1, 2, 50, "1", 1}, {2, 3, 40, "1", 1}, {3, 4, 30, "1", 1});
     PLANNED(5, rule_of(1, 45, "1", 1), COPY(1, 0), PUT(1));
     PLANNED(5, rule_of(1, 35, "1", 1), COPY(3, 4), PUT(3));
     PLANNED(6, rule_of(1, 45, "1", 1), COPY(1, 0), PUT(1));
+}
 
-    /* a displaced rule goes to the lowest empty slot, down, and no further than its nearest dependant */
-    clear();
-    put(0, rule_of(2, 20, "1", 1));
-    put(1, rule_of(3, 15, "0", 1));
+/* A displaced rule goes to the lowest empty slot, down, and no further than its nearest dependant. */
+static void displaced_rules(void)
+{
+    HOLD({0, 2, 20, "1", 1}, {1, 3, 15, "0", 1});
     PLANNED(4, rule_of(1, 30, "1", 1), COPY(0, 2), PUT(0));
     put(1, rule_of(3, 15, "11", 1));
     PLANNED(4, rule_of(1, 30, "1", 1), COPY(1, 2), COPY(0, 1), PUT(0));
     PLANNED(4, rule_of(1, 30, "10", 1), COPY(1, 2), COPY(0, 1), PUT(0));
 
     /* the dependant's own slot is used, after its rule has a copy further on */
-    clear();
-    put(0, rule_of(2, 20, "1", 1));
-    put(1, rule_of(3, 15, "1", 1));
+    HOLD({0, 2, 20, "1", 1}, {1, 3, 15, "1", 1});
     PLANNED(3, rule_of(1, 17, "1", 1), COPY(1, 2), PUT(1));
     PLANNED(3, rule_of(1, 12, "1", 1), PUT(2));
+}
 
-    /* priorities of rules that do not overlap count for nothing */
-    clear();
-    put(0, rule_of(2, 1, "00", 1));
-    put(1, rule_of(3, 60000, "01", 1));
-    put(2, rule_of(4, 5, "10", 1));
+/* Priorities of rules that do not overlap count for nothing. */
+static void rules_apart(void)
+{
+    HOLD({0, 2, 1, "00", 1}, {1, 3, 60000, "01", 1}, {2, 4, 5, "10", 1});
     PLANNED(5, rule_of(1, 30000, "11", 1), PUT(3));
     PLANNED(5, rule_of(1, 30000, "10", 1), COPY(0, 3), PUT(0));
     PLANNED(5, rule_of(1, 3, "1", 1), PUT(3));
@@ -915,26 +888,28 @@ static void choices(void)
     PLANNED(3, ((struct rule){1, 30, {0, 3}, {0, 3}, 1}), COPY(1, 2), COPY(0, 1), PUT(0));
 }
 
-/* Spots of refusals. */
-static void spots(void)
-{
-    struct rule fine = rule_of(99, 7, "0000", 1);
+#define FINE rule_of(99, 7, "0000", 1)
 
-    /* 1: lengths */
+/* Spots of refusals. 1: lengths. */
+static void wrong_lengths(void)
+{
     clear();
     for (size_t words = 0; words <= 40; words++) {
         if (words % 6 == 0 && words != 0)
             continue;
-        REFUSED(words, fine, TCAM_SHAPE, 0);
+        REFUSED(words, FINE, TCAM_SHAPE, 0);
         KEPT(words, 1, TCAM_SHAPE, 0);
     }
-    REFUSED(SLOTS(1025), fine, TCAM_SHAPE, 0);
-    REFUSED(SLOTS(1026), fine, TCAM_SHAPE, 0);
-    REFUSED(SLOTS(1024) + 1, fine, TCAM_SHAPE, 0);
-    REFUSED(SLOTS(1024) - 1, fine, TCAM_SHAPE, 0);
+    REFUSED(SLOTS(1025), FINE, TCAM_SHAPE, 0);
+    REFUSED(SLOTS(1026), FINE, TCAM_SHAPE, 0);
+    REFUSED(SLOTS(1024) + 1, FINE, TCAM_SHAPE, 0);
+    REFUSED(SLOTS(1024) - 1, FINE, TCAM_SHAPE, 0);
     KEPT(SLOTS(1025), 1, TCAM_SHAPE, 0);
+}
 
-    /* lengths of more than 16 bits: the one ends in those of a six, the other in those of a zero */
+/* Lengths of more than 16 bits: the one ends in those of a six, the other in those of a zero. */
+static void long_lengths(void)
+{
     static uint64_t long_table[3 * 65536 + 6];
     static uint32_t long_plan[65536];
     uint32_t count = 77, spot = 78;
@@ -951,57 +926,66 @@ static void spots(void)
     long_table[4] = TCAM_ID_ACTION(1, 1);
     CHECK(tcam_plan_delete(long_table, SLOTS(1), 1, long_plan, COUNT_OF(long_plan), &count, &spot) == TCAM_OK);
     CHECK(long_plan[0] == EMPTYING(0) && long_plan[1] == 0 && count == 1 && spot == 78);
+}
 
-    /* 2: the lowest record that is neither empty nor sound */
-    clear();
-    put(2, rule_of(1, 65536, "1", 1));
-    put(4, rule_of(2, 5, "1", 1));
+/* 2: the lowest record that is neither empty nor sound. */
+static void unsound_records(void)
+{
+    HOLD({2, 1, 65536, "1", 1}, {4, 2, 5, "1", 1});
     table[SLOTS(5)] = 1;
-    REFUSED(SLOTS(6), fine, TCAM_RECORD, 2);
+    REFUSED(SLOTS(6), FINE, TCAM_RECORD, 2);
     KEPT(SLOTS(6), 2, TCAM_RECORD, 2);
     put(2, rule_of(1, 65535, "1", 1));
-    REFUSED(SLOTS(6), fine, TCAM_RECORD, 5);
+    REFUSED(SLOTS(6), FINE, TCAM_RECORD, 5);
     KEPT(SLOTS(6), 2, TCAM_RECORD, 5);
     table[SLOTS(5)] = 0;
     table[SLOTS(5) + 4] = 1;
-    REFUSED(SLOTS(6), fine, TCAM_RECORD, 5);
+    REFUSED(SLOTS(6), FINE, TCAM_RECORD, 5);
     table[SLOTS(5) + 4] = TCAM_ID_ACTION(3, 0);
-    PLANNED(6, fine, PUT(0));
+    PLANNED(6, FINE, PUT(0));
     table[SLOTS(5) + 5] = 0x100000000u;
-    REFUSED(SLOTS(6), fine, TCAM_RECORD, 5);
+    REFUSED(SLOTS(6), FINE, TCAM_RECORD, 5);
     KEPT(SLOTS(6), 2, TCAM_RECORD, 5);
+}
 
-    /* 3: the lowest slot whose id stands earlier; records need not be equal */
-    clear();
-    put(0, rule_of(5, 50, "00", 1));
-    put(1, rule_of(6, 40, "01", 1));
-    put(3, rule_of(6, 30, "10", 1));
-    put(4, rule_of(5, 20, "11", 1));
+/* 3: the lowest slot whose id stands earlier; records need not be equal. */
+static void ids_twice(void)
+{
+    HOLD({0, 5, 50, "00", 1}, {1, 6, 40, "01", 1}, {3, 6, 30, "10", 1}, {4, 5, 20, "11", 1});
     REFUSED(SLOTS(6), rule_of(6, 7, "1111", 1), TCAM_TWICE, 3);
     KEPT(SLOTS(6), 6, TCAM_TWICE, 3);
     put(3, rule_of(7, 30, "10", 1));
-    REFUSED(SLOTS(6), fine, TCAM_TWICE, 4);
+    REFUSED(SLOTS(6), FINE, TCAM_TWICE, 4);
     put(4, rule_of(5, 50, "00", 1));
-    REFUSED(SLOTS(6), fine, TCAM_TWICE, 4);
+    REFUSED(SLOTS(6), FINE, TCAM_TWICE, 4);
     KEPT(SLOTS(6), 5, TCAM_TWICE, 4);
+}
 
-    /* 4: the lowest slot with an earlier overlapping rule of no higher priority */
-    clear();
-    put(0, rule_of(5, 20, "0", 1));
-    put(2, rule_of(6, 20, "1", 1));
-    put(3, rule_of(7, 20, "00", 1));
-    put(5, rule_of(8, 21, "01", 1));
-    REFUSED(SLOTS(6), fine, TCAM_ORDER, 3);
+/* 4: the lowest slot with an earlier overlapping rule of no higher priority. */
+static void disordered(void)
+{
+    HOLD({0, 5, 20, "0", 1}, {2, 6, 20, "1", 1}, {3, 7, 20, "00", 1}, {5, 8, 21, "01", 1});
+    REFUSED(SLOTS(6), FINE, TCAM_ORDER, 3);
     KEPT(SLOTS(6), 5, TCAM_ORDER, 3);
     put(3, rule_of(7, 19, "00", 1));
-    REFUSED(SLOTS(6), fine, TCAM_ORDER, 5);
+    REFUSED(SLOTS(6), FINE, TCAM_ORDER, 5);
     KEPT(SLOTS(6), 5, TCAM_ORDER, 5);
     put(5, rule_of(8, 20, "01", 1));
-    REFUSED(SLOTS(6), fine, TCAM_ORDER, 5);
+    REFUSED(SLOTS(6), FINE, TCAM_ORDER, 5);
     put(5, rule_of(8, 19, "01", 1));
-    PLANNED(6, fine, PUT(4));
+    PLANNED(6, FINE, PUT(4));
+}
 
-    /* 5: each bit of value outside the mask, id 0 */
+/* A sound table of six slots. */
+static void four_rules(void)
+{
+    HOLD({0, 5, 20, "0", 1}, {2, 6, 20, "1", 1}, {3, 7, 19, "00", 1}, {5, 8, 19, "01", 1});
+}
+
+/* 5: each bit of value outside the mask, id 0. */
+static void unsound_rules(void)
+{
+    four_rules();
     for (int bit = 0; bit < 64; bit++) {
         uint64_t one = (uint64_t)1 << bit;
         REFUSED(SLOTS(6), ((struct rule){99, 7, {one, 0}, {~one, ALL}, 1}), TCAM_RULE, 0);
@@ -1011,22 +995,24 @@ static void spots(void)
     REFUSED(SLOTS(6), rule_of(0, 7, "1", 1), TCAM_RULE, 0);
     REFUSED(SLOTS(6), rule_of(0, 0, "", 0), TCAM_RULE, 0);
     REFUSED(SLOTS(1), rule_of(0, 0, "", 0), TCAM_RULE, 0);
+}
 
-    /* 6: its slot; 8: the lowest; an id in the table comes before a tie in an earlier slot */
+/* 6: its slot; 8: the lowest; an id in the table comes before a tie in an earlier slot. */
+static void known_and_tied(void)
+{
+    four_rules();
     REFUSED(SLOTS(6), rule_of(5, 7, "0000", 1), TCAM_KNOWN, 0);
     REFUSED(SLOTS(6), rule_of(6, 7, "0000", 1), TCAM_KNOWN, 2);
     REFUSED(SLOTS(6), rule_of(8, 20, "0000", 1), TCAM_KNOWN, 5);
     REFUSED(SLOTS(6), rule_of(99, 19, "0", 1), TCAM_TIE, 3);
     REFUSED(SLOTS(6), rule_of(99, 19, "01", 1), TCAM_TIE, 5);
     REFUSED(SLOTS(6), rule_of(99, 20, "", 1), TCAM_TIE, 0);
+}
 
-    /* 10: the highest slot that precedes */
-    clear();
-    put(0, rule_of(1, 5, "000", 1));
-    put(1, rule_of(2, 90, "001", 1));
-    put(2, rule_of(3, 5, "010", 1));
-    put(3, rule_of(4, 90, "011", 1));
-    put(5, rule_of(5, 5, "100", 1));
+/* 10: the highest slot that precedes. */
+static void crossed(void)
+{
+    HOLD({0, 1, 5, "000", 1}, {1, 2, 90, "001", 1}, {2, 3, 5, "010", 1}, {3, 4, 90, "011", 1}, {5, 5, 5, "100", 1});
     REFUSED(SLOTS(7), rule_of(99, 50, "", 1), TCAM_CROSSED, 3);
     REFUSED(SLOTS(7), rule_of(99, 50, "00", 1), TCAM_CROSSED, 1);
     REFUSED(SLOTS(7), rule_of(99, 50, "01", 1), TCAM_CROSSED, 3);
@@ -1034,140 +1020,172 @@ static void spots(void)
     PLANNED(7, rule_of(99, 50, "*00", 1), COPY(0, 4), PUT(0));
 
     /* crossed is refused also where the class has a sequence: 1 to 4, 0 to 1, the new rule to 3 */
-    clear();
-    put(0, rule_of(1, 5, "1", 1));
-    put(1, rule_of(2, 5, "00", 1));
-    put(2, rule_of(3, 90, "01", 1));
+    HOLD({0, 1, 5, "1", 1}, {1, 2, 5, "00", 1}, {2, 3, 90, "01", 1});
     struct rule between = rule_of(99, 50, "0", 1);
     REFUSED(SLOTS(5), between, TCAM_CROSSED, 2);
     CHECK(least_in_class(table, 5, &between) == 3);
 }
 
-/* Every set of faults at once: the one of the lowest number is named. */
-static void fault_sets(void)
+/* Faults of a table and a rule, one bit each; for a delete KNOWN stands for an id that is absent. */
+enum { SHAPE = 1, RECORD = 2, TWICE = 4, ORDER = 8, RULE = 16, KNOWN = 32, TIE = 64, FULL = 128, CROSSED = 256, SHORT = 512 };
+
+static const size_t wrong_words[] = {SLOTS(9) - 1, SLOTS(9) + 1, SLOTS(9) + 3};
+
+static void faulty_table(uint32_t set)
 {
-    enum { SHAPE = 1, RECORD = 2, TWICE = 4, ORDER = 8, RULE = 16, KNOWN = 32, TIE = 64, FULL = 128, CROSSED = 256, SHORT = 512 };
-    static const struct {
-        uint32_t fault, number, spot;
-    } faults[] = {{SHAPE, 1, 0}, {RECORD, 2, 7}, {TWICE, 3, 4}, {ORDER, 4, 6}, {RULE, 5, 0},
-                  {KNOWN, 6, 6}, {TIE, 8, 3},    {FULL, 9, 0},  {CROSSED, 10, 2}};
+    HOLD({0, 1, 100, "1000", 1}, {1, 2, set & CROSSED ? 10 : 90, "000", 1}, {2, 3, set & CROSSED ? 90 : 10, "001", 1},
+         {3, 4, set & TIE ? 50 : 10, "010", 1}, {4, set & TWICE ? 1 : 5, 30, "1001", 1}, {5, 6, 20, "1010", 1},
+         {6, 7, set & ORDER ? 20 : 10, "101", 1}, {7, 8, set & RECORD ? 65536 : 20, "1100", 1});
+    if (set & FULL)
+        put(8, rule_of(9, 20, "1101", 1));
+}
+
+static struct rule faulty_rule(uint32_t set, uint32_t variant)
+{
+    struct rule rule = rule_of(set & KNOWN ? 7 : 99, 50, "0", 1);
+    if (set & RULE && variant == 0)
+        rule.id = 0;
+    if (set & RULE && variant == 1)
+        rule.priority += 65536;
+    if (set & RULE && variant == 2)
+        rule.value[1] = 1;
+    return rule;
+}
+
+static const struct {
+    uint32_t fault, number, spot;
+} faults[] = {{SHAPE, 1, 0}, {RECORD, 2, 7}, {TWICE, 3, 4}, {ORDER, 4, 6}, {RULE, 5, 0},
+              {KNOWN, 6, 6}, {TIE, 8, 3},    {FULL, 9, 0},  {CROSSED, 10, 2}};
+
+static void faulty_inserts(uint32_t set, size_t lowest)
+{
     static const uint32_t writes[] = {COPY(2, 8), PUT(2)};
-    static const size_t wrong_words[] = {SLOTS(9) - 1, SLOTS(9) + 1, SLOTS(9) + 3};
-
-    for (uint32_t set = 0; set < 1024; set++) {
-        size_t lowest = 0;
-        clear();
-        put(0, rule_of(1, 100, "1000", 1));
-        put(1, rule_of(2, set & CROSSED ? 10 : 90, "000", 1));
-        put(2, rule_of(3, set & CROSSED ? 90 : 10, "001", 1));
-        put(3, rule_of(4, set & TIE ? 50 : 10, "010", 1));
-        put(4, rule_of(set & TWICE ? 1 : 5, 30, "1001", 1));
-        put(5, rule_of(6, 20, "1010", 1));
-        put(6, rule_of(7, set & ORDER ? 20 : 10, "101", 1));
-        put(7, rule_of(8, set & RECORD ? 65536 : 20, "1100", 1));
-        if (set & FULL)
-            put(8, rule_of(9, 20, "1101", 1));
-        while (lowest < COUNT_OF(faults) && (set & faults[lowest].fault) == 0)
-            lowest++;
-        for (uint32_t variant = 0; variant < 3; variant++) {
-            struct rule rule = rule_of(set & KNOWN ? 7 : 99, 50, "0", 1);
-            size_t words = set & SHAPE ? wrong_words[variant] : SLOTS(9);
-            if (set & RULE && variant == 0)
-                rule.id = 0;
-            if (set & RULE && variant == 1)
-                rule.priority += 65536;
-            if (set & RULE && variant == 2)
-                rule.value[1] = 1;
-            HERE;
-            if (lowest < COUNT_OF(faults))
-                wanted(faults[lowest].number, faults[lowest].spot, NULL, 0);
-            else
-                wanted(0, 0, writes, 2);
-            ref_insert(table, words, &rule, &ref);
-            check_ref();
-            struct lent lent = lend(table, words, variant % 2);
-            call_insert(&lent, &rule, set & SHORT ? variant % 2 : 2 + variant, 1, &want);
-        }
-
-        /* a delete: RULE is id 0, and KNOWN stands for an id that is absent */
-        uint32_t id = set & RULE ? 0 : set & KNOWN ? 98 : 6, write = EMPTYING(5);
-        size_t words = set & SHAPE ? wrong_words[set % 3] : SLOTS(9);
+    for (uint32_t variant = 0; variant < 3; variant++) {
+        struct rule rule = faulty_rule(set, variant);
+        size_t words = set & SHAPE ? wrong_words[variant] : SLOTS(9);
         HERE;
-        if (lowest < 5)
+        if (lowest < COUNT_OF(faults))
             wanted(faults[lowest].number, faults[lowest].spot, NULL, 0);
-        else if (set & KNOWN)
-            wanted(7, 0, NULL, 0);
         else
-            wanted(0, 0, &write, 1);
-        ref_delete(table, words, id, &ref);
+            wanted(0, 0, writes, 2);
+        ref_insert(table, words, &rule, &ref);
         check_ref();
-        struct lent lent = lend(table, words, (int)set % 2);
-        call_delete(&lent, id, set & SHORT ? 0 : 1 + set % 3, 1, &want);
+        struct lent lent = lend(table, words, variant % 2);
+        call_insert(&lent, &rule, set & SHORT ? variant % 2 : 2 + variant, 1, &want);
     }
 }
 
-/* 1,024 slots: one of them empty. */
-static void long_tables(void)
+static void faulty_delete(uint32_t set, size_t lowest)
 {
-    static const uint32_t empties[] = {0, 512, 1023}, places[] = {0, 1, 511, 512, 513, 1023, 1024};
+    uint32_t id = set & RULE ? 0 : set & KNOWN ? 98 : 6, write = EMPTYING(5);
+    size_t words = set & SHAPE ? wrong_words[set % 3] : SLOTS(9);
+    HERE;
+    if (lowest < 5)
+        wanted(faults[lowest].number, faults[lowest].spot, NULL, 0);
+    else if (set & KNOWN)
+        wanted(7, 0, NULL, 0);
+    else
+        wanted(0, 0, &write, 1);
+    ref_delete(table, words, id, &ref);
+    check_ref();
+    struct lent lent = lend(table, words, (int)set % 2);
+    call_delete(&lent, id, set & SHORT ? 0 : 1 + set % 3, 1, &want);
+}
+
+/* Every set of faults at once: the one of the lowest number is named. */
+static void fault_sets(void)
+{
+    for (uint32_t set = 0; set < 1024; set++) {
+        size_t lowest = 0;
+        while (lowest < COUNT_OF(faults) && (set & faults[lowest].fault) == 0)
+            lowest++;
+        faulty_table(set);
+        faulty_inserts(set, lowest);
+        faulty_delete(set, lowest);
+    }
+}
+
+/* 1,024 slots, one of them empty. */
+static const uint32_t empties[] = {0, 512, 1023};
+
+/* Every rule depends on all before it, and the new one comes before the rule of a slot: the rules between move by one. */
+static void long_chain(uint32_t hole, uint32_t place)
+{
     static uint32_t writes[TCAM_MAX_SLOTS];
-
-    /* every rule depends on all before it, and the new one comes before the rule of a slot: the rules between move by one */
-    for (size_t index = 0; index < COUNT_OF(empties) * COUNT_OF(places); index++) {
-        uint32_t hole = empties[index / COUNT_OF(places)], place = places[index % COUNT_OF(places)], count = 0;
-        clear();
-        for (uint32_t slot = 0; slot < 1024; slot++)
-            if (slot != hole)
-                put(slot, (struct rule){slot + 1, 60000 - 40 * slot, {0, 0}, {0, 0}, slot});
-        if (place <= hole) {
-            for (uint32_t slot = hole; slot > place; slot--)
-                writes[count++] = COPY(slot - 1, slot);
-            writes[count++] = PUT(place);
-        } else {
-            for (uint32_t slot = hole; slot < place - 1; slot++)
-                writes[count++] = COPY(slot + 1, slot);
-            writes[count++] = PUT(place - 1);
-        }
-        insert_case(__LINE__, 1024, (struct rule){5000, 60020 - 40 * place, {0, 0}, {0, 0}, 9}, 0, writes, count);
+    uint32_t count = 0;
+    clear();
+    for (uint32_t slot = 0; slot < 1024; slot++)
+        if (slot != hole)
+            put(slot, (struct rule){slot + 1, 60000 - 40 * slot, {0, 0}, {0, 0}, slot});
+    if (place <= hole) {
+        for (uint32_t slot = hole; slot > place; slot--)
+            writes[count++] = COPY(slot - 1, slot);
+        writes[count++] = PUT(place);
+    } else {
+        for (uint32_t slot = hole; slot < place - 1; slot++)
+            writes[count++] = COPY(slot + 1, slot);
+        writes[count++] = PUT(place - 1);
     }
+    insert_case(__LINE__, 1024, (struct rule){5000, 60020 - 40 * place, {0, 0}, {0, 0}, 9}, 0, writes, count);
+}
 
-    /* no rule overlaps another: one move is enough, over the whole table */
-    for (size_t index = 0; index < COUNT_OF(empties); index++) {
-        uint32_t hole = empties[index];
-        clear();
-        for (uint32_t slot = 0; slot < 1024; slot++)
-            if (slot != hole)
-                put(slot, (struct rule){slot + 1, slot % 7, {slot, 0}, {ALL, 0}, slot});
-        PLANNED(1024, ((struct rule){5000, 3, {1024, 1}, {ALL, 1}, 9}), PUT(hole));
-        REFUSED(SLOTS(1024), ((struct rule){700, 3, {1024, 1}, {ALL, 1}, 9}), TCAM_KNOWN, 699);
-        REFUSED(SLOTS(1024), ((struct rule){5000, 700 % 7, {700, 1}, {ALL, 1}, 9}), TCAM_TIE, 700);
-        DELETED(1024, 701, 700);
-        KEPT(SLOTS(1024), 701, TCAM_UNKNOWN, 0);
-    }
-    put(700, (struct rule){701, 0, {700, 0}, {ALL, 0}, 700});
-    PLANNED(1024, ((struct rule){5000, 9, {0, 0}, {ALL, 0}, 9}), COPY(0, 1023), PUT(0));
+static void long_chains(void)
+{
+    static const uint32_t places[] = {0, 1, 511, 512, 513, 1023, 1024};
+    for (size_t index = 0; index < COUNT_OF(empties) * COUNT_OF(places); index++)
+        long_chain(empties[index / COUNT_OF(places)], places[index % COUNT_OF(places)]);
+}
+
+/* A rule of the high word `value`, all of whose bits are cared for. */
+static struct rule exact(uint32_t id, uint32_t priority, uint64_t value, uint32_t action)
+{
+    return (struct rule){id, priority, {value, 0}, {ALL, 0}, action};
+}
+
+/* No rule overlaps another: one move is enough, over the whole table. */
+static void long_table_apart(uint32_t hole)
+{
+    clear();
+    for (uint32_t slot = 0; slot < 1024; slot++)
+        if (slot != hole)
+            put(slot, exact(slot + 1, slot % 7, slot, slot));
+    PLANNED(1024, ((struct rule){5000, 3, {1024, 1}, {ALL, 1}, 9}), PUT(hole));
+    REFUSED(SLOTS(1024), ((struct rule){700, 3, {1024, 1}, {ALL, 1}, 9}), TCAM_KNOWN, 699);
+    REFUSED(SLOTS(1024), ((struct rule){5000, 700 % 7, {700, 1}, {ALL, 1}, 9}), TCAM_TIE, 700);
+    DELETED(1024, 701, 700);
+    KEPT(SLOTS(1024), 701, TCAM_UNKNOWN, 0);
+}
+
+static void long_tables_apart(void)
+{
+    for (size_t index = 0; index < COUNT_OF(empties); index++)
+        long_table_apart(empties[index]);
+    put(700, exact(701, 0, 700, 700));
+    PLANNED(1024, exact(5000, 9, 0, 9), COPY(0, 1023), PUT(0));
     REFUSED(SLOTS(1024), ((struct rule){5000, 3, {0, 0}, {0, 0}, 9}), TCAM_TIE, 3);
     REFUSED(SLOTS(1024), ((struct rule){5000, 3, {1, 0}, {~(uint64_t)4, 0}, 9}), TCAM_CROSSED, 5);
-    put(1023, (struct rule){1024, 1, {1023, 0}, {ALL, 0}, 1});
-    REFUSED(SLOTS(1024), ((struct rule){5000, 9, {0, 0}, {ALL, 0}, 9}), TCAM_FULL, 0);
+    put(1023, exact(1024, 1, 1023, 1));
+    REFUSED(SLOTS(1024), exact(5000, 9, 0, 9), TCAM_FULL, 0);
     memset(table, 0, SLOTS(1) * sizeof *table);
-    PLANNED(1024, ((struct rule){5000, 0, {1023, 0}, {ALL, 0}, 9}), COPY(1023, 0), PUT(1023));
+    PLANNED(1024, exact(5000, 0, 1023, 9), COPY(1023, 0), PUT(1023));
     DELETED(1024, 1024, 1023);
-    PLANNED(1024, ((struct rule){5000, 0, {1023, 0}, {ALL, 0}, 9}), PUT(0));
+    PLANNED(1024, exact(5000, 0, 1023, 9), PUT(0));
 
     /* faults in the last slots */
-    put(1023, (struct rule){700, 1, {1023, 0}, {ALL, 0}, 1});
-    REFUSED(SLOTS(1024), ((struct rule){5000, 9, {0, 0}, {ALL, 0}, 9}), TCAM_TWICE, 1023);
-    put(1023, (struct rule){5001, 6, {1020, 0}, {ALL, 0}, 1});
-    REFUSED(SLOTS(1024), ((struct rule){5000, 9, {0, 0}, {ALL, 0}, 9}), TCAM_ORDER, 1023);
+    put(1023, exact(700, 1, 1023, 1));
+    REFUSED(SLOTS(1024), exact(5000, 9, 0, 9), TCAM_TWICE, 1023);
+    put(1023, exact(5001, 6, 1020, 1));
+    REFUSED(SLOTS(1024), exact(5000, 9, 0, 9), TCAM_ORDER, 1023);
     KEPT(SLOTS(1024), 5001, TCAM_ORDER, 1023);
-    put(1023, (struct rule){5001, 4, {1020, 0}, {ALL, 0}, 1});
-    PLANNED(1024, ((struct rule){5000, 9, {1, 0}, {ALL, 0}, 9}), PUT(0));
-    put(1023, (struct rule){5001, 65536, {1020, 0}, {ALL, 0}, 1});
-    REFUSED(SLOTS(1024), ((struct rule){5000, 9, {1, 0}, {ALL, 0}, 9}), TCAM_RECORD, 1023);
-    PLANNED(1023, ((struct rule){5000, 9, {1, 0}, {ALL, 0}, 9}), PUT(0));
+    put(1023, exact(5001, 4, 1020, 1));
+    PLANNED(1024, exact(5000, 9, 1, 9), PUT(0));
+    put(1023, exact(5001, 65536, 1020, 1));
+    REFUSED(SLOTS(1024), exact(5000, 9, 1, 9), TCAM_RECORD, 1023);
+    PLANNED(1023, exact(5000, 9, 1, 9), PUT(0));
+}
 
-    /* no rule at all */
+static void long_tables_of_few_rules(void)
+{
     clear();
     PLANNED(1024, rule_of(1, 1, "", 1), PUT(0));
     KEPT(SLOTS(1024), 1, TCAM_UNKNOWN, 0);
@@ -1301,7 +1319,7 @@ static void all_tables(void)
     uint32_t tables = 1;
 
     case_line = 0;
-    made_how = "small";
+    made_how = "small table";
     turn = 0;
     space_keys(&keys, &space);
     for (uint32_t slots = 1; slots <= 4; slots++) {
@@ -1494,27 +1512,27 @@ static void random_table(uint32_t slots)
     made_delete(&lent, slots, id == 0 && below(4) != 0 ? made_id(id_kind, 0) : id);
 }
 
-static void random_tables(unsigned long tables)
+/* Of the random tables, more than one in so many is refused with each number that stands here. */
+static const unsigned long insert_refusals[15] = {
+    [TCAM_SHAPE] = 200, [TCAM_RECORD] = 200, [TCAM_TWICE] = 200, [TCAM_ORDER] = 200, [TCAM_RULE] = 100,
+    [TCAM_KNOWN] = 200, [TCAM_TIE] = 100, [TCAM_FULL] = 50, [TCAM_CROSSED] = 100, [TCAM_SHORT] = 10,
+};
+static const unsigned long delete_refusals[15] = {
+    [TCAM_SHAPE] = 200, [TCAM_RECORD] = 200, [TCAM_TWICE] = 200, [TCAM_ORDER] = 200, [TCAM_RULE] = 20, [TCAM_UNKNOWN] = 20,
+};
+
+static void check_refusals(const unsigned long *refused, const unsigned long *one_in, unsigned long tables)
 {
     case_line = 0;
-    made_how = "random";
-    memset(&seen, 0, sizeof seen);
-    for (turn = 0; turn < tables; turn++)
-        random_table(1 + below(12));
-    if (tables < 100000)
-        return;
+    made_how = "refusal";
+    for (turn = 0; turn < 15; turn++)
+        if (one_in[turn] != 0)
+            CHECK(refused[turn] > tables / one_in[turn]);
+}
 
+static void check_plans(unsigned long tables)
+{
     HERE;
-    CHECK(seen.refused[TCAM_SHAPE] > tables / 200);
-    CHECK(seen.refused[TCAM_RECORD] > tables / 200);
-    CHECK(seen.refused[TCAM_TWICE] > tables / 200);
-    CHECK(seen.refused[TCAM_ORDER] > tables / 200);
-    CHECK(seen.refused[TCAM_RULE] > tables / 100);
-    CHECK(seen.refused[TCAM_KNOWN] > tables / 200);
-    CHECK(seen.refused[TCAM_TIE] > tables / 100);
-    CHECK(seen.refused[TCAM_FULL] > tables / 50);
-    CHECK(seen.refused[TCAM_CROSSED] > tables / 100);
-    CHECK(seen.refused[TCAM_SHORT] > tables / 10);
     CHECK(seen.planned > tables / 2);
     CHECK(seen.of_count[1] > tables / 10);
     for (uint32_t writes = 2; writes <= 6; writes++)
@@ -1530,42 +1548,42 @@ static void random_tables(unsigned long tables)
     CHECK(seen.around_dependant > tables / 100);
     CHECK(seen.searched > tables / 5);
     CHECK(seen.deleted > tables / 4);
-    CHECK(seen.not_deleted[TCAM_SHAPE] > tables / 200);
-    CHECK(seen.not_deleted[TCAM_RECORD] > tables / 200);
-    CHECK(seen.not_deleted[TCAM_TWICE] > tables / 200);
-    CHECK(seen.not_deleted[TCAM_ORDER] > tables / 200);
-    CHECK(seen.not_deleted[TCAM_RULE] > tables / 20);
-    CHECK(seen.not_deleted[TCAM_UNKNOWN] > tables / 20);
+}
+
+static void random_tables(unsigned long tables)
+{
+    case_line = 0;
+    made_how = "random table";
+    memset(&seen, 0, sizeof seen);
+    for (turn = 0; turn < tables; turn++)
+        random_table(1 + below(12));
+    if (tables < 100000)
+        return;
+
+    check_refusals(seen.refused, insert_refusals, tables);
+    check_refusals(seen.not_deleted, delete_refusals, tables);
+    check_plans(tables);
 }
 
 /* A few of more slots. */
 static void longer_tables(void)
 {
     case_line = 0;
-    made_how = "longer";
+    made_how = "longer table";
     for (turn = 0; turn < 200; turn++)
         random_table(13 + below(turn % 50 == 49 ? 1012 : 60));
 }
 
 int main(int count, char **words)
 {
-    unsigned long tables = 102000;
-    if (count > 1)
-        seed = strtoull(words[1], NULL, 0);
-    if (count > 2)
-        tables = strtoul(words[2], NULL, 0);
-
-    open_pages(&table_pages, (SLOTS(MOST_SLOTS) + GUARDS) * sizeof(uint64_t));
+    static void (*const cases[])(void) = {
+        names, script, edge_tables, short_buffers, absent_ids, priorities_at_ends, mask_zero, choices, displaced_rules,
+        rules_apart, wrong_lengths, long_lengths, unsound_records, ids_twice, disordered, unsound_rules, known_and_tied,
+        crossed, fault_sets, long_chains, long_tables_apart, long_tables_of_few_rules, all_tables,
+    };
+    unsigned long tables = begin(count, words, 102000);
     open_pages(&plan_pages, (MOST_ROOM + PLAN_GUARDS) * sizeof(uint32_t));
-    random_state = seed;
-    names();
-    script();
-    edge_tables();
-    choices();
-    spots();
-    fault_sets();
-    long_tables();
-    all_tables();
+    run_cases(cases, COUNT_OF(cases));
     random_tables(tables);
     longer_tables();
 

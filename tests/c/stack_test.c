@@ -176,24 +176,18 @@ static void try_carry(const char *what, uint32_t word, uint64_t want)
     check(carried == want && bytes <= CARRY_BYTES, what, bytes, CARRY_BYTES);
 }
 
-int main(int arguments, char **words)
+static void measure_lookups(void)
 {
-    size_t bytes, page = 4096;
-    told = arguments > 1 && strcmp(words[1], "-v") == 0;
-    char *mapped = mmap(NULL, STACK_BYTES + page, PROT_NONE, MAP_PRIVATE | MAP_ANONYMOUS, -1, 0);
-    if (mapped == MAP_FAILED || mprotect(mapped + page, STACK_BYTES, PROT_READ | PROT_WRITE) != 0) {
-        perror("stack_test: pages");
-        return 1;
-    }
-    stack = (unsigned char *)mapped + page;
-
-    make_chain(1023);
-    bytes = used(run_lookup);
+    size_t bytes = used(run_lookup);
     check(result == TCAM_OK && bytes <= LOOKUP_BYTES, "tcam_lookup", bytes, LOOKUP_BYTES);
     bytes = used(run_slot_record);
     check(result == 6 && bytes <= LOOKUP_BYTES, "tcam_slot_record", bytes, LOOKUP_BYTES);
+}
+
+static void measure_plans(void)
+{
     rule = (struct rule){1000, 0};
-    bytes = used(run_plan_delete);
+    size_t bytes = used(run_plan_delete);
     check(result == TCAM_OK && count == 1 && bytes <= DELETE_BYTES, "tcam_plan_delete", bytes, DELETE_BYTES);
     try_insert("tcam_plan_insert, 1 write", 1023, 1, 1);
     try_insert("tcam_plan_insert, 2 writes", 1023, 57957, 2);
@@ -207,18 +201,42 @@ int main(int arguments, char **words)
     bytes = used(run_plan_insert);
     check(result == TCAM_SHORT && spot == 1024 && bytes <= INSERT_BYTES + MEMSET_BYTES, "tcam_plan_insert, one word short", bytes,
           INSERT_BYTES + MEMSET_BYTES);
+}
 
+static void measure_writes(void)
+{
     try_carry("tcam_carry_out, a copy", 1022u * 65536 + 1023, TCAM_WROTE);
     try_carry("tcam_carry_out, a put-in", 65535u * 65536 + 1023, TCAM_WROTE);
     try_carry("tcam_carry_out, an emptying", 65534u * 65536 + 1022, TCAM_WROTE);
     try_carry("tcam_carry_out, no fit", 65535u * 65536 + 1022, TCAM_WRITE);
+}
 
+static void measure_images(void)
+{
     make_chain(5);
-    bytes = used(run_save);
+    size_t bytes = used(run_save);
     check(result == TCAM_OK && bytes_saved == TCAM_IMAGE_BYTES(1023) && bytes <= SAVE_BYTES, "tcam_save", bytes, SAVE_BYTES);
     run_load(); /* finds memcpy, so that the loader's stack is not counted */
     bytes = used(run_load);
     check(result == TCAM_OK && bytes <= LOAD_BYTES + MEMSET_BYTES, "tcam_load", bytes, LOAD_BYTES + MEMSET_BYTES);
+}
+
+int main(int arguments, char **words)
+{
+    size_t page = 4096;
+    told = arguments > 1 && strcmp(words[1], "-v") == 0;
+    char *mapped = mmap(NULL, STACK_BYTES + page, PROT_NONE, MAP_PRIVATE | MAP_ANONYMOUS, -1, 0);
+    if (mapped == MAP_FAILED || mprotect(mapped + page, STACK_BYTES, PROT_READ | PROT_WRITE) != 0) {
+        perror("stack_test: pages");
+        return 1;
+    }
+    stack = (unsigned char *)mapped + page;
+
+    make_chain(1023);
+    measure_lookups();
+    measure_plans();
+    measure_writes();
+    measure_images();
 
     if (failures != 0) {
         fprintf(stderr, "stack_test: %lu of %lu checks failed\n", failures, checks);

@@ -1,6 +1,6 @@
 /*
- * What the test programs over the library share: counted checks, rules and records, random numbers, and lent tables
- * between pages that cannot be touched. A program defines _DEFAULT_SOURCE before it includes this, for mmap without a file.
+ * What the test programs over the library share: counted checks, rules and records, checks 1 to 4, random numbers, and lent
+ * tables and cells between guards. A program defines _DEFAULT_SOURCE before it includes this, for mmap without a file.
  */
 #ifndef TESTING_H
 #define TESTING_H
@@ -16,12 +16,18 @@
 #define ALL UINT64_MAX
 #define TOP 0x8000000000000000u
 #define SLOTS(n) ((size_t)(n) * TCAM_SLOT_WORDS)
+#define COUNT_OF(array) (sizeof(array) / sizeof *(array))
+
+/* Words of a plan. */
+#define COPY(from, to) ((uint32_t)(from) * 65536u + (uint32_t)(to))
+#define PUT(to) COPY(65535u, to)
+#define EMPTYING(to) COPY(65534u, to)
 
 /* ---- Checks ---- */
 
 static unsigned long checks, failures;
 static int case_line;                   /* the case under test: its line in the program, 0 for a made table */
-static const char *made_how = "random"; /* how the table under test was made, and its number */
+static const char *made_how = "random table"; /* how the table under test was made, and its number */
 static unsigned long turn;
 static unsigned long long seed = 2026;
 
@@ -37,7 +43,7 @@ static inline void check(int holds, const char *expression, const char *file, in
     if (case_line != 0)
         fprintf(stderr, " (case at line %d)\n", case_line);
     else
-        fprintf(stderr, " (%s table %lu, seed %llu)\n", made_how, turn, seed);
+        fprintf(stderr, " (%s %lu, seed %llu)\n", made_how, turn, seed);
 }
 
 #define CHECK(expression) check((expression) ? 1 : 0, #expression, __FILE__, __LINE__)
@@ -129,6 +135,68 @@ static inline int overlap(const uint64_t *a, const uint64_t *b)
     return 1;
 }
 
+/* ---- Checks 1 to 4 of a table ---- */
+
+/* The number of slots; 0 where the words are not 6 times 1 to 1,024. */
+static inline uint32_t slots_of(size_t words)
+{
+    for (uint32_t slots = 1; slots <= 1024; slots++)
+        if (words == (size_t)6 * slots)
+            return slots;
+    return 0;
+}
+
+/* The lowest slot that is neither empty nor a sound rule; here and below, `slots` where there is none. */
+static inline uint32_t first_unsound(const uint64_t *table, uint32_t slots)
+{
+    for (uint32_t slot = 0; slot < slots; slot++)
+        if (!is_empty(table + 6 * slot) && !is_sound(table + 6 * slot))
+            return slot;
+    return slots;
+}
+
+/* The lowest slot whose id stands in an earlier slot too. */
+static inline uint32_t first_twice(const uint64_t *table, uint32_t slots)
+{
+    for (uint32_t slot = 0; slot < slots; slot++)
+        for (uint32_t earlier = 0; earlier < slot && !is_empty(table + 6 * slot); earlier++)
+            if (id_of(table + 6 * earlier) == id_of(table + 6 * slot))
+                return slot;
+    return slots;
+}
+
+/* The lowest slot with an earlier overlapping rule of no higher priority. */
+static inline uint32_t first_out_of_order(const uint64_t *table, uint32_t slots)
+{
+    for (uint32_t slot = 0; slot < slots; slot++) {
+        const uint64_t *rule = table + 6 * slot;
+        for (uint32_t earlier = 0; earlier < slot && !is_empty(rule); earlier++) {
+            const uint64_t *other = table + 6 * earlier;
+            if (other[5] <= rule[5] && !is_empty(other) && overlap(other, rule))
+                return slot;
+        }
+    }
+    return slots;
+}
+
+/* Check 1 and those after it up to number `last`: the number of the first that fails and its spot, or 0 and 0. */
+static inline uint32_t table_fault(const uint64_t *table, size_t words, uint32_t last, uint32_t *spot)
+{
+    static uint32_t (*const first_fault[])(const uint64_t *, uint32_t) = {first_unsound, first_twice, first_out_of_order};
+    uint32_t slots = slots_of(words);
+    *spot = 0;
+    if (slots == 0)
+        return 1;
+    for (uint32_t number = 2; number <= last; number++) {
+        uint32_t slot = first_fault[number - 2](table, slots);
+        if (slot < slots) {
+            *spot = slot;
+            return number;
+        }
+    }
+    return 0;
+}
+
 /* ---- Random numbers ---- */
 
 static uint64_t random_state;
@@ -218,6 +286,51 @@ static inline void check_lent(const struct lent *lent)
     for (size_t index = 0; index < GUARDS; index++)
         guards_stay &= lent->guards[index] == guard_rule[index % TCAM_SLOT_WORDS];
     CHECK(guards_stay);
+}
+
+/* ---- Lent cells ---- */
+
+/* Marks change from word to word and from call to call. None is a word of a plan. */
+static inline uint32_t next_mark(void)
+{
+    static uint32_t mark = 0xA5A5A5A5u;
+    mark = mark * 1664525u + 1013904223u;
+    return mark | 0x40000000u;
+}
+
+/* Lent cells have odd numbers, each between guards of even numbers; all are marked beforehand. */
+static inline void mark_cells(uint32_t *cell, uint32_t *before, int cells)
+{
+    for (int index = 0; index < cells; index++)
+        cell[index] = before[index] = next_mark();
+}
+
+static inline void check_cell_guards(const uint32_t *cell, const uint32_t *before, int cells)
+{
+    int guards_stay = 1;
+    for (int index = 0; index < cells; index += 2)
+        guards_stay &= cell[index] == before[index];
+    CHECK(guards_stay);
+}
+
+/* ---- The start of a program ---- */
+
+/* Takes the seed, and how many tables or calls to make, from the command line where they stand there. */
+static inline unsigned long begin(int count, char **arguments, unsigned long most)
+{
+    if (count > 1)
+        seed = strtoull(arguments[1], NULL, 0);
+    if (count > 2)
+        most = strtoul(arguments[2], NULL, 0);
+    random_state = seed;
+    open_pages(&table_pages, (SLOTS(MOST_SLOTS) + GUARDS) * sizeof(uint64_t));
+    return most;
+}
+
+static inline void run_cases(void (*const *cases)(void), size_t count)
+{
+    for (size_t index = 0; index < count; index++)
+        cases[index]();
 }
 
 #endif

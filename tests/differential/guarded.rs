@@ -88,25 +88,8 @@ impl Guarded {
     }
 
     pub fn plan_insert(&self, input: &Input) -> Seen {
-        let rule = &input.rule;
-        let (value_high, value_low) = halves(rule.value);
-        let (mask_high, mask_low) = halves(rule.mask);
         self.on_plan(input, |table, words, plan, room, cells| unsafe {
-            tcam_plan_insert(
-                table,
-                words,
-                rule.id,
-                rule.priority as u32,
-                value_high,
-                value_low,
-                mask_high,
-                mask_low,
-                rule.action,
-                plan,
-                room,
-                cells.cell(0),
-                cells.cell(1),
-            )
+            plan_insert_on((table, words), &input.rule, (plan, room), cells.cell(0), cells.cell(1))
         })
     }
 
@@ -136,27 +119,14 @@ impl Guarded {
 
     /// The cells seen are the progress record afterwards.
     pub fn carry_out(&self, input: &Input) -> Seen {
-        let rule = &input.rule;
-        let (value_high, value_low) = halves(rule.value);
-        let (mask_high, mask_low) = halves(rule.mask);
         let table = self.table.lend(&input.table, input.fence_after);
         let plan = self.plan.lend(&input.plan, input.fence_after);
+        let table_lent = (table.pointer(input.fence_after), input.table.len());
+        let plan_lent = (plan.pointer::<u32>(input.fence_after) as *const u32, input.plan.len());
         let mut guarded = [CELL_GUARD, input.done, input.total, CELL_GUARD];
         let result = unsafe {
-            tcam_carry_out(
-                table.pointer(input.fence_after),
-                input.table.len(),
-                plan.pointer(input.fence_after),
-                input.plan.len(),
-                rule.id,
-                rule.priority as u32,
-                value_high,
-                value_low,
-                mask_high,
-                mask_low,
-                rule.action,
-                guarded.as_mut_ptr().add(1) as *mut ProgressRecord,
-            )
+            let progress = guarded.as_mut_ptr().add(1) as *mut ProgressRecord;
+            carry_out_on(table_lent, plan_lent, &input.rule, progress)
         };
         let guards_hold = self.table.guards_hold(&table, input.fence_after) && self.plan.guards_hold(&plan, input.fence_after);
         Seen {
@@ -168,16 +138,20 @@ impl Guarded {
             guards_hold: guards_hold && guarded[0] == CELL_GUARD && guarded[3] == CELL_GUARD,
         }
     }
+
     pub fn save(&self, input: &Input) -> Seen {
         self.on_image(input, &initial_bytes(input.room), 2, |table, words, image, bytes, cells| unsafe {
             tcam_save(table, words, image, bytes, cells.cell(0), cells.cell(1))
         })
     }
+
     pub fn load(&self, input: &Input) -> Seen {
         self.on_image(input, &input.image, 1, |table, words, image, bytes, cells| unsafe {
             tcam_load(image, bytes, table, words, cells.cell(0))
         })
     }
+
+    /// A call between a table and an image of these bytes; either may be the one that is written.
     fn on_image(
         &self,
         input: &Input,

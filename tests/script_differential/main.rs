@@ -1,5 +1,5 @@
 // The script program against the reference: seeded scripts on its standard input, its output compared byte for byte.
-// Use: scripts [--scripts N] [--seed S] -- PROGRAM [ARGUMENT ..]; without a program the reference itself reads standard input.
+// Use: script_differential [--scripts N] [--seed S] -- PROGRAM [ARGUMENT ..]; without `--` it is the reference as a program.
 
 mod make;
 
@@ -24,14 +24,17 @@ fn main() {
     for number in 0..scripts {
         let script = make::script(&mut Random::new(seed, number));
         let expected = run_script(&script);
-        if output_of(program, &script) != expected {
+        if answer_of(program, &script) != Some(expected.clone()) {
             report(program, number, script);
             std::process::exit(1);
         }
         lines += script.split(|&byte| byte == b'\n').count();
         count_refusals(&expected, &mut refusals);
     }
-    println!("scripts: {scripts} scripts of {lines} lines in all, seed {seed}; refusals by number: {:?}", &refusals[1..]);
+    println!(
+        "script differential: {scripts} scripts of {lines} lines in all, seed {seed}; refusals by number: {:?}",
+        &refusals[1..]
+    );
     let reached = [1, 5, 6, 7, 8, 9, 10, 13].iter().all(|&number| refusals[number] > 0);
     assert!(reached || scripts < 100, "a refusal that a script can meet was never met");
 }
@@ -50,7 +53,8 @@ fn count_refusals(output: &[u8], refusals: &mut [u64; 15]) {
     }
 }
 
-fn output_of(program: &[String], script: &[u8]) -> Vec<u8> {
+/// What the program prints; nothing if it ends with another status than 0.
+fn answer_of(program: &[String], script: &[u8]) -> Option<Vec<u8>> {
     let mut child = Command::new(&program[0])
         .args(&program[1..])
         .stdin(Stdio::piped())
@@ -60,15 +64,15 @@ fn output_of(program: &[String], script: &[u8]) -> Vec<u8> {
     let mut input = child.stdin.take().unwrap();
     let script = script.to_vec();
     let writer = std::thread::spawn(move || drop(input.write_all(&script)));
-    let output = child.wait_with_output().expect("the program ends").stdout;
+    let answer = child.wait_with_output().expect("the program ends");
     writer.join().unwrap();
-    output
+    answer.status.success().then_some(answer.stdout)
 }
 
 /// The script with as few lines and bytes as still give another output.
 fn report(program: &[String], number: u64, script: Vec<u8>) {
-    println!("scripts: MISMATCH at script {number}");
-    let fails = |smaller: &[u8]| output_of(program, smaller) != run_script(smaller);
+    println!("script differential: MISMATCH at script {number}");
+    let fails = |smaller: &[u8]| answer_of(program, smaller) != Some(run_script(smaller));
     let mut script = script;
     for part in [Part::Line, Part::Byte] {
         let mut place = 0;
@@ -81,7 +85,10 @@ fn report(program: &[String], number: u64, script: Vec<u8>) {
         }
     }
     println!("the smallest script found: {:?}", String::from_utf8_lossy(&script));
-    println!("  program:   {:?}", String::from_utf8_lossy(&output_of(program, &script)));
+    match answer_of(program, &script) {
+        Some(output) => println!("  program:   {:?}", String::from_utf8_lossy(&output)),
+        None => println!("  program:   ends with another status than 0"),
+    }
     println!("  reference: {:?}", String::from_utf8_lossy(&run_script(&script)));
 }
 
