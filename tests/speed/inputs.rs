@@ -89,7 +89,19 @@ fn perform_plan_insert(version: &Version, input: &Input, lent: &mut Lent) -> u64
     let priority = rule.priority as u32;
     let number = unsafe {
         (version.plan_insert)(
-            table, words, rule.id, priority, value_high, value_low, mask_high, mask_low, rule.action, plan, plan_words, count, spot,
+            table,
+            words,
+            rule.id,
+            priority,
+            value_high,
+            value_low,
+            mask_high,
+            mask_low,
+            rule.action,
+            plan,
+            plan_words,
+            count,
+            spot,
         )
     };
     u64::from(number)
@@ -105,7 +117,18 @@ fn perform_carry_out(version: &Version, input: &Input, lent: &mut Lent) -> u64 {
     let priority = rule.priority as u32;
     let number = unsafe {
         (version.carry_out)(
-            table, words, plan, plan_words, rule.id, priority, value_high, value_low, mask_high, mask_low, rule.action, &mut progress,
+            table,
+            words,
+            plan,
+            plan_words,
+            rule.id,
+            priority,
+            value_high,
+            value_low,
+            mask_high,
+            mask_low,
+            rule.action,
+            &mut progress,
         )
     };
     lent.done = progress.done;

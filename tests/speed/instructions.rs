@@ -33,11 +33,10 @@ fn run_callgrind(folder: &Path) -> Result<(), String> {
     command.arg(format!("--callgrind-out-file={}", folder.join("counts").display()));
     for version in versions() {
         for call in CALLS {
-            let symbol = version.symbol(call);
-            command.arg(format!("--toggle-collect={symbol}")).arg(format!("--dump-after={symbol}"));
+            command.arg(format!("--toggle-collect={}", version.symbol(call)));
         }
     }
-    command.arg(program).arg("--calls").stdout(Stdio::null()).stderr(Stdio::piped());
+    command.arg("--dump-before=made_call").arg(program).arg("--calls").stdout(Stdio::null()).stderr(Stdio::piped());
     let output = command.output().map_err(|error| format!("valgrind: {error}"))?;
     if !output.status.success() {
         return Err(format!("valgrind: {}", String::from_utf8_lossy(&output.stderr)));
@@ -64,7 +63,9 @@ fn read_counts(folder: &Path) -> (Counts, Functions) {
 
 fn total_of(text: &str) -> u64 {
     let line = text.lines().find_map(|line| line.strip_prefix("totals: ")).expect("a line of totals");
-    line.trim().parse().expect("a count")
+    let total = line.trim().parse().expect("a count");
+    assert!(total > 0, "a call without instructions: callgrind did not see its symbol");
+    total
 }
 
 /// What each function spends itself; the line after `calls=` is what a function called spends, and is left out.

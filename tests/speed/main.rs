@@ -9,6 +9,7 @@ mod reference_calls;
 mod report;
 mod self_check;
 mod tables;
+mod targets;
 mod times;
 mod versions;
 
@@ -24,9 +25,7 @@ fn number_flag(name: &str, otherwise: usize) -> usize {
     let words: Vec<String> = std::env::args().collect();
     match words.iter().position(|word| word == name) {
         None => otherwise,
-        Some(place) => {
-            words.get(place + 1).and_then(|word| word.parse().ok()).unwrap_or_else(|| panic!("{name} takes a number"))
-        }
+        Some(place) => words.get(place + 1).and_then(|word| word.parse().ok()).unwrap_or_else(|| panic!("{name} takes a number")),
     }
 }
 

@@ -90,8 +90,11 @@ fn report(version: &Version, input: &Input, ours: (u64, &Lent), other: (u64, &Le
     println!("speed: {} of {} differs, {} slots:", input.call.name(), version.name, input.table.len() / 6);
     println!("  ours {:#x}, cells {:x?}, done {}", ours.0, ours.1.cells, ours.1.done);
     println!("  this {:#x}, cells {:x?}, done {}", other.0, other.1.cells, other.1.done);
-    let parts =
-        [("table", ours.1.table != other.1.table), ("plan", ours.1.plan != other.1.plan), ("image", ours.1.image != other.1.image)];
+    let parts = [
+        ("table", ours.1.table != other.1.table),
+        ("plan", ours.1.plan != other.1.plan),
+        ("image", ours.1.image != other.1.image),
+    ];
     let changed: Vec<&str> = parts.iter().filter(|part| part.1).map(|part| part.0).collect();
     println!("  buffers that differ: {changed:?}");
 }

@@ -67,13 +67,35 @@ macro_rules! version {
     ($name:literal $prefix:literal: $insert:ident $delete:ident $lookup:ident $record:ident $carry:ident $save:ident $load:ident) => {{
         extern "C" {
             fn $insert(
-                t: Word, n: usize, i: u32, p: u32, vh: u64, vl: u64, mh: u64, ml: u64, a: u32, plan: Cell, room: usize, c: Cell, s: Cell,
+                t: Word,
+                n: usize,
+                i: u32,
+                p: u32,
+                vh: u64,
+                vl: u64,
+                mh: u64,
+                ml: u64,
+                a: u32,
+                plan: Cell,
+                room: usize,
+                c: Cell,
+                s: Cell,
             ) -> u32;
             fn $delete(t: Word, n: usize, i: u32, plan: Cell, room: usize, c: Cell, s: Cell) -> u32;
             fn $lookup(t: Word, n: usize, h: u64, l: u64, slot: Cell, i: Cell, a: Cell, s: Cell) -> u32;
             fn $record(t: Word, n: usize, slot: u32, first: Cell) -> u32;
             fn $carry(
-                t: *mut u64, n: usize, plan: *const u32, room: usize, i: u32, p: u32, vh: u64, vl: u64, mh: u64, ml: u64, a: u32,
+                t: *mut u64,
+                n: usize,
+                plan: *const u32,
+                room: usize,
+                i: u32,
+                p: u32,
+                vh: u64,
+                vl: u64,
+                mh: u64,
+                ml: u64,
+                a: u32,
                 progress: *mut ProgressRecord,
             ) -> u64;
             fn $save(t: Word, n: usize, image: *mut u8, bytes: usize, c: Cell, s: Cell) -> u32;
