@@ -57,7 +57,7 @@ static void fill_ends(const uint64_t *table, size_t slots, bool up, uint16_t *en
 {
     for (size_t slot = 0; slot < slots; slot++) {
         size_t end = 0;
-        if (!is_empty(table + slot * WORDS))
+        if (id_of(table + slot * WORDS) != 0)
             end = up ? slots - end_up(table, slot) : end_down(table, slots, slot);
         ends[up ? slots - 1 - slot : slot] = (uint16_t)end;
     }

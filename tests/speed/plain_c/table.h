@@ -1,5 +1,5 @@
 /* Checks 1 to 4 of a table and the tests of one record or two, for the C version of the library's algorithms.
-   Everything is static, so that each file of calls has the loops inlined. */
+   Everything is static, so that each file of calls has the loops inlined. After check 2 an id of 0 tells an empty slot. */
 #ifndef SPEED_TABLE_H
 #define SPEED_TABLE_H
 
@@ -38,15 +38,25 @@ static inline uint32_t id_of(const uint64_t *record)
     return (uint32_t)(record[4] >> 32);
 }
 
+static inline bool rest_is_sound(const uint64_t *record)
+{
+    return record[5] <= PRIORITY_MOST && (record[0] & ~record[2]) == 0 && (record[1] & ~record[3]) == 0;
+}
+
 static inline bool is_sound(const uint64_t *record)
 {
-    return id_of(record) != 0 && record[5] <= PRIORITY_MOST && (record[0] & ~record[2]) == 0
-        && (record[1] & ~record[3]) == 0;
+    return id_of(record) != 0 && rest_is_sound(record);
+}
+
+/* Whether a record is empty or sound. */
+static inline bool is_fit(const uint64_t *record)
+{
+    return id_of(record) != 0 ? rest_is_sound(record) : is_empty(record);
 }
 
 static inline bool matches(const uint64_t *record, uint64_t key_high, uint64_t key_low)
 {
-    return ((key_high ^ record[0]) & record[2]) == 0 && ((key_low ^ record[1]) & record[3]) == 0 && !is_empty(record);
+    return ((key_high ^ record[0]) & record[2]) == 0 && ((key_low ^ record[1]) & record[3]) == 0 && id_of(record) != 0;
 }
 
 static inline bool overlap(const uint64_t *first, const uint64_t *second)
@@ -56,7 +66,7 @@ static inline bool overlap(const uint64_t *first, const uint64_t *second)
 
 static inline bool distinct(const uint64_t *first, const uint64_t *second)
 {
-    return id_of(first) != id_of(second) && !is_empty(first) && !is_empty(second);
+    return id_of(first) != id_of(second) && id_of(first) != 0 && id_of(second) != 0;
 }
 
 /* Whether the first rule, standing before the second, is out of order. */
@@ -89,8 +99,7 @@ static inline check check_slots(const uint64_t *table, size_t words)
         return shape;
     size_t slots = words / WORDS;
     for (size_t slot = 0; slot < slots; slot++) {
-        const uint64_t *record = table + slot * WORDS;
-        if (!is_sound(record) && !is_empty(record))
+        if (!is_fit(table + slot * WORDS))
             return fail(RECORD, slot);
     }
     return pass();
@@ -98,10 +107,10 @@ static inline check check_slots(const uint64_t *table, size_t words)
 
 static inline bool stands_in(const uint32_t *ids, size_t count, uint32_t id)
 {
-    bool found = false;
+    uint32_t found = 0;
     for (size_t earlier = 0; earlier < count; earlier++)
         found |= ids[earlier] == id;
-    return found;
+    return found != 0;
 }
 
 /* Check 3, of records that are empty or sound: an id of 0 is an empty slot's. */
@@ -135,7 +144,7 @@ static inline bool disorder_before(const uint64_t *table, size_t slot)
 static inline check check_order(const uint64_t *table, size_t slots)
 {
     for (size_t slot = 0; slot < slots; slot++)
-        if (!is_empty(table + slot * WORDS) && disorder_before(table, slot))
+        if (id_of(table + slot * WORDS) != 0 && disorder_before(table, slot))
             return fail(ORDER, slot);
     return pass();
 }

@@ -2,7 +2,7 @@
 // Check 3 runs over a column of ids without early exit, check 4 over the records, four a step.
 
 use crate::answers::{refuse, Record, Refusal, ORDER, RECORD, SHAPE, SLOTS_MOST, TWICE};
-use crate::records::{id_of, is_empty, is_sound, misordered};
+use crate::records::{id_of, is_fit, misordered};
 
 /// Check 1.
 pub fn records_of(table: &[u64]) -> Result<&[Record], Refusal> {
@@ -17,7 +17,7 @@ pub fn records_of(table: &[u64]) -> Result<&[Record], Refusal> {
 pub fn check_slots(table: &[u64]) -> Result<&[Record], Refusal> {
     let records = records_of(table)?;
     for (slot, record) in records.iter().enumerate() {
-        if !is_sound(record) && !is_empty(record) {
+        if !is_fit(record) {
             return refuse(RECORD, slot);
         }
     }
@@ -48,7 +48,7 @@ fn stands_in(ids: &[u32], id: u32) -> bool {
 /// Check 4.
 pub fn check_order(records: &[Record]) -> Result<(), Refusal> {
     for (slot, record) in records.iter().enumerate() {
-        if !is_empty(record) && disorder_before(&records[..slot], record) {
+        if id_of(record) != 0 && disorder_before(&records[..slot], record) {
             return refuse(ORDER, slot);
         }
     }

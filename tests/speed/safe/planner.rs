@@ -2,7 +2,7 @@
 // Position p is slot p going down, and the slot as far from the last one going up.
 
 use crate::answers::{Record, PUT_IN, SLOTS_MOST};
-use crate::records::{is_empty, misordered};
+use crate::records::{id_of, misordered};
 
 pub type Column = [u16; SLOTS_MOST];
 
@@ -59,7 +59,7 @@ fn fill_ends(records: &[Record], up: bool, ends: &mut Column) {
     for (slot, record) in records.iter().enumerate() {
         let position = if up { records.len() - 1 - slot } else { slot };
         let window = || if up { window_up(&records[..slot], record) } else { window_down(&records[slot + 1..], record) };
-        ends[position] = if is_empty(record) { 0 } else { (position + 1 + window()) as u16 };
+        ends[position] = if id_of(record) == 0 { 0 } else { (position + 1 + window()) as u16 };
     }
 }
 

@@ -2,7 +2,7 @@
 // Check 3 runs over a column of ids without early exit, check 4 over the records, four a step.
 
 use crate::answers::{refuse, Record, Refusal, ORDER, RECORD, SHAPE, SLOTS_MOST, TWICE};
-use crate::records::{at, id_of, is_empty, is_sound, misordered, put};
+use crate::records::{at, id_of, is_fit, misordered, put};
 
 /// Check 1: the table's words as records.
 pub fn records_of(table: &[u64]) -> Result<&[Record], Refusal> {
@@ -19,7 +19,7 @@ pub fn check_slots(table: &[u64]) -> Result<&[Record], Refusal> {
     let mut slot = 0;
     while slot < records.len() {
         let record = unsafe { records.get_unchecked(slot) };
-        if !is_sound(record) && !is_empty(record) {
+        if !is_fit(record) {
             return refuse(RECORD, slot);
         }
         slot += 1;
@@ -66,25 +66,26 @@ pub fn check_order(records: &[Record]) -> Result<(), Refusal> {
 
 unsafe fn disorder_before(records: &[Record], slot: usize) -> bool {
     let record = records.get_unchecked(slot);
-    if is_empty(record) {
+    if id_of(record) == 0 {
         return false;
     }
-    let mut earlier = 0;
-    while earlier + 3 < slot {
-        if misordered(records.get_unchecked(earlier), record)
-            || misordered(records.get_unchecked(earlier + 1), record)
-            || misordered(records.get_unchecked(earlier + 2), record)
-            || misordered(records.get_unchecked(earlier + 3), record)
+    let mut earlier = records.as_ptr();
+    let fours = earlier.add(slot & !3);
+    while earlier != fours {
+        if misordered(&*earlier, record)
+            || misordered(&*earlier.add(1), record)
+            || misordered(&*earlier.add(2), record)
+            || misordered(&*earlier.add(3), record)
         {
             return true;
         }
-        earlier += 4;
+        earlier = earlier.add(4);
     }
-    while earlier < slot {
-        if misordered(records.get_unchecked(earlier), record) {
+    while earlier != record {
+        if misordered(&*earlier, record) {
             return true;
         }
-        earlier += 1;
+        earlier = earlier.add(1);
     }
     false
 }

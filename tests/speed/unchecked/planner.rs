@@ -2,7 +2,7 @@
 // Position p is slot p going down, and the slot as far from the last one going up.
 
 use crate::answers::{Record, PUT_IN, SLOTS_MOST};
-use crate::records::{at, is_empty, misordered, put};
+use crate::records::{at, id_of, misordered, put};
 
 pub type Column = [u16; SLOTS_MOST];
 
@@ -12,60 +12,66 @@ pub struct Choice {
     pub position: usize,
 }
 
-/// One past the last slot of a rule's window, going down.
-unsafe fn end_down(records: &[Record], slot: usize) -> usize {
-    let record = records.get_unchecked(slot);
-    let mut later = slot + 1;
-    while later + 3 < records.len() {
-        if misordered(records.get_unchecked(later), record) {
-            return later + 1;
+/// How many slots after a rule its window has, going down.
+unsafe fn window_down(records: &[Record], slot: usize) -> usize {
+    let record: *const Record = records.get_unchecked(slot);
+    let mut later = record.add(1);
+    let count = records.len() - slot - 1;
+    let fours = later.add(count & !3);
+    let reached = |later: *const Record| later.offset_from_unsigned(record);
+    while later != fours {
+        if misordered(&*later, &*record) {
+            return reached(later);
         }
-        if misordered(records.get_unchecked(later + 1), record) {
-            return later + 2;
+        if misordered(&*later.add(1), &*record) {
+            return reached(later) + 1;
         }
-        if misordered(records.get_unchecked(later + 2), record) {
-            return later + 3;
+        if misordered(&*later.add(2), &*record) {
+            return reached(later) + 2;
         }
-        if misordered(records.get_unchecked(later + 3), record) {
-            return later + 4;
+        if misordered(&*later.add(3), &*record) {
+            return reached(later) + 3;
         }
-        later += 4;
+        later = later.add(4);
     }
-    while later < records.len() {
-        if misordered(records.get_unchecked(later), record) {
-            return later + 1;
+    let end = record.add(1 + count);
+    while later != end {
+        if misordered(&*later, &*record) {
+            return reached(later);
         }
-        later += 1;
+        later = later.add(1);
     }
-    later
+    count
 }
 
-/// The first slot of a rule's window, going up: the lowest one.
-unsafe fn end_up(records: &[Record], slot: usize) -> usize {
-    let record = records.get_unchecked(slot);
-    let mut before = slot;
-    while before > 3 {
-        if misordered(record, records.get_unchecked(before - 1)) {
-            return before - 1;
+/// How many slots before a rule its window has, going up.
+unsafe fn window_up(records: &[Record], slot: usize) -> usize {
+    let record: *const Record = records.get_unchecked(slot);
+    let mut before = record;
+    let fours = record.sub(slot & !3);
+    let reached = |before: *const Record| record.offset_from_unsigned(before);
+    while before != fours {
+        if misordered(&*record, &*before.sub(1)) {
+            return reached(before) + 1;
         }
-        if misordered(record, records.get_unchecked(before - 2)) {
-            return before - 2;
+        if misordered(&*record, &*before.sub(2)) {
+            return reached(before) + 2;
         }
-        if misordered(record, records.get_unchecked(before - 3)) {
-            return before - 3;
+        if misordered(&*record, &*before.sub(3)) {
+            return reached(before) + 3;
         }
-        if misordered(record, records.get_unchecked(before - 4)) {
-            return before - 4;
-        }
-        before -= 4;
-    }
-    while before > 0 {
-        before -= 1;
-        if misordered(record, records.get_unchecked(before)) {
-            return before;
+        before = before.sub(4);
+        if misordered(&*record, &*before) {
+            return reached(before);
         }
     }
-    0
+    while before != records.as_ptr() {
+        before = before.sub(1);
+        if misordered(&*record, &*before) {
+            return reached(before);
+        }
+    }
+    slot
 }
 
 /// For each position one past its window's last position, or 0 where the slot is empty.
@@ -74,12 +80,12 @@ unsafe fn fill_ends(records: &[Record], up: bool, ends: &mut Column) {
     let mut slot = 0;
     while slot < slots {
         let position = if up { slots - 1 - slot } else { slot };
-        let end = if is_empty(records.get_unchecked(slot)) {
+        let end = if id_of(records.get_unchecked(slot)) == 0 {
             0
         } else if up {
-            slots - end_up(records, slot)
+            position + 1 + window_up(records, slot)
         } else {
-            end_down(records, slot)
+            position + 1 + window_down(records, slot)
         };
         put(ends, position, end as u16);
         slot += 1;

@@ -1,5 +1,5 @@
-// Tests of one slot's record, and of two; reads and stores of a slice without a bounds check.
-// The test of a pair ends at the first word that keeps the two apart.
+// Reads and stores without a bounds check; tests of one slot's record, and of two, which end at the first word that tells.
+// After check 2 an id of 0 tells an empty slot: no further word is kept in a register for it.
 
 use crate::answers::{Record, PRIORITY_MOST};
 
@@ -28,13 +28,28 @@ pub fn id_of(record: &Record) -> u32 {
 }
 
 #[inline(always)]
+fn rest_is_sound(record: &Record) -> bool {
+    record[5] <= PRIORITY_MOST && record[0] & !record[2] == 0 && record[1] & !record[3] == 0
+}
+
+#[inline(always)]
 pub fn is_sound(record: &Record) -> bool {
-    id_of(record) != 0 && record[5] <= PRIORITY_MOST && record[0] & !record[2] == 0 && record[1] & !record[3] == 0
+    id_of(record) != 0 && rest_is_sound(record)
+}
+
+/// Whether a record is empty or sound.
+#[inline(always)]
+pub fn is_fit(record: &Record) -> bool {
+    if id_of(record) != 0 {
+        rest_is_sound(record)
+    } else {
+        is_empty(record)
+    }
 }
 
 #[inline(always)]
 pub fn matches(record: &Record, key: [u64; 2]) -> bool {
-    (key[0] ^ record[0]) & record[2] == 0 && (key[1] ^ record[1]) & record[3] == 0 && !is_empty(record)
+    (key[0] ^ record[0]) & record[2] == 0 && (key[1] ^ record[1]) & record[3] == 0 && id_of(record) != 0
 }
 
 #[inline(always)]
@@ -44,7 +59,7 @@ pub fn overlap(first: &Record, second: &Record) -> bool {
 
 #[inline(always)]
 fn distinct(first: &Record, second: &Record) -> bool {
-    id_of(first) != id_of(second) && !is_empty(first) && !is_empty(second)
+    id_of(first) != id_of(second) && id_of(first) != 0 && id_of(second) != 0
 }
 
 /// Whether the first rule, standing before the second, is out of order.
