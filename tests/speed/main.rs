@@ -5,6 +5,7 @@ mod cases;
 mod edits;
 mod inputs;
 mod instructions;
+mod properties;
 mod reference_calls;
 mod report;
 mod self_check;

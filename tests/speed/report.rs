@@ -3,6 +3,7 @@
 
 use crate::cases::{Case, Measured};
 use crate::instructions::{Counts, Functions};
+use crate::properties;
 use crate::tables::{Kind, KINDS};
 use crate::targets::{self, Target};
 use crate::versions::{Call, CALLS, GCC, OURS, REFERENCE, SAFE, UNCHECKED};
@@ -30,6 +31,7 @@ pub fn growth(counts: &Counts, kind: Kind, call: Call) -> f64 {
 
 pub fn print(counts: &Counts, functions: &Functions, every_table: bool) {
     println!("Instructions of one call, by callgrind. Ratios are ours / other at {} slots.\n", grouped(LARGEST as u64));
+    properties::print(LARGEST);
     print_tables(counts, &[Call::PlanInsert], "Planning an insert");
     print_worst(counts);
     if every_table {

@@ -3,6 +3,7 @@
 
 use crate::edits::edit;
 use crate::inputs::{inputs_of, perform, Input, Lent};
+use crate::properties;
 use crate::tables::{make, Kind, KINDS};
 use crate::versions::{versions, Call, Version};
 use crate::SIZES;
@@ -38,6 +39,10 @@ pub fn run() -> bool {
     let mut sound = true;
     for slots in SIZES {
         for kind in KINDS {
+            if !properties::hold(kind, slots) {
+                println!("speed: the table of {slots} slots, {}, is not what it says", kind.name());
+                sound = false;
+            }
             for input in inputs_of(&make(kind, slots)) {
                 sound &= is_accepted(&versions, &input, slots, kind, &mut tally);
             }

@@ -12,7 +12,9 @@ pub enum Kind {
     /// Nearly all pairs overlap, priorities fall; the empty slot is where the new rule belongs.
     Dense,
     /// The same rules; the empty slot is the last and the new rule belongs first, so that the plan is the longest.
-    DenseFar,
+    DenseDown,
+    /// The mirror: the empty slot is the first and the new rule belongs last.
+    DenseUp,
     /// Sparse patterns, priorities fall.
     Sorted,
     /// Prefixes of 8 to 32 bits, the longest first, by priorities that rise with the length.
@@ -23,15 +25,16 @@ pub enum Kind {
     HalfEmpty,
 }
 
-pub const KINDS: [Kind; 7] =
-    [Kind::Sparse, Kind::Dense, Kind::DenseFar, Kind::Sorted, Kind::Prefixes, Kind::Undecided, Kind::HalfEmpty];
+pub const KINDS: [Kind; 8] =
+    [Kind::Sparse, Kind::Dense, Kind::DenseDown, Kind::DenseUp, Kind::Sorted, Kind::Prefixes, Kind::Undecided, Kind::HalfEmpty];
 
 impl Kind {
     pub fn name(self) -> &'static str {
         match self {
             Kind::Sparse => "sparse",
             Kind::Dense => "dense",
-            Kind::DenseFar => "dense, long plan",
+            Kind::DenseDown => "dense, long plan down",
+            Kind::DenseUp => "dense, long plan up",
             Kind::Sorted => "sorted priorities",
             Kind::Prefixes => "prefixes",
             Kind::Undecided => "first word undecided",
@@ -42,7 +45,8 @@ impl Kind {
     fn is_empty_at(self, slots: usize, slot: usize) -> bool {
         match self {
             Kind::HalfEmpty => slot % 2 == 1,
-            Kind::DenseFar => slot == slots - 1,
+            Kind::DenseDown => slot == slots - 1,
+            Kind::DenseUp => slot == 0,
             _ => slot == slots / 2,
         }
     }
@@ -98,7 +102,7 @@ fn any_rule(kind: Kind, slot: usize, random: &mut Random) -> Rule {
     let (wanted, mask, priority) = match kind {
         Kind::Sparse | Kind::HalfEmpty => (random.wide(), random.wide(), random.below(LEVELS) as u64),
         Kind::Sorted => (random.wide(), random.wide(), falling),
-        Kind::Dense | Kind::DenseFar => (random.wide(), 1 << random.below(DENSE_BITS), falling),
+        Kind::Dense | Kind::DenseDown | Kind::DenseUp => (random.wide(), 1 << random.below(DENSE_BITS), falling),
         Kind::Prefixes => {
             let length = random.between(8, 32);
             (random.wide(), u128::MAX << (128 - length), 100 * length as u64)
@@ -116,7 +120,8 @@ fn new_rule(kind: Kind, slots: usize, random: &mut Random) -> Rule {
     let (mask, priority) = match kind {
         Kind::Sparse | Kind::Sorted | Kind::HalfEmpty => (u128::MAX, 30_001),
         Kind::Dense => (0, DENSE_PRIORITY + 1 - 2 * (slots / 2) as u64),
-        Kind::DenseFar => (0, DENSE_PRIORITY + 1),
+        Kind::DenseDown => (0, DENSE_PRIORITY + 1),
+        Kind::DenseUp => (0, DENSE_PRIORITY + 1 - 2 * slots as u64),
         Kind::Prefixes => (u128::MAX << (128 - 20), 2000),
         Kind::Undecided => (UNDECIDED_MASK, 30_001),
     };

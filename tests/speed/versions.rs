@@ -63,43 +63,44 @@ impl Version {
     }
 }
 
+/// Declares the seven calls of a version and names them; parameters as in the types above.
 macro_rules! version {
     ($name:literal $prefix:literal: $insert:ident $delete:ident $lookup:ident $record:ident $carry:ident $save:ident $load:ident) => {{
         extern "C" {
             fn $insert(
-                t: Word,
-                n: usize,
-                i: u32,
-                p: u32,
-                vh: u64,
-                vl: u64,
-                mh: u64,
-                ml: u64,
-                a: u32,
-                plan: Cell,
-                room: usize,
-                c: Cell,
-                s: Cell,
+                _: Word,
+                _: usize,
+                _: u32,
+                _: u32,
+                _: u64,
+                _: u64,
+                _: u64,
+                _: u64,
+                _: u32,
+                _: Cell,
+                _: usize,
+                _: Cell,
+                _: Cell,
             ) -> u32;
-            fn $delete(t: Word, n: usize, i: u32, plan: Cell, room: usize, c: Cell, s: Cell) -> u32;
-            fn $lookup(t: Word, n: usize, h: u64, l: u64, slot: Cell, i: Cell, a: Cell, s: Cell) -> u32;
-            fn $record(t: Word, n: usize, slot: u32, first: Cell) -> u32;
+            fn $delete(_: Word, _: usize, _: u32, _: Cell, _: usize, _: Cell, _: Cell) -> u32;
+            fn $lookup(_: Word, _: usize, _: u64, _: u64, _: Cell, _: Cell, _: Cell, _: Cell) -> u32;
+            fn $record(_: Word, _: usize, _: u32, _: Cell) -> u32;
             fn $carry(
-                t: *mut u64,
-                n: usize,
-                plan: *const u32,
-                room: usize,
-                i: u32,
-                p: u32,
-                vh: u64,
-                vl: u64,
-                mh: u64,
-                ml: u64,
-                a: u32,
-                progress: *mut ProgressRecord,
+                _: *mut u64,
+                _: usize,
+                _: *const u32,
+                _: usize,
+                _: u32,
+                _: u32,
+                _: u64,
+                _: u64,
+                _: u64,
+                _: u64,
+                _: u32,
+                _: *mut ProgressRecord,
             ) -> u64;
-            fn $save(t: Word, n: usize, image: *mut u8, bytes: usize, c: Cell, s: Cell) -> u32;
-            fn $load(image: *const u8, bytes: usize, t: *mut u64, n: usize, s: Cell) -> u32;
+            fn $save(_: Word, _: usize, _: *mut u8, _: usize, _: Cell, _: Cell) -> u32;
+            fn $load(_: *const u8, _: usize, _: *mut u64, _: usize, _: Cell) -> u32;
         }
         Version {
             name: $name,
@@ -125,10 +126,17 @@ pub const REFERENCE: usize = 4;
 #[rustfmt::skip]
 pub fn versions() -> Vec<Version> {
     vec![
-        version!("ours" "tcam": tcam_plan_insert tcam_plan_delete tcam_lookup tcam_slot_record tcam_carry_out tcam_save tcam_load),
-        version!("safe Rust" "safe": safe_plan_insert safe_plan_delete safe_lookup safe_slot_record safe_carry_out safe_save safe_load),
-        version!("unchecked Rust" "unchecked": unchecked_plan_insert unchecked_plan_delete unchecked_lookup unchecked_slot_record unchecked_carry_out unchecked_save unchecked_load),
-        version!("gcc -O3" "c": c_plan_insert c_plan_delete c_lookup c_slot_record c_carry_out c_save c_load),
-        version!("reference" "reference": reference_plan_insert reference_plan_delete reference_lookup reference_slot_record reference_carry_out reference_save reference_load),
+        version!("ours" "tcam":
+            tcam_plan_insert tcam_plan_delete tcam_lookup tcam_slot_record tcam_carry_out tcam_save tcam_load),
+        version!("safe Rust" "safe":
+            safe_plan_insert safe_plan_delete safe_lookup safe_slot_record safe_carry_out safe_save safe_load),
+        version!("unchecked Rust" "unchecked":
+            unchecked_plan_insert unchecked_plan_delete unchecked_lookup unchecked_slot_record unchecked_carry_out
+            unchecked_save unchecked_load),
+        version!("gcc -O3" "c":
+            c_plan_insert c_plan_delete c_lookup c_slot_record c_carry_out c_save c_load),
+        version!("reference" "reference":
+            reference_plan_insert reference_plan_delete reference_lookup reference_slot_record reference_carry_out
+            reference_save reference_load),
     ]
 }

@@ -1,4 +1,4 @@
-// A hand-written Rust version of the library's algorithms without bounds checks: `get_unchecked`, and pointers in the loops over pairs.
+// A hand-written Rust version of the same algorithms without bounds checks: `get_unchecked`, and pointers in the loops over pairs.
 // Slots are counted once, by check 1; each unchecked index stands below that count or below the length just tested.
 
 #[path = "../answers.rs"]
