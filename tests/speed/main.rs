@@ -1,0 +1,46 @@
+// The speed comparison: this library beside tests/reference, safe Rust, unchecked Rust and C, all on the same tables.
+// Flags: --self-check, --times [--rounds N], --instructions [--every-table]; --calls is what --instructions runs under callgrind.
+
+mod cases;
+mod edits;
+mod inputs;
+mod instructions;
+mod properties;
+mod reference_calls;
+mod report;
+mod self_check;
+mod tables;
+mod targets;
+mod times;
+mod versions;
+
+/// Numbers of slots; each is twice the one before.
+pub const SIZES: [usize; 3] = [256, 512, 1024];
+const ROUNDS: usize = 101;
+
+fn has_flag(name: &str) -> bool {
+    std::env::args().any(|word| word == name)
+}
+
+fn number_flag(name: &str, otherwise: usize) -> usize {
+    let words: Vec<String> = std::env::args().collect();
+    match words.iter().position(|word| word == name) {
+        None => otherwise,
+        Some(place) => words.get(place + 1).and_then(|word| word.parse().ok()).unwrap_or_else(|| panic!("{name} takes a number")),
+    }
+}
+
+fn main() {
+    if has_flag("--calls") {
+        return cases::make_calls();
+    }
+    if has_flag("--self-check") && !self_check::run() {
+        std::process::exit(1);
+    }
+    if has_flag("--instructions") {
+        instructions::run(has_flag("--every-table"));
+    }
+    if has_flag("--times") {
+        times::run(number_flag("--rounds", ROUNDS).max(1));
+    }
+}

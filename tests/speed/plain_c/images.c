@@ -1,0 +1,160 @@
+/* Saving a table as an image and loading an image in C: entries of ten bytes, bodies of forty, big-endian.
+   A load builds the table meant apart, checks it there, and then copies it. */
+#include "table.h"
+
+static void put_16(uint8_t *at, size_t number)
+{
+    uint16_t bytes = __builtin_bswap16((uint16_t)number);
+    memcpy(at, &bytes, sizeof bytes);
+}
+
+static void put_32(uint8_t *at, uint64_t number)
+{
+    uint32_t bytes = __builtin_bswap32((uint32_t)number);
+    memcpy(at, &bytes, sizeof bytes);
+}
+
+static void put_64(uint8_t *at, uint64_t number)
+{
+    uint64_t bytes = __builtin_bswap64(number);
+    memcpy(at, &bytes, sizeof bytes);
+}
+
+static uint16_t number_16(const uint8_t *at)
+{
+    uint16_t bytes;
+    memcpy(&bytes, at, sizeof bytes);
+    return __builtin_bswap16(bytes);
+}
+
+static uint32_t number_32(const uint8_t *at)
+{
+    uint32_t bytes;
+    memcpy(&bytes, at, sizeof bytes);
+    return __builtin_bswap32(bytes);
+}
+
+static uint64_t number_64(const uint8_t *at)
+{
+    uint64_t bytes;
+    memcpy(&bytes, at, sizeof bytes);
+    return __builtin_bswap64(bytes);
+}
+
+static void put_body(uint8_t *body, const uint64_t *record)
+{
+    put_64(body, record[0]);
+    put_64(body + 8, record[1]);
+    put_64(body + 16, record[2]);
+    put_64(body + 24, record[3]);
+    put_32(body + 32, record[5]);
+    put_32(body + 36, record[4]);
+}
+
+static void put_rules(const uint64_t *table, size_t slots, size_t rules, uint8_t *image)
+{
+    size_t entry = 4, body = 4 + 10 * rules;
+    for (size_t slot = 0; slot < slots; slot++) {
+        const uint64_t *record = table + slot * WORDS;
+        if (is_empty(record))
+            continue;
+        put_32(image + entry, id_of(record));
+        put_16(image + entry + 4, slot);
+        put_32(image + entry + 6, body);
+        put_body(image + body, record);
+        entry += 10;
+        body += 40;
+    }
+}
+
+uint32_t c_save(const uint64_t *table, size_t words, uint8_t *image, size_t image_bytes, uint32_t *bytes, uint32_t *spot)
+{
+    size_t slots = words / WORDS, rules = 0;
+    check sound = check_table(table, words);
+    if (sound.number != OK) {
+        *spot = sound.spot;
+        return sound.number;
+    }
+    for (size_t slot = 0; slot < slots; slot++)
+        rules += !is_empty(table + slot * WORDS);
+    if (image_bytes < 4 + 50 * rules) {
+        *spot = (uint32_t)(4 + 50 * rules);
+        return SHORT;
+    }
+    put_16(image, slots);
+    put_16(image + 2, rules);
+    put_rules(table, slots, rules, image);
+    *bytes = (uint32_t)(4 + 50 * rules);
+    return OK;
+}
+
+/* The image's length and head, for a table of so many slots. */
+static check check_head(const uint8_t *image, size_t image_bytes, size_t slots)
+{
+    if (image_bytes < 4 || number_16(image) != slots)
+        return fail(IMAGE, 0);
+    size_t rules = number_16(image + 2);
+    return rules > slots || image_bytes != 4 + 50 * rules ? fail(IMAGE, 2) : pass();
+}
+
+static check check_entries(const uint8_t *image, size_t slots, size_t rules)
+{
+    size_t lowest = 0, body = 4 + 10 * rules;
+    for (size_t entry = 4; entry < 4 + 10 * rules; entry += 10) {
+        size_t slot = number_16(image + entry + 4);
+        if (number_32(image + entry) == 0)
+            return fail(IMAGE, entry);
+        if (slot < lowest || slot >= slots)
+            return fail(IMAGE, entry + 4);
+        if (number_32(image + entry + 6) != body)
+            return fail(IMAGE, entry + 6);
+        lowest = slot + 1;
+        body += 40;
+    }
+    return pass();
+}
+
+/* The records that the bodies mean, each sound, into their slots. */
+static check fill(const uint8_t *image, size_t rules, uint64_t *table)
+{
+    const uint8_t *entry = image + 4, *body = image + 4 + 10 * rules;
+    for (size_t place = 0; place < rules; place++, entry += 10, body += 40) {
+        uint64_t *record = table + number_16(entry + 4) * WORDS;
+        uint64_t last = number_64(body + 32);
+        record[0] = number_64(body);
+        record[1] = number_64(body + 8);
+        record[2] = number_64(body + 16);
+        record[3] = number_64(body + 24);
+        record[4] = (uint64_t)number_32(entry) << 32 | (uint32_t)last;
+        record[5] = last >> 32;
+        if (!is_sound(record))
+            return fail(IMAGE, (size_t)(body - image));
+    }
+    return pass();
+}
+
+static check load_checked(const uint8_t *image, size_t rules, uint64_t *table, size_t words)
+{
+    uint64_t working[SLOTS_MOST * WORDS] = {0};
+    check made = fill(image, rules, working);
+    if (made.number == OK)
+        made = check_pairs(working, words / WORDS);
+    if (made.number == OK)
+        memcpy(table, working, words * sizeof *table);
+    return made;
+}
+
+uint32_t c_load(const uint8_t *image, size_t image_bytes, uint64_t *table, size_t words, uint32_t *spot)
+{
+    size_t slots = words / WORDS;
+    check made = check_shape(words);
+    if (made.number == OK)
+        made = check_head(image, image_bytes, slots);
+    if (made.number == OK)
+        made = check_entries(image, slots, number_16(image + 2));
+    if (made.number == OK)
+        made = load_checked(image, number_16(image + 2), table, words);
+    if (made.number != OK)
+        *spot = made.spot;
+    return made.number;
+}

@@ -1,0 +1,32 @@
+/* Lookup, and the part of the table that is a slot's record, in C: checks 1 and 2, then one pass or one slot.
+   Both passes end early. */
+#include "table.h"
+
+uint32_t c_lookup(const uint64_t *table, size_t words, uint64_t key_high, uint64_t key_low, uint32_t *slot, uint32_t *id,
+                  uint32_t *action, uint32_t *spot)
+{
+    check slots_check = check_slots(table, words);
+    if (slots_check.number != OK) {
+        *spot = slots_check.spot;
+        return slots_check.number;
+    }
+    size_t slots = words / WORDS;
+    size_t hit = 0;
+    while (hit < slots && !matches(table + hit * WORDS, key_high, key_low))
+        hit++;
+    bool found = hit < slots;
+    *slot = found ? (uint32_t)hit : 0;
+    *id = found ? id_of(table + hit * WORDS) : 0;
+    *action = found ? (uint32_t)table[hit * WORDS + 4] : 0;
+    return OK;
+}
+
+uint32_t c_slot_record(const uint64_t *table, size_t words, uint32_t slot, uint32_t *first)
+{
+    if (check_slots(table, words).number != OK || slot >= words / WORDS || is_empty(table + (size_t)slot * WORDS)) {
+        *first = 0;
+        return 0;
+    }
+    *first = slot * WORDS;
+    return WORDS;
+}

@@ -1,0 +1,214 @@
+/* Planning inserts and deletes in C: checks, windows, costs, the choice between the directions, and the chain's words.
+   Position p is slot p going down, and the slot as far from the last one going up. */
+#include "table.h"
+
+typedef struct choice {
+    bool up;
+    size_t cost;
+    size_t position;
+} choice;
+
+/* One past the last slot of a rule's window, going down. */
+static size_t end_down(const uint64_t *table, size_t slots, size_t slot)
+{
+    const uint64_t *record = table + slot * WORDS;
+    size_t later = slot + 1;
+    for (; later + 3 < slots; later += 4) {
+        const uint64_t *four = table + later * WORDS;
+        if (misordered(four, record))
+            return later + 1;
+        if (misordered(four + WORDS, record))
+            return later + 2;
+        if (misordered(four + 2 * WORDS, record))
+            return later + 3;
+        if (misordered(four + 3 * WORDS, record))
+            return later + 4;
+    }
+    for (; later < slots; later++)
+        if (misordered(table + later * WORDS, record))
+            return later + 1;
+    return slots;
+}
+
+/* The lowest slot of a rule's window, going up. */
+static size_t end_up(const uint64_t *table, size_t slot)
+{
+    const uint64_t *record = table + slot * WORDS;
+    size_t before = slot;
+    for (; before > 3; before -= 4) {
+        const uint64_t *four = table + (before - 4) * WORDS;
+        if (misordered(record, four + 3 * WORDS))
+            return before - 1;
+        if (misordered(record, four + 2 * WORDS))
+            return before - 2;
+        if (misordered(record, four + WORDS))
+            return before - 3;
+        if (misordered(record, four))
+            return before - 4;
+    }
+    for (; before > 0; before--)
+        if (misordered(record, table + (before - 1) * WORDS))
+            return before - 1;
+    return 0;
+}
+
+/* For each position one past its window's last position, or 0 where the slot is empty. */
+static void fill_ends(const uint64_t *table, size_t slots, bool up, uint16_t *ends)
+{
+    for (size_t slot = 0; slot < slots; slot++) {
+        size_t end = 0;
+        if (id_of(table + slot * WORDS) != 0)
+            end = up ? slots - end_up(table, slot) : end_down(table, slots, slot);
+        ends[up ? slots - 1 - slot : slot] = (uint16_t)end;
+    }
+}
+
+static uint16_t least_between(const uint16_t *costs, size_t from, size_t to, size_t top)
+{
+    uint16_t least = (uint16_t)top;
+    for (size_t at = from; at < to; at++)
+        least = costs[at] < least ? costs[at] : least;
+    return least;
+}
+
+/* The costs of all positions along one direction, the last position first. */
+static void fill_costs(const uint64_t *table, size_t slots, bool up, uint16_t *costs)
+{
+    uint16_t ends[SLOTS_MOST];
+    fill_ends(table, slots, up, ends);
+    for (size_t position = slots; position-- > 0;) {
+        size_t end = ends[position];
+        costs[position] = end == 0 ? 0 : (uint16_t)(least_between(costs, position + 1, end, slots) + 1);
+    }
+}
+
+static size_t first_of_cost(const uint16_t *costs, size_t from, size_t to, size_t cost)
+{
+    size_t at = from;
+    while (at < to && costs[at] != cost)
+        at++;
+    return at;
+}
+
+/* The choice of least cost in a range of positions along one direction. */
+static choice best_between(const uint16_t *costs, size_t slots, bool up, size_t from, size_t to)
+{
+    size_t cost = least_between(costs, from, to, slots);
+    return (choice){up, cost, first_of_cost(costs, from, to, cost)};
+}
+
+static uint32_t slot_at(size_t slots, bool up, size_t position)
+{
+    return (uint32_t)(up ? slots - 1 - position : position);
+}
+
+/* The chain's words, stored from the far end of the plan's front, and last the word that puts the new rule in. */
+static void write_plan(const uint16_t *costs, size_t slots, choice made, uint32_t *plan)
+{
+    size_t position = made.position;
+    for (size_t left = made.cost; left-- > 0;) {
+        size_t next = first_of_cost(costs, position + 1, slots, left);
+        plan[left] = slot_at(slots, made.up, position) << 16 | slot_at(slots, made.up, next);
+        position = next;
+    }
+    plan[made.cost] = (uint32_t)PUT_IN << 16 | slot_at(slots, made.up, made.position);
+}
+
+/* Checks 5 to 9. */
+static check check_rule(const uint64_t *table, size_t slots, const uint64_t *new)
+{
+    if (!is_sound(new))
+        return fail(RULE, 0);
+    size_t known = slot_of_id(table, slots, id_of(new));
+    if (known < slots)
+        return fail(KNOWN, known);
+    for (size_t slot = 0; slot < slots; slot++)
+        if (tied(table + slot * WORDS, new))
+            return fail(TIE, slot);
+    for (size_t slot = 0; slot < slots; slot++)
+        if (is_empty(table + slot * WORDS))
+            return pass();
+    return fail(FULL, 0);
+}
+
+/* Check 10, with A + 1 and B. */
+static check check_crossed(const uint64_t *table, size_t slots, const uint64_t *new, size_t *after, size_t *dependant)
+{
+    size_t above = slots, below = 0;
+    while (above > 0 && !precedes(table + (above - 1) * WORDS, new))
+        above--;
+    while (below < slots && !precedes(new, table + below * WORDS))
+        below++;
+    *after = above;
+    *dependant = below;
+    return above > below + 1 ? fail(CROSSED, above - 1) : pass();
+}
+
+/* Check 11 and the words, for a rule between A and B. */
+static check plan_between(const uint64_t *table, size_t slots, size_t after, size_t dependant, uint32_t *plan,
+                          size_t plan_words, uint32_t *count)
+{
+    uint16_t down[SLOTS_MOST], up[SLOTS_MOST];
+    fill_costs(table, slots, false, down);
+    fill_costs(table, slots, true, up);
+    choice best_down = best_between(down, slots, false, after, dependant < slots ? dependant + 1 : slots);
+    choice best_up = best_between(up, slots, true, slots - dependant, after > 0 ? slots - after + 1 : slots);
+    choice made = best_down.cost <= best_up.cost ? best_down : best_up;
+    if (plan_words < made.cost + 1)
+        return fail(SHORT, made.cost + 1);
+    write_plan(made.up ? up : down, slots, made, plan);
+    *count = (uint32_t)made.cost + 1;
+    return pass();
+}
+
+static check plan_new(const uint64_t *table, size_t words, const uint64_t *new, uint32_t *plan, size_t plan_words,
+                      uint32_t *count)
+{
+    size_t slots = words / WORDS, after, dependant;
+    check made = check_table(table, words);
+    if (made.number == OK)
+        made = check_rule(table, slots, new);
+    if (made.number == OK)
+        made = check_crossed(table, slots, new, &after, &dependant);
+    if (made.number == OK)
+        made = plan_between(table, slots, after, dependant, plan, plan_words, count);
+    return made;
+}
+
+uint32_t c_plan_insert(const uint64_t *table, size_t words, uint32_t id, uint32_t priority, uint64_t value_high,
+                       uint64_t value_low, uint64_t mask_high, uint64_t mask_low, uint32_t action, uint32_t *plan,
+                       size_t plan_words, uint32_t *count, uint32_t *spot)
+{
+    const uint64_t new[WORDS] = {value_high, value_low, mask_high, mask_low, (uint64_t)id << 32 | action, priority};
+    check made = plan_new(table, words, new, plan, plan_words, count);
+    if (made.number != OK)
+        *spot = made.spot;
+    return made.number;
+}
+
+static check plan_emptying(const uint64_t *table, size_t words, uint32_t id, uint32_t *plan, size_t plan_words)
+{
+    check sound = check_table(table, words);
+    if (sound.number != OK)
+        return sound;
+    if (id == 0)
+        return fail(RULE, 0);
+    size_t slot = slot_of_id(table, words / WORDS, id);
+    if (slot == words / WORDS)
+        return fail(UNKNOWN, 0);
+    if (plan_words < 1)
+        return fail(SHORT, 1);
+    plan[0] = (uint32_t)EMPTYING << 16 | (uint32_t)slot;
+    return pass();
+}
+
+uint32_t c_plan_delete(const uint64_t *table, size_t words, uint32_t id, uint32_t *plan, size_t plan_words, uint32_t *count,
+                       uint32_t *spot)
+{
+    check made = plan_emptying(table, words, id, plan, plan_words);
+    if (made.number == OK)
+        *count = 1;
+    else
+        *spot = made.spot;
+    return made.number;
+}

@@ -1,0 +1,66 @@
+/* One write of a plan in C: checks 1 and 2, the progress, whether the write fits, and the write.
+   A step that declines or is finished changes nothing. */
+#include "table.h"
+
+typedef struct progress_record {
+    uint32_t done;
+    uint32_t total;
+} progress_record;
+
+static bool stands_elsewhere(const uint64_t *table, size_t slots, size_t slot)
+{
+    uint32_t id = id_of(table + slot * WORDS);
+    for (size_t other = 0; other < slots; other++)
+        if (id_of(table + other * WORDS) == id && other != slot)
+            return true;
+    return false;
+}
+
+/* The slot exists, and is empty or its id stands in another slot too. */
+static bool is_free(const uint64_t *table, size_t slots, size_t slot)
+{
+    return slot < slots && (is_empty(table + slot * WORDS) || stands_elsewhere(table, slots, slot));
+}
+
+static bool is_occupied(const uint64_t *table, size_t slots, size_t slot)
+{
+    return slot < slots && !is_empty(table + slot * WORDS);
+}
+
+static bool fits(const uint64_t *table, size_t slots, size_t from, size_t to)
+{
+    if (from == PUT_IN)
+        return is_free(table, slots, to);
+    if (from == EMPTYING)
+        return is_occupied(table, slots, to);
+    return from != to && is_occupied(table, slots, from) && is_free(table, slots, to);
+}
+
+static uint64_t refusal(uint32_t number, uint32_t spot)
+{
+    return (uint64_t)spot << 32 | number;
+}
+
+uint64_t c_carry_out(uint64_t *table, size_t words, const uint32_t *plan, size_t plan_words, uint32_t id, uint32_t priority,
+                     uint64_t value_high, uint64_t value_low, uint64_t mask_high, uint64_t mask_low, uint32_t action,
+                     progress_record *progress)
+{
+    const uint64_t new[WORDS] = {value_high, value_low, mask_high, mask_low, (uint64_t)id << 32 | action, priority};
+    static const uint64_t vacant[WORDS] = {0};
+    check slots_check = check_slots(table, words);
+    if (slots_check.number != OK)
+        return refusal(slots_check.number, slots_check.spot);
+    if (progress->done > progress->total || progress->total > plan_words)
+        return refusal(WRITE, progress->done);
+    if (progress->done == progress->total)
+        return 0xFFFFFFFF;
+    size_t from = plan[progress->done] >> 16, to = plan[progress->done] & 0xFFFF;
+    if (from == PUT_IN && !is_sound(new))
+        return refusal(RULE, 0);
+    if (!fits(table, words / WORDS, from, to))
+        return refusal(WRITE, progress->done);
+    const uint64_t *record = from == PUT_IN ? new : from == EMPTYING ? vacant : table + from * WORDS;
+    memcpy(table + to * WORDS, record, WORDS * sizeof *record);
+    progress->done++;
+    return 0;
+}

@@ -1,0 +1,73 @@
+// What the tables of the comparison are made for, counted: rules, pairs that overlap, pairs that the first word tells apart, writes.
+// The self-check holds each table to it; the instruction counts are printed with it.
+
+use crate::tables::{make, Kind, KINDS};
+use reference::plan::plan_insert;
+use reference::table::{read_sound_table, Rule};
+
+pub struct Properties {
+    pub rules: usize,
+    pub pairs: usize,
+    pub overlapping: usize,
+    pub apart_by_first_word: usize,
+    pub falling: bool,
+    pub writes: usize,
+}
+
+pub fn properties(kind: Kind, slots: usize) -> Properties {
+    let table = make(kind, slots);
+    let entries = read_sound_table(&table.words).expect("a sound table");
+    let rules: Vec<Rule> = entries.into_iter().flatten().collect();
+    let mut counted = Properties {
+        rules: rules.len(),
+        pairs: rules.len() * (rules.len() - 1) / 2,
+        overlapping: 0,
+        apart_by_first_word: 0,
+        falling: rules.windows(2).all(|pair| pair[0].priority > pair[1].priority),
+        writes: plan_insert(&table.words, &table.new, slots).map_or(0, |plan| plan.len()),
+    };
+    for (place, rule) in rules.iter().enumerate() {
+        for earlier in &rules[..place] {
+            let apart = (earlier.value ^ rule.value) & earlier.mask & rule.mask;
+            counted.overlapping += usize::from(apart == 0);
+            counted.apart_by_first_word += usize::from(apart >> 64 != 0);
+        }
+    }
+    counted
+}
+
+/// Whether a table is what its kind says.
+pub fn hold(kind: Kind, slots: usize) -> bool {
+    let counted = properties(kind, slots);
+    let share = |count: usize| count as f64 / counted.pairs as f64;
+    let (overlapping, apart) = (share(counted.overlapping), share(counted.apart_by_first_word));
+    let of_kind = match kind {
+        Kind::Sparse | Kind::HalfEmpty => overlapping < 0.001 && apart > 0.99 && !counted.falling,
+        Kind::Sorted => overlapping < 0.001 && apart > 0.99 && counted.falling,
+        Kind::Dense => overlapping > 0.99 && counted.falling,
+        Kind::DenseDown | Kind::DenseUp => overlapping > 0.99 && counted.falling && 10 * counted.writes > 8 * slots,
+        Kind::Prefixes => counted.overlapping > 0 && overlapping < 0.01 && apart > 0.99,
+        Kind::Undecided => counted.overlapping == 0 && apart > 0.45 && apart < 0.55 && !counted.falling,
+    };
+    let rules = if kind == Kind::HalfEmpty { slots / 2 } else { slots - 1 };
+    of_kind && counted.rules == rules && counted.writes > 0
+}
+
+pub fn print(slots: usize) {
+    println!("### The tables, {slots} slots\n");
+    println!("| Table | rules | pairs | of them overlapping | apart by the first word | writes of the plan |");
+    println!("|---|---|---|---|---|---|");
+    for kind in KINDS {
+        let counted = properties(kind, slots);
+        println!(
+            "| {} | {} | {} | {} | {} | {} |",
+            kind.name(),
+            counted.rules,
+            counted.pairs,
+            counted.overlapping,
+            counted.apart_by_first_word,
+            counted.writes
+        );
+    }
+    println!();
+}

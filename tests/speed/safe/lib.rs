@@ -1,0 +1,16 @@
+// A safe Rust version of the library's algorithms, on records of six words from `as_chunks::<6>`.
+// `unsafe` stands only where lent pointers become slices, in answers.rs.
+
+#[path = "../answers.rs"]
+mod answers;
+mod checks;
+mod images;
+mod lookups;
+mod planner;
+mod plans;
+mod records;
+mod steps;
+
+use answers::*;
+
+export_calls!(safe_lookup safe_slot_record safe_plan_insert safe_plan_delete safe_carry_out safe_save safe_load);

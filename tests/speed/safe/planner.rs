@@ -1,0 +1,115 @@
+// Windows, costs, the choice between the directions, and the chain's words.
+// Position p is slot p going down, and the slot as far from the last one going up.
+
+use crate::answers::{Record, PUT_IN, SLOTS_MOST};
+use crate::records::{id_of, misordered};
+
+pub type Column = [u16; SLOTS_MOST];
+
+pub struct Choice {
+    pub up: bool,
+    pub cost: usize,
+    pub position: usize,
+}
+
+/// How many slots after a rule its window has, going down.
+fn window_down(later: &[Record], record: &Record) -> usize {
+    let (fours, rest) = later.as_chunks::<4>();
+    for (step, [first, second, third, fourth]) in fours.iter().enumerate() {
+        if misordered(first, record) {
+            return 4 * step + 1;
+        }
+        if misordered(second, record) {
+            return 4 * step + 2;
+        }
+        if misordered(third, record) {
+            return 4 * step + 3;
+        }
+        if misordered(fourth, record) {
+            return 4 * step + 4;
+        }
+    }
+    let place = rest.iter().position(|one| misordered(one, record));
+    place.map_or(later.len(), |place| 4 * fours.len() + place + 1)
+}
+
+/// How many slots before a rule its window has, going up.
+fn window_up(earlier: &[Record], record: &Record) -> usize {
+    let (rest, fours) = earlier.as_rchunks::<4>();
+    for (step, [first, second, third, fourth]) in fours.iter().rev().enumerate() {
+        if misordered(record, fourth) {
+            return 4 * step + 1;
+        }
+        if misordered(record, third) {
+            return 4 * step + 2;
+        }
+        if misordered(record, second) {
+            return 4 * step + 3;
+        }
+        if misordered(record, first) {
+            return 4 * step + 4;
+        }
+    }
+    let place = rest.iter().rev().position(|one| misordered(record, one));
+    place.map_or(earlier.len(), |place| 4 * fours.len() + place + 1)
+}
+
+/// For each position one past its window's last position, or 0 where the slot is empty.
+fn fill_ends(records: &[Record], up: bool, ends: &mut Column) {
+    for (slot, record) in records.iter().enumerate() {
+        let position = if up { records.len() - 1 - slot } else { slot };
+        let window = || if up { window_up(&records[..slot], record) } else { window_down(&records[slot + 1..], record) };
+        ends[position] = if id_of(record) == 0 { 0 } else { (position + 1 + window()) as u16 };
+    }
+}
+
+fn least_of(costs: &[u16], top: usize) -> u16 {
+    costs.iter().fold(top as u16, |least, &cost| least.min(cost))
+}
+
+/// The costs of all positions along one direction, the last position first.
+pub fn costs_along(records: &[Record], up: bool) -> Column {
+    let slots = records.len();
+    let mut ends = [0; SLOTS_MOST];
+    fill_ends(records, up, &mut ends);
+    let mut costs = [0; SLOTS_MOST];
+    for position in (0..slots).rev() {
+        let end = usize::from(ends[position]);
+        if end != 0 {
+            costs[position] = least_of(&costs[position + 1..end], slots) + 1;
+        }
+    }
+    costs
+}
+
+fn first_of_cost(costs: &[u16], from: usize, to: usize, cost: usize) -> usize {
+    costs[from..to].iter().position(|&one| usize::from(one) == cost).map_or(to, |place| from + place)
+}
+
+/// The least cost in a range of positions, and the first position that has it.
+fn best_between(costs: &[u16], slots: usize, from: usize, to: usize) -> (usize, usize) {
+    let cost = usize::from(least_of(&costs[from..to], slots));
+    (cost, first_of_cost(costs, from, to, cost))
+}
+
+/// The direction and position of least cost; `after` is A + 1, `dependant` is B.
+pub fn choose(down: &Column, up: &Column, slots: usize, after: usize, dependant: usize) -> Choice {
+    let (down_cost, down_position) = best_between(down, slots, after, slots.min(dependant + 1));
+    let (up_cost, up_position) = best_between(up, slots, slots - dependant, slots - after.saturating_sub(1));
+    if down_cost <= up_cost {
+        return Choice { up: false, cost: down_cost, position: down_position };
+    }
+    Choice { up: true, cost: up_cost, position: up_position }
+}
+
+/// The chain's words, stored from the far end of the plan's front, and last the word that puts the new rule in.
+pub fn write_plan(costs: &Column, slots: usize, choice: &Choice, plan: &mut [u32]) {
+    let slot_at = |position: usize| if choice.up { slots - 1 - position } else { position } as u32;
+    let mut position = choice.position;
+    for left in (0..choice.cost).rev() {
+        let next = first_of_cost(costs, position + 1, slots, left);
+        plan[left] = slot_at(position) << 16 | slot_at(next);
+        position = next;
+    }
+    plan[choice.cost] = PUT_IN << 16 | slot_at(choice.position);
+}

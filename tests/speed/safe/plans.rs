@@ -1,0 +1,64 @@
+// Planning an insert or a delete: the checks of each in their order, then the words.
+// A and B are found once.
+
+use crate::answers::{refuse, Record, Refusal, CROSSED, EMPTYING, FULL, KNOWN, RULE, SHORT, TIE, UNKNOWN};
+use crate::checks::check_table;
+use crate::planner::{choose, costs_along, write_plan};
+use crate::records::{id_of, is_empty, is_sound, precedes, tied};
+
+pub fn plan_insert(table: &[u64], new: &Record, plan: &mut [u32]) -> Result<u32, Refusal> {
+    let records = check_table(table)?;
+    let slots = records.len();
+    let (after, dependant) = check_new(records, new)?;
+    let down = costs_along(records, false);
+    let up = costs_along(records, true);
+    let choice = choose(&down, &up, slots, after, dependant);
+    let count = choice.cost + 1;
+    if plan.len() < count {
+        return refuse(SHORT, count);
+    }
+    write_plan(if choice.up { &up } else { &down }, slots, &choice, plan);
+    Ok(count as u32)
+}
+
+/// Checks 5 to 10; A + 1, and B.
+fn check_new(records: &[Record], new: &Record) -> Result<(usize, usize), Refusal> {
+    if !is_sound(new) {
+        return refuse(RULE, 0);
+    }
+    if let Some(slot) = slot_of_id(records, id_of(new)) {
+        return refuse(KNOWN, slot);
+    }
+    if let Some(slot) = records.iter().position(|record| tied(record, new)) {
+        return refuse(TIE, slot);
+    }
+    if !records.iter().any(is_empty) {
+        return refuse(FULL, 0);
+    }
+    let after = records.iter().rposition(|record| precedes(record, new)).map_or(0, |slot| slot + 1);
+    let dependant = records.iter().position(|record| precedes(new, record)).unwrap_or(records.len());
+    if after > dependant + 1 {
+        return refuse(CROSSED, after - 1);
+    }
+    Ok((after, dependant))
+}
+
+/// The slot of an id that is not 0, in a table whose records are empty or sound.
+fn slot_of_id(records: &[Record], id: u32) -> Option<usize> {
+    records.iter().position(|record| id_of(record) == id)
+}
+
+pub fn plan_delete(table: &[u64], id: u32, plan: &mut [u32]) -> Result<u32, Refusal> {
+    let records = check_table(table)?;
+    if id == 0 {
+        return refuse(RULE, 0);
+    }
+    let Some(slot) = slot_of_id(records, id) else {
+        return refuse(UNKNOWN, 0);
+    };
+    if plan.is_empty() {
+        return refuse(SHORT, 1);
+    }
+    plan[0] = EMPTYING << 16 | slot as u32;
+    Ok(1)
+}

@@ -1,0 +1,163 @@
+// Windows, costs, the choice between the directions, and the chain's words.
+// Position p is slot p going down, and the slot as far from the last one going up.
+
+use crate::answers::{Record, PUT_IN, SLOTS_MOST};
+use crate::records::{at, id_of, misordered, put};
+
+pub type Column = [u16; SLOTS_MOST];
+
+pub struct Choice {
+    pub up: bool,
+    pub cost: usize,
+    pub position: usize,
+}
+
+/// How many slots after a rule its window has, going down.
+unsafe fn window_down(records: &[Record], slot: usize) -> usize {
+    let record: *const Record = records.get_unchecked(slot);
+    let mut later = record.add(1);
+    let count = records.len() - slot - 1;
+    let fours = later.add(count & !3);
+    let reached = |later: *const Record| later.offset_from_unsigned(record);
+    while later != fours {
+        if misordered(&*later, &*record) {
+            return reached(later);
+        }
+        if misordered(&*later.add(1), &*record) {
+            return reached(later) + 1;
+        }
+        if misordered(&*later.add(2), &*record) {
+            return reached(later) + 2;
+        }
+        if misordered(&*later.add(3), &*record) {
+            return reached(later) + 3;
+        }
+        later = later.add(4);
+    }
+    let end = record.add(1 + count);
+    while later != end {
+        if misordered(&*later, &*record) {
+            return reached(later);
+        }
+        later = later.add(1);
+    }
+    count
+}
+
+/// How many slots before a rule its window has, going up.
+unsafe fn window_up(records: &[Record], slot: usize) -> usize {
+    let record: *const Record = records.get_unchecked(slot);
+    let mut before = record;
+    let fours = record.sub(slot & !3);
+    let reached = |before: *const Record| record.offset_from_unsigned(before);
+    while before != fours {
+        if misordered(&*record, &*before.sub(1)) {
+            return reached(before) + 1;
+        }
+        if misordered(&*record, &*before.sub(2)) {
+            return reached(before) + 2;
+        }
+        if misordered(&*record, &*before.sub(3)) {
+            return reached(before) + 3;
+        }
+        before = before.sub(4);
+        if misordered(&*record, &*before) {
+            return reached(before);
+        }
+    }
+    while before != records.as_ptr() {
+        before = before.sub(1);
+        if misordered(&*record, &*before) {
+            return reached(before);
+        }
+    }
+    slot
+}
+
+/// For each position one past its window's last position, or 0 where the slot is empty.
+unsafe fn fill_ends(records: &[Record], up: bool, ends: &mut Column) {
+    let slots = records.len();
+    let mut slot = 0;
+    while slot < slots {
+        let position = if up { slots - 1 - slot } else { slot };
+        let end = if id_of(records.get_unchecked(slot)) == 0 {
+            0
+        } else if up {
+            position + 1 + window_up(records, slot)
+        } else {
+            position + 1 + window_down(records, slot)
+        };
+        put(ends, position, end as u16);
+        slot += 1;
+    }
+}
+
+unsafe fn least_between(costs: &Column, from: usize, to: usize, top: usize) -> u16 {
+    let mut least = top as u16;
+    let mut place = from;
+    while place < to {
+        least = least.min(at(costs, place));
+        place += 1;
+    }
+    least
+}
+
+/// The costs of all positions along one direction, the last position first.
+///
+/// # Safety
+/// There are 1 to 1,024 records.
+pub unsafe fn fill_costs(records: &[Record], up: bool, ends: &mut Column, costs: &mut Column) {
+    let slots = records.len();
+    fill_ends(records, up, ends);
+    let mut position = slots;
+    while position > 0 {
+        position -= 1;
+        let end = usize::from(at(ends, position));
+        let cost = if end == 0 { 0 } else { least_between(costs, position + 1, end, slots) + 1 };
+        put(costs, position, cost);
+    }
+}
+
+unsafe fn first_of_cost(costs: &Column, from: usize, to: usize, cost: usize) -> usize {
+    let mut place = from;
+    while place < to && usize::from(at(costs, place)) != cost {
+        place += 1;
+    }
+    place
+}
+
+/// The least cost in a range of positions, and the first position that has it.
+unsafe fn best_between(costs: &Column, slots: usize, from: usize, to: usize) -> (usize, usize) {
+    let cost = usize::from(least_between(costs, from, to, slots));
+    (cost, first_of_cost(costs, from, to, cost))
+}
+
+/// The direction and position of least cost; `after` is A + 1, `dependant` is B.
+///
+/// # Safety
+/// Both are at most `slots`, which is at most 1,024.
+pub unsafe fn choose(down: &Column, up: &Column, slots: usize, after: usize, dependant: usize) -> Choice {
+    let (down_cost, down_position) = best_between(down, slots, after, slots.min(dependant + 1));
+    let (up_cost, up_position) = best_between(up, slots, slots - dependant, slots - after.saturating_sub(1));
+    if down_cost <= up_cost {
+        return Choice { up: false, cost: down_cost, position: down_position };
+    }
+    Choice { up: true, cost: up_cost, position: up_position }
+}
+
+/// The chain's words, stored from the far end of the plan's front, and last the word that puts the new rule in.
+///
+/// # Safety
+/// The plan has more words than the choice's cost.
+pub unsafe fn write_plan(costs: &Column, slots: usize, choice: &Choice, plan: &mut [u32]) {
+    let slot_at = |position: usize| if choice.up { slots - 1 - position } else { position } as u32;
+    let mut position = choice.position;
+    let mut left = choice.cost;
+    while left > 0 {
+        left -= 1;
+        let next = first_of_cost(costs, position + 1, slots, left);
+        put(plan, left, slot_at(position) << 16 | slot_at(next));
+        position = next;
+    }
+    put(plan, choice.cost, PUT_IN << 16 | slot_at(choice.position));
+}

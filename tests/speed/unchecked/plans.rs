@@ -1,0 +1,86 @@
+// Planning an insert or a delete: the checks of each in their order, then the words.
+// A and B are found once.
+
+use crate::answers::{refuse, Record, Refusal, CROSSED, EMPTYING, FULL, KNOWN, RULE, SHORT, SLOTS_MOST, TIE, UNKNOWN};
+use crate::checks::check_table;
+use crate::planner::{choose, fill_costs, write_plan};
+use crate::records::{id_of, is_empty, is_sound, precedes, put, tied};
+
+pub fn plan_insert(table: &[u64], new: &Record, plan: &mut [u32]) -> Result<u32, Refusal> {
+    let records = check_table(table)?;
+    let slots = records.len();
+    let (after, dependant) = check_new(records, new)?;
+    let mut ends = [0; SLOTS_MOST];
+    let mut down = [0; SLOTS_MOST];
+    let mut up = [0; SLOTS_MOST];
+    unsafe {
+        fill_costs(records, false, &mut ends, &mut down);
+        fill_costs(records, true, &mut ends, &mut up);
+        let choice = choose(&down, &up, slots, after, dependant);
+        let count = choice.cost + 1;
+        if plan.len() < count {
+            return refuse(SHORT, count);
+        }
+        write_plan(if choice.up { &up } else { &down }, slots, &choice, plan);
+        Ok(count as u32)
+    }
+}
+
+/// The lowest slot whose record passes a test, or the number of slots.
+#[inline(always)]
+fn first_slot(records: &[Record], test: impl Fn(&Record) -> bool) -> usize {
+    let mut slot = 0;
+    while slot < records.len() && !test(unsafe { records.get_unchecked(slot) }) {
+        slot += 1;
+    }
+    slot
+}
+
+/// Checks 5 to 10; A + 1, and B.
+fn check_new(records: &[Record], new: &Record) -> Result<(usize, usize), Refusal> {
+    let slots = records.len();
+    if !is_sound(new) {
+        return refuse(RULE, 0);
+    }
+    let known = slot_of_id(records, id_of(new));
+    if known < slots {
+        return refuse(KNOWN, known);
+    }
+    let tie = first_slot(records, |record| tied(record, new));
+    if tie < slots {
+        return refuse(TIE, tie);
+    }
+    if first_slot(records, is_empty) == slots {
+        return refuse(FULL, 0);
+    }
+    let mut after = slots;
+    while after > 0 && !precedes(unsafe { records.get_unchecked(after - 1) }, new) {
+        after -= 1;
+    }
+    let dependant = first_slot(records, |record| precedes(new, record));
+    if after > dependant + 1 {
+        return refuse(CROSSED, after - 1);
+    }
+    Ok((after, dependant))
+}
+
+/// The slot of an id that is not 0, in a table whose records are empty or sound.
+fn slot_of_id(records: &[Record], id: u32) -> usize {
+    first_slot(records, |record| id_of(record) == id)
+}
+
+pub fn plan_delete(table: &[u64], id: u32, plan: &mut [u32]) -> Result<u32, Refusal> {
+    let records = check_table(table)?;
+    if id == 0 {
+        return refuse(RULE, 0);
+    }
+    let slot = slot_of_id(records, id);
+    if slot == records.len() {
+        return refuse(UNKNOWN, 0);
+    }
+    if plan.is_empty() {
+        return refuse(SHORT, 1);
+    }
+    unsafe { put(plan, 0, EMPTYING << 16 | slot as u32) };
+    Ok(1)
+}

@@ -1,0 +1,79 @@
+// Reads and stores without a bounds check; tests of one slot's record, and of two, which end at the first word that tells.
+// After check 2 an id of 0 tells an empty slot: no further word is kept in a register for it.
+
+use crate::answers::{Record, PRIORITY_MOST};
+
+/// # Safety
+/// `place` is below the length.
+#[inline(always)]
+pub unsafe fn at<T: Copy>(slice: &[T], place: usize) -> T {
+    *slice.get_unchecked(place)
+}
+
+/// # Safety
+/// `place` is below the length.
+#[inline(always)]
+pub unsafe fn put<T>(slice: &mut [T], place: usize, item: T) {
+    *slice.get_unchecked_mut(place) = item;
+}
+
+#[inline(always)]
+pub fn is_empty(record: &Record) -> bool {
+    record[0] | record[1] | record[2] | record[3] | record[4] | record[5] == 0
+}
+
+#[inline(always)]
+pub fn id_of(record: &Record) -> u32 {
+    (record[4] >> 32) as u32
+}
+
+#[inline(always)]
+fn rest_is_sound(record: &Record) -> bool {
+    record[5] <= PRIORITY_MOST && record[0] & !record[2] == 0 && record[1] & !record[3] == 0
+}
+
+#[inline(always)]
+pub fn is_sound(record: &Record) -> bool {
+    id_of(record) != 0 && rest_is_sound(record)
+}
+
+/// Whether a record is empty or sound.
+#[inline(always)]
+pub fn is_fit(record: &Record) -> bool {
+    if id_of(record) != 0 {
+        rest_is_sound(record)
+    } else {
+        is_empty(record)
+    }
+}
+
+#[inline(always)]
+pub fn matches(record: &Record, key: [u64; 2]) -> bool {
+    (key[0] ^ record[0]) & record[2] == 0 && (key[1] ^ record[1]) & record[3] == 0 && id_of(record) != 0
+}
+
+#[inline(always)]
+pub fn overlap(first: &Record, second: &Record) -> bool {
+    (first[0] ^ second[0]) & first[2] & second[2] == 0 && (first[1] ^ second[1]) & first[3] & second[3] == 0
+}
+
+#[inline(always)]
+fn distinct(first: &Record, second: &Record) -> bool {
+    id_of(first) != id_of(second) && id_of(first) != 0 && id_of(second) != 0
+}
+
+/// Whether the first rule, standing before the second, is out of order.
+#[inline(always)]
+pub fn misordered(first: &Record, second: &Record) -> bool {
+    overlap(first, second) && first[5] <= second[5] && distinct(first, second)
+}
+
+#[inline(always)]
+pub fn tied(first: &Record, second: &Record) -> bool {
+    overlap(first, second) && first[5] == second[5] && distinct(first, second)
+}
+
+#[inline(always)]
+pub fn precedes(first: &Record, second: &Record) -> bool {
+    overlap(first, second) && first[5] > second[5] && distinct(first, second)
+}

@@ -1,0 +1,67 @@
+// One write of a plan: checks 1 and 2, the progress, whether the write fits, and the write.
+// A step that declines or is finished changes nothing.
+
+use crate::answers::{refuse, Progress, Record, Refusal, EMPTYING, PUT_IN, RULE, WRITE};
+use crate::checks::check_slots;
+use crate::records::{at, id_of, is_empty, is_sound};
+
+/// Whether a write was made; if not, the plan is finished.
+pub fn carry_out(table: &mut [u64], plan: &[u32], new: &Record, progress: &mut Progress) -> Result<bool, Refusal> {
+    let records = check_slots(table)?;
+    let done = progress.done as usize;
+    if progress.done > progress.total || progress.total as usize > plan.len() {
+        return refuse(WRITE, done);
+    }
+    if progress.done == progress.total {
+        return Ok(false);
+    }
+    let word = unsafe { at(plan, done) };
+    let from = word >> 16;
+    let to = (word & 0xffff) as usize;
+    if from == PUT_IN && !is_sound(new) {
+        return refuse(RULE, 0);
+    }
+    if !fits(records, from, to) {
+        return refuse(WRITE, done);
+    }
+    let record = match from {
+        PUT_IN => *new,
+        EMPTYING => [0; 6],
+        _ => unsafe { at(records, from as usize) },
+    };
+    unsafe { table.as_mut_ptr().add(to * 6).cast::<Record>().write(record) };
+    progress.done += 1;
+    Ok(true)
+}
+
+fn fits(records: &[Record], from: u32, to: usize) -> bool {
+    match from {
+        PUT_IN => is_free(records, to),
+        EMPTYING => is_occupied(records, to),
+        _ => from as usize != to && is_occupied(records, from as usize) && is_free(records, to),
+    }
+}
+
+fn is_occupied(records: &[Record], slot: usize) -> bool {
+    slot < records.len() && !is_empty(unsafe { records.get_unchecked(slot) })
+}
+
+/// The slot exists, and is empty or its id stands in another slot too.
+fn is_free(records: &[Record], slot: usize) -> bool {
+    if slot >= records.len() {
+        return false;
+    }
+    let record = unsafe { records.get_unchecked(slot) };
+    is_empty(record) || stands_elsewhere(records, slot, id_of(record))
+}
+
+fn stands_elsewhere(records: &[Record], slot: usize, id: u32) -> bool {
+    let mut other = 0;
+    while other < records.len() {
+        if id_of(unsafe { records.get_unchecked(other) }) == id && other != slot {
+            return true;
+        }
+        other += 1;
+    }
+    false
+}
