@@ -35,6 +35,19 @@ unfolding bodyOf
 body-cong w {x} {y} same =
     joined (pieces-cong (2 * w) (λ j l. ap (bytesOf 8) (same j (omega arith)))) (ap (bytesOf 4) (rank-cong w same)) (ap (bytesOf 4) (action-cong w same))
 
+-- the table that an image means has sound records
+pub meant-records : (w : ℕ) (b : List ℕ) (n : ℕ) → Sound w b n → checkRecords w (meant w b (n * recordWords w)) ≡ Pass
+meant-records w b n s = records-law w m .1 (λ i h. pick i (decided (holds w m i)))
+  where
+    m : List ℕ
+    m = meant w b (n * recordWords w)
+
+    pick : (i : ℕ) → (holds w m i ≡ true) ⊎ (holds w m i ≡ false) → (empty w (slotWords w m i) ≡ true) ⊎ (sound w (slotWords w m i) ≡ true)
+    pick i (inl v) =
+        let found = meant-rule w b n s i v in
+        inr (ap (λ (slot : ℕ). sound w (slotWords w m slot)) (sym (found .2)) ∙ (sound-same w _ _ (meant-here w b n s (found .0) (found .1)) ∙ s .records (found .0) (found .1)))
+    pick i (inr v) = inl (not-false _ v)
+
 -- an image that loads is the image of the table it means
 module _ (w : ℕ) (b : List ℕ) (n : ℕ) (s : Sound w b n) (bytes : Bytes b) where
   m : List ℕ
@@ -110,17 +123,7 @@ module _ (w : ℕ) (b : List ℕ) (n : ℕ) (s : Sound w b n) (bytes : Bytes b) 
           ∙ ap₂ (λ (front : List ℕ) (at : ℕ). front ++ part b at (rulesIn b * bodyBytes w))
           (part-add b 0 4 (rulesIn b * 10) ∙ ap (λ (front : List ℕ). front ++ part b 4 (rulesIn b * 10)) (part-add b 0 2 2)) (zero-add (4 + rulesIn b * 10)))
 
-  -- that table is sound, and its words have 64 bits
-  pub meant-records : checkRecords w (meant w b (n * recordWords w)) ≡ Pass
-  unfolding m e
-  meant-records = records-law w m .1 (λ i h. pick i (decided (holds w m i)))
-    where
-      pick : (i : ℕ) → (holds w m i ≡ true) ⊎ (holds w m i ≡ false) → (empty w (slotWords w m i) ≡ true) ⊎ (sound w (slotWords w m i) ≡ true)
-      pick i (inl v) =
-          let found = meant-rule w b n s i v in
-          inr (ap (λ (slot : ℕ). sound w (slotWords w m slot)) (sym (found .2)) ∙ (sound-same w _ _ (meant-here w b n s (found .0) (found .1)) ∙ s .records (found .0) (found .1)))
-      pick i (inr v) = inl (not-false _ v)
-
+  -- its words have 64 bits
   pub meant-words : Words64 (meant w b (n * recordWords w))
   unfolding m e
   meant-words i =

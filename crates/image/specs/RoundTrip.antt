@@ -107,7 +107,7 @@ pub load-leaves : (w : ℕ) (b lent : List ℕ) → Bytes b → loadAnswer w b l
 unfolding tableChecks slotChecks
 load-leaves w b lent bytes told = record {
   sound = ap (tableChecks w) table ∙ or-else-pass (slotChecks w m) (orElse (checkTwice w m) (checkOrder w m)) .1 (
-    or-else-pass (checkShape w m) (checkRecords w m) .1 (shape-same w lent m (meant-length w b n s ∙ sym size) ∙ right .0, meant-records w b n s bytes),
+    or-else-pass (checkShape w m) (checkRecords w m) .1 (shape-same w lent m (meant-length w b n s ∙ sym size) ∙ right .0, meant-records w b n s),
     or-else-pass (checkTwice w m) (checkOrder w m) .1 (ap (checkTwice w) (sym meant-same) ∙ right .2, ap (checkOrder w) (sym meant-same) ∙ right .3),
   );
   words = subst Words64 (sym table) (meant-words w b n s bytes);

@@ -12,7 +12,7 @@ use table_checks::check_twice;
 ghost use mathlib.Core.Path.{_≡_};
 ghost use Prim.Native.Nat.{ℕ, _+_, _*_, _/_, _≤_, _<_};
 ghost use lib.ListN.{length, replicate};
-ghost use Rattle.records.specs.Checks.{orElse, checkShape, checkTwice, checkOrder};
+ghost use Rattle.records.specs.Checks.{orElse, checkShape, checkRecords, checkTwice, checkOrder};
 ghost use Rattle.records.specs.declared.Check.the-variants.{Pass};
 ghost use Rattle.image.specs.Format.{imageBytes, slotAt, rulesIn, recordAt};
 ghost use Rattle.image.specs.Checks.{checkHeader, lowestSlot, checkEntry, checkBody, checkContents, checkBodies, imageChecks, filled, meant, loadChecks};
@@ -182,6 +182,7 @@ fn fill(image: &[u8], rules: usize, table: &mut [u64])
 // Checks 3 and 4 of the table meant.
 fn check_meant(table: &[u64]) -> Check
     requires { ⌜ length (now table) ≤ 6144 ⌝ }
+    requires { ⌜ checkRecords 2 (now table) ≡ Pass ⌝ }
     ensures { λ r. ⌜ r ≡ orElse (checkTwice 2 (now (table .entry))) (checkOrder 2 (now (table .entry))) ⌝ }
 {
     let twice = check_twice(table);

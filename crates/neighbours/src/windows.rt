@@ -10,11 +10,14 @@ ghost use mathlib.Core.List.{_++_};
 ghost use Prim.Native.Nat.{_≤_, _<_, _/_};
 ghost use lib.ListN.{length, drop};
 ghost use Rattle.records.specs.Record.{listed};
+ghost use Rattle.records.specs.Checks.{checkRecords};
+ghost use Rattle.records.specs.declared.Check.the-variants.{Pass};
 ghost use Rattle.neighbours.specs.Windows.{windowEndAt, endAt};
 
 // One past the last position of a window going down: positions are slots.
 fn end_down(table: &[u64], position: usize) -> usize
     requires { ⌜ position < length (now table) / 6 ⌝ }
+    requires { ⌜ checkRecords 2 (now table) ≡ Pass ⌝ }
     ensures { λ r. ⌜ r ≡ windowEndAt 2 (now (table .entry)) false position ⌝ }
 {
     let slots = table.len() / 6;
@@ -25,6 +28,7 @@ fn end_down(table: &[u64], position: usize) -> usize
 // One past the last position of a window going up: the slots below, from the nearest one down.
 fn end_up(table: &[u64], position: usize) -> usize
     requires { ⌜ position < length (now table) / 6 ⌝ }
+    requires { ⌜ checkRecords 2 (now table) ≡ Pass ⌝ }
     ensures { λ r. ⌜ r ≡ windowEndAt 2 (now (table .entry)) true position ⌝ }
 {
     let slots = table.len() / 6;
@@ -36,6 +40,7 @@ fn end_up(table: &[u64], position: usize) -> usize
 // One past the last position of a window.
 fn window_end(table: &[u64], up: bool, position: usize) -> usize
     requires { ⌜ position < length (now table) / 6 ⌝ }
+    requires { ⌜ checkRecords 2 (now table) ≡ Pass ⌝ }
     ensures { λ r. ⌜ r ≡ windowEndAt 2 (now (table .entry)) up position ⌝ }
 {
     if up {
@@ -47,6 +52,7 @@ fn window_end(table: &[u64], up: bool, position: usize) -> usize
 // The planner's number for a position: 0 where it is empty, else the end of its window.
 fn end_at(table: &[u64], up: bool, position: usize) -> u16
     requires { ⌜ (length (now table) ≤ 6144) × (position < length (now table) / 6) ⌝ }
+    requires { ⌜ checkRecords 2 (now table) ≡ Pass ⌝ }
     ensures { λ r. ⌜ r ≡ endAt 2 (now (table .entry)) up position ⌝ }
 {
     let slots = table.len() / 6;
@@ -60,6 +66,7 @@ fn end_at(table: &[u64], up: bool, position: usize) -> u16
 // The numbers of all positions, into the front of a lent array.
 pub fn fill_ends(table: &[u64], up: bool, ends: &mut [u16])
     requires { ⌜ (length (now table) ≤ 6144) × (length (now table) / 6 ≤ length (now ends)) ⌝ }
+    requires { ⌜ checkRecords 2 (now table) ≡ Pass ⌝ }
     ensures { λ _. ⌜ now (ends .exit) ≡ listed (length (now (table .entry)) / 6) (endAt 2 (now (table .entry)) up) ++ drop (length (now (table .entry)) / 6) (now (ends .entry)) ⌝ }
 {
     let slots = table.len() / 6;

@@ -13,7 +13,7 @@ use lib.Arith.{digits-div, digits-mod}
 use lib.Dec.{eqb, ltb, leb}
 use lib.ListN.{length, getD}
 use borrow.Author.Tests.{eqb-true, eqb-false, eq-eqb, ne-eqb, leb-true, le-leb, lt-ltb, ltb-true, ltb-false, not-true}
-use Rattle.search.specs.Search.{all-law, least, Least, least-law, any, any-no, any-none, decided, and-law, and-left, and-right, and-both}
+use Rattle.search.specs.Search.{all, all-law, all-not, least, Least, least-law, any, any-no, any-none, decided, and-law, and-left, and-right, and-both}
 use Rattle.ternary.specs.Pattern.{Words, Overlap, overlaps-law, Matches, matches-law, matches-cong, Within, within, within-law}
 use Rattle.records.specs.Record.{recordWords, slotWords, value, mask, ident, rank, empty, occupied, sound, soundParts, slotMatches, patternMatches}
 use Rattle.records.specs.Order.{slots, overlapping, sameId, distinct, precedes, tied, misordered, Ordered, InOrder}
@@ -255,6 +255,23 @@ records-law w t =
     from false true h = refl
     from false false (inl h) = absurd (false≢true h)
     from false false (inr h) = absurd (false≢true h)
+
+-- where it passes, a slot is empty exactly when its word of id and action is 0
+pub id-word : (w : ℕ) (t : List ℕ) (i : ℕ) → checkRecords w t ≡ Pass → i < slots w t → eqb (slotWords w t i (2 * w)) 0 ≡ empty w (slotWords w t i)
+unfolding empty soundParts
+id-word w t i e h = pick (records-law w t .0 e i h)
+  where
+    word-test : ℕ → Bool
+    word-test j = eqb (slotWords w t i j) 0
+
+    pick : (all word-test (recordWords w) ≡ true) ⊎ (sound w (slotWords w t i) ≡ true) → word-test (2 * w) ≡ all word-test (recordWords w)
+    pick (inl v) = all-law word-test (recordWords w) .0 v (2 * w) (omega arith) ∙ sym v
+    pick (inr v) =
+        let x = slotWords w t i in
+        let numbers = and-left (not (eqb (ident w x) 0) && leb (rank w x) 65535) (within w (value x) (mask w x)) v in
+        let id = and-left (not (eqb (ident w x) 0)) (leb (rank w x) 65535) numbers in
+        let not-zero : word-test (2 * w) ≡ false = ne-eqb (x (2 * w)) 0 (λ z. eqb-false (ident w x) 0 (not-true (eqb (ident w x) 0) id) (ap (λ (y : ℕ). y / 4294967296) z)) in
+        not-zero ∙ sym (all-not word-test (recordWords w) (2 * w) (omega arith) not-zero)
 
 -- and it names the lowest slot that is neither
 pub records-fail : (w : ℕ) (t : List ℕ) (spot : ℕ)

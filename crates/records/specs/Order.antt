@@ -46,14 +46,14 @@ pub misordered-higher : (w : ℕ) (a b : Words) → leb (rank w a) (rank w b) �
 unfolding misordered
 misordered-higher w a b l = and-middle (overlapping w a b) (distinct w a b) l
 
--- where two patterns do not overlap, neither rule's standing is out of order; nor is a standing before an empty slot
+-- where two patterns do not overlap, neither rule's standing is out of order; nor is an empty slot's
 pub misordered-apart : (w : ℕ) (a b : Words) → overlapping w a b ≡ false → (misordered w a b ≡ false) × (misordered w b a ≡ false)
 unfolding misordered
 misordered-apart w a b e = (rw e, rw (overlaps-turned w (value a) (mask w a) (value b) (mask w b) e))
 
-pub misordered-empty : (w : ℕ) (a b : Words) → empty w b ≡ true → misordered w a b ≡ false
+pub misordered-empty : (w : ℕ) (a b : Words) → empty w b ≡ true → (misordered w a b ≡ false) × (misordered w b a ≡ false)
 unfolding misordered distinct
-misordered-empty w a b e = rw (e, and-false, and-false, and-false)
+misordered-empty w a b e = (rw (e, and-false, and-false, and-false), rw (e, and-false, and-false))
 
 -- a may stand before b
 abbrev pub Ordered : ℕ → Words → Words → Type 0

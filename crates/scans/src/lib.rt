@@ -11,9 +11,29 @@ ghost use lib.ListN.{length};
 ghost use Rattle.search.specs.Search.{least, afterLast, NoneFrom, NoneAbove};
 ghost use Rattle.search.specs.Parts.{lastOf};
 ghost use Rattle.records.specs.Record.{word};
+ghost use Rattle.records.specs.Checks.{checkRecords};
+ghost use Rattle.records.specs.declared.Check.the-variants.{Pass};
 ghost use Rattle.scans.specs.Scans.{notBefore, notAfter, meets, meetsSlot};
 
-// Whether one of four slots overlaps a pattern whose words are at hand.
+// Whether the rule in a slot overlaps a pattern whose words are at hand. A slot whose word of id and action is 0 holds none where check 2 passes.
+fn rule_overlaps(
+    table: &[u64],
+    slot: usize,
+    value_high: u64,
+    value_low: u64,
+    mask_high: u64,
+    mask_low: u64,
+) -> bool
+    requires { ⌜ slot < length (now table) / 6 ⌝ }
+    ensures { λ r. ⌜ r ≡ meets 2 (now (table .entry)) (word («value_high» ∷ «value_low» ∷ [])) (word («mask_high» ∷ «mask_low» ∷ [])) slot ⌝ }
+{
+    if pattern_overlaps(table, slot, value_high, value_low, mask_high, mask_low) {
+        return slot_word(table, slot, 4) != 0;
+    }
+    false
+}
+
+// Whether one of four slots' rules overlaps a pattern whose words are at hand.
 fn one_overlaps(
     table: &[u64],
     from: usize,
@@ -28,16 +48,16 @@ fn one_overlaps(
         || meets 2 (now (table .entry)) (word («value_high» ∷ «value_low» ∷ [])) (word («mask_high» ∷ «mask_low» ∷ [])) (from + 2)
         || meets 2 (now (table .entry)) (word («value_high» ∷ «value_low» ∷ [])) (word («mask_high» ∷ «mask_low» ∷ [])) (from + 3)) ⌝ }
 {
-    if pattern_overlaps(table, from, value_high, value_low, mask_high, mask_low) {
+    if rule_overlaps(table, from, value_high, value_low, mask_high, mask_low) {
         return true;
     }
-    if pattern_overlaps(table, from + 1, value_high, value_low, mask_high, mask_low) {
+    if rule_overlaps(table, from + 1, value_high, value_low, mask_high, mask_low) {
         return true;
     }
-    if pattern_overlaps(table, from + 2, value_high, value_low, mask_high, mask_low) {
+    if rule_overlaps(table, from + 2, value_high, value_low, mask_high, mask_low) {
         return true;
     }
-    pattern_overlaps(table, from + 3, value_high, value_low, mask_high, mask_low)
+    rule_overlaps(table, from + 3, value_high, value_low, mask_high, mask_low)
 }
 
 // From a slot upward, a slot up to which none overlaps this one's pattern.
@@ -108,18 +128,35 @@ fn last_asked(table: &[u64], slot: usize, from: usize, end: usize) -> usize
     from
 }
 
+// Where a rule overlaps, the 16 slots from there on are asked one by one, since others near it are likely to.
+fn part_end(at: usize, to: usize) -> usize
+    requires { ⌜ at + 4 ≤ to ⌝ }
+    ensures { λ r. ⌜ (at < r) × (r ≤ to) ⌝ }
+{
+    if to - at < 16 { to } else { at + 16 }
+}
+
+fn part_start(after: usize) -> usize
+    requires { ⌜ 4 ≤ after ⌝ }
+    ensures { λ r. ⌜ r < after ⌝ }
+{
+    if after < 16 { 0 } else { after - 16 }
+}
+
 // Of the slots from `from` up to, not including, `to`, the first that may not stand before a slot; `to` where none is.
 pub fn first_not_before(table: &[u64], slot: usize, from: usize, to: usize) -> usize
     requires { ⌜ (slot < length (now table) / 6) × (from ≤ to) × (to ≤ length (now table) / 6) ⌝ }
+    requires { ⌜ checkRecords 2 (now table) ≡ Pass ⌝ }
     ensures { λ r. ⌜ r ≡ least (notBefore 2 (now (table .entry)) slot) (to - from) from ⌝ }
 {
     let mut at = skip_up(table, slot, from, to);
     while at + 4 <= to {
-        let first = first_asked(table, slot, at, at + 4);
-        if first < at + 4 {
+        let end = part_end(at, to);
+        let first = first_asked(table, slot, at, end);
+        if first < end {
             return first;
         }
-        at = skip_up(table, slot, at + 4, to);
+        at = skip_up(table, slot, end, to);
     }
     first_asked(table, slot, at, to)
 }
@@ -127,15 +164,17 @@ pub fn first_not_before(table: &[u64], slot: usize, from: usize, to: usize) -> u
 // One past the last of the slots below an end that may not stand after a slot; 0 where none is.
 pub fn last_not_after(table: &[u64], slot: usize, end: usize) -> usize
     requires { ⌜ (slot < length (now table) / 6) × (end ≤ length (now table) / 6) ⌝ }
+    requires { ⌜ checkRecords 2 (now table) ≡ Pass ⌝ }
     ensures { λ r. ⌜ r ≡ afterLast (notAfter 2 (now (table .entry)) slot) end ⌝ }
 {
     let mut after = skip_down(table, slot, end);
     while 4 <= after {
-        let last = last_asked(table, slot, after - 4, after);
-        if after - 4 < last {
+        let start = part_start(after);
+        let last = last_asked(table, slot, start, after);
+        if start < last {
             return last;
         }
-        after = skip_down(table, slot, after - 4);
+        after = skip_down(table, slot, start);
     }
     last_asked(table, slot, 0, after)
 }

@@ -83,11 +83,11 @@ least-open p from n i inv h =
     (record { low = omega (arith, inv .0, inv .1); high = omega (arith, inv .0, inv .1); before = λ j l r. inv .2 j l (omega (arith, inv .1)); hit = λ l. absurd (omega (arith, inv .0, inv .1)) })
 
 -- where a test holds nowhere, one that it follows from does not either
-pub none-from-weaker : (p q : ℕ → Bool) (from n i : ℕ) → ((k : ℕ) → q k ≡ false → p k ≡ false) → NoneFrom q from n i → NoneFrom p from n i
-none-from-weaker p q from n i f inv = (inv .0, inv .1, λ k l r. f k (inv .2 k l r))
+pub none-from-weaker : (p q : ℕ → Bool) (from n i : ℕ) → ((k : ℕ) → k < n → q k ≡ false → p k ≡ false) → NoneFrom q from n i → NoneFrom p from n i
+none-from-weaker p q from n i f inv = (inv .0, inv .1, λ k l r. f k (omega (arith, inv .1)) (inv .2 k l r))
 
-pub none-above-weaker : (p q : ℕ → Bool) (n i : ℕ) → ((k : ℕ) → q k ≡ false → p k ≡ false) → NoneAbove q n i → NoneAbove p n i
-none-above-weaker p q n i f inv = (inv .0, λ k l r. f k (inv .1 k l r))
+pub none-above-weaker : (p q : ℕ → Bool) (n i : ℕ) → ((k : ℕ) → k < n → q k ≡ false → p k ≡ false) → NoneAbove q n i → NoneAbove p n i
+none-above-weaker p q n i f inv = (inv .0, λ k l r. f k r (inv .1 k l r))
 
 -- two stretches joined
 pub none-from-join : (p : ℕ → Bool) (from n i j : ℕ) → NoneFrom p from n i → NoneFrom p i n j → NoneFrom p from n j
@@ -160,8 +160,10 @@ none-from-four p from n i inv h e = (omega (arith, inv .0), h, λ k l r. pick k 
   where
     three : p i || p (i + 1) || p (i + 2) ≡ false
     three = or-left (p i || p (i + 1) || p (i + 2)) (p (i + 3)) e
+
     two : p i || p (i + 1) ≡ false
     two = or-left (p i || p (i + 1)) (p (i + 2)) three
+
     pick : (k : ℕ) → from ≤ k → k < i + 4 → Dec (k < i) → Dec (k ≡ i) → Dec (k ≡ i + 1) → Dec (k ≡ i + 2) → p k ≡ false
     pick k l r (yes a) b c d = inv .2 k l a
     pick k l r (no a) (yes b) c d = ap p b ∙ or-left (p i) (p (i + 1)) two

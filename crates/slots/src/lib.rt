@@ -11,7 +11,8 @@ ghost use Rattle.ternary.specs.Word.{agree, inside};
 ghost use Rattle.ternary.specs.Pattern.{within, overlaps};
 ghost use Rattle.records.specs.Record.{word, slotWords, value, mask, empty, occupied, ident, sound, soundParts, patternMatches, slotMatches, listed, putSlot};
 ghost use Rattle.records.specs.Order.{sameId, distinct, tied, precedes, misordered, overlapping};
-ghost use Rattle.records.specs.Checks.{unsoundAt};
+ghost use Rattle.records.specs.Checks.{unsoundAt, checkRecords};
+ghost use Rattle.records.specs.declared.Check.the-variants.{Pass};
 
 // Word `index` of a slot's record.
 pub fn slot_word(table: &[u64], slot: usize, index: usize) -> u64
@@ -143,15 +144,16 @@ fn pattern_matches(table: &[u64], slot: usize, key_high: u64, key_low: u64) -> b
     false
 }
 
-// Exactly which keys a slot matches: an empty one none.
+// Exactly which keys a slot matches: an empty one none. Where check 2 passes, its word of id and action tells.
 pub fn slot_matches(table: &[u64], slot: usize, key_high: u64, key_low: u64) -> bool
     requires { ⌜ slot < length (now table) / 6 ⌝ }
+    requires { ⌜ checkRecords 2 (now table) ≡ Pass ⌝ }
     ensures { λ r. ⌜ r ≡ slotMatches 2 (word («key_high» ∷ «key_low» ∷ [])) (slotWords 2 (now (table .entry)) slot) ⌝ }
 {
-    if slot_empty(table, slot) {
-        return false;
+    if pattern_matches(table, slot, key_high, key_low) {
+        return slot_word(table, slot, 4) != 0;
     }
-    pattern_matches(table, slot, key_high, key_low)
+    false
 }
 
 // Pairs: a slot of one table and a slot of another, or of the same; a rule to be inserted is a table of one slot.

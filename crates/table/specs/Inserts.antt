@@ -18,8 +18,8 @@ use Rattle.planner.specs.Ends.{numbers-law}
 use Rattle.layout.specs.Insert.{LeastPlan}
 use Rattle.records.specs.Record.{slotWords, recordOf, recordWords, listed}
 use Rattle.records.specs.Order.{slots, precedes}
-use Rattle.records.specs.Checks.{Told, success, refusal}
-use Rattle.records.specs.Laws.{sound-law, table-checks-law, table-checks-length}
+use Rattle.records.specs.Checks.{Told, success, refusal, checkRecords}
+use Rattle.records.specs.Laws.{sound-law, slot-checks-law, table-checks-law, table-checks-length}
 use Rattle.records.specs.Entries.{vacant, entries, entryOccupied, entrySame, entryMisordered, entries-length}
 use Rattle.records.specs.Inserts.{insertChoiceOf, planWords, newMisordered, misorderedNew, uncrossed-apart, insert-words}
 use Rattle.records.specs.Inserts.{after-preceding-precedes, first-dependant-precedes, after-preceding-slots, first-dependant-slots}
@@ -157,3 +157,6 @@ choice-joined w t rule e small down up g h choice f =
 
 pub insert-length : (w : ℕ) (t : List ℕ) (rule : Rule) → insertChecks w t rule ≡ Pass → length t ≤ 1024 * recordWords w
 insert-length w t rule e = table-checks-length w t (insertable-law w t rule .0 e .table)
+
+pub insert-records : (w : ℕ) (t : List ℕ) (rule : Rule) → insertChecks w t rule ≡ Pass → checkRecords w t ≡ Pass
+insert-records w t rule e = slot-checks-law w t .0 (table-checks-law w t .0 (insertable-law w t rule .0 e .table) .0) .1

@@ -23,6 +23,7 @@ ghost use Rattle.planner.specs.Costs.{costOf};
 ghost use Rattle.planner.specs.Emit.{Stays};
 ghost use Rattle.planner.specs.Choice.{choiceOf, planWords};
 ghost use Rattle.records.specs.Record.{slotWords};
+ghost use Rattle.records.specs.Checks.{checkRecords};
 ghost use Rattle.records.specs.declared.Check.the-variants.{Pass};
 ghost use Rattle.table.specs.Joined.{Costed};
 ghost use Rattle.plans.specs.Plans.{planTold, planAnswer, planBuffer};
@@ -34,6 +35,7 @@ ghost use Rattle.table.specs.Inserts.{insertWords, insertAnswer, insertP
 // The costs of all positions along one direction, with the ends of their windows.
 fn costs_along(table: &[u64], up: bool, ends: &mut [u16], costs: &mut [u16])
     requires { ⌜ (length (now table) ≤ 6144) × (length (now table) / 6 ≤ length (now ends)) × (length (now table) / 6 ≤ length (now costs)) ⌝ }
+    requires { ⌜ checkRecords 2 (now table) ≡ Pass ⌝ }
     ensures { λ _. ⌜ Costed 2 (now (table .entry)) up (now (costs .exit)) ⌝ }
 {
     let slots = table.len() / 6;

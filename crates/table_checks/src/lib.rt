@@ -15,6 +15,7 @@ ghost use mathlib.Core.List.{[], _∷_};
 ghost use Prim.Native.Nat.{_≤_, _<_, _/_};
 ghost use lib.ListN.{length};
 ghost use Rattle.records.specs.Record.{word};
+ghost use Rattle.records.specs.declared.Check.the-variants.{Pass};
 ghost use Rattle.records.specs.Checks.{checkShape, checkRecords, checkTwice, checkOrder, slotChecks, tableChecks, disorderAt, firstMatch};
 
 // Check 1: the table's words are six for each of 1 to 1,024 slots.
@@ -58,6 +59,7 @@ pub fn check_twice(table: &[u64]) -> Check
 // Whether an earlier overlapping rule has no higher priority than this slot's.
 fn disorder_before(table: &[u64], slot: usize) -> bool
     requires { ⌜ slot < length (now table) / 6 ⌝ }
+    requires { ⌜ checkRecords 2 (now table) ≡ Pass ⌝ }
     ensures { λ r. ⌜ r ≡ disorderAt 2 (now (table .entry)) slot ⌝ }
 {
     if slot_empty(table, slot) {
@@ -66,9 +68,10 @@ fn disorder_before(table: &[u64], slot: usize) -> bool
     first_not_before(table, slot, 0, slot) < slot
 }
 
-// Check 4: of two overlapping rules the earlier one has the strictly higher priority.
+// Check 4: of two overlapping rules the earlier one has the strictly higher priority. Made where check 2 passes.
 pub fn check_order(table: &[u64]) -> Check
     requires { ⌜ length (now table) ≤ 6144 ⌝ }
+    requires { ⌜ checkRecords 2 (now table) ≡ Pass ⌝ }
     ensures { λ r. ⌜ r ≡ checkOrder 2 (now (table .entry)) ⌝ }
 {
     let slots = table.len() / 6;
@@ -84,6 +87,7 @@ pub fn check_order(table: &[u64]) -> Check
 
 // The lowest-numbered slot that matches a key, or the number of slots where none does.
 pub fn first_match(table: &[u64], key_high: u64, key_low: u64) -> usize
+    requires { ⌜ checkRecords 2 (now table) ≡ Pass ⌝ }
     ensures { λ r. ⌜ r ≡ firstMatch 2 (now (table .entry)) (word («key_high» ∷ «key_low» ∷ [])) ⌝ }
 {
     let slots = table.len() / 6;

@@ -2,11 +2,14 @@
 -- The working table is the table meant; it is written where checks 3 and 4 pass.
 use mathlib.Core.Path.{ap, _∙_}
 use mathlib.Core.List.{List}
-use Prim.Native.Nat.{ℕ}
+use Prim.Native.Nat.{ℕ, _/_}
 use native.Mathlib.Omega.{arith}
 use lib.ListN.{length, length-replicate}
-use Rattle.records.specs.Checks.{orElse, checkTwice, checkOrder}
+use Rattle.records.specs.Checks.{orElse, checkRecords, checkTwice, checkOrder}
+use Rattle.records.specs.Entries.{shaped-slots}
 use Rattle.records.specs.Laws.{shape-length}
+use Rattle.image.specs.Checks.{meant}
+use Rattle.image.specs.Resaving.{meant-records}
 use Rattle.image.specs.LoadLaws.{fields-shape, fields-sound, meant-built, load-unsound, load-written}
 use borrow.Author.Needs.{needs}
 use Rattle.loads.proofs.load_through.Statement.{statement}
@@ -32,7 +35,12 @@ check-meant-requires c κs =
     let b = c .before .before .before .before .before .before .before .before .before .args .image .now in
     let t = c .before .before .before .before .before .before .before .before .before .args .table .now in
     let h = shape-length 2 t (fields-shape 2 b t (c .before .before .before .before .before .before .before .before .before .pre .0)) in
-    omega (arith, c .before .before .before .fill .kept .1 .1 .0, ap length (c .before .before .before .before .before .before .before .before .before .pre .1) ∙ length-replicate (length t) 0)
+    let s = fields-sound 2 b t (c .before .before .before .before .before .before .before .before .before .pre .0) in
+    let built = meant-built 2 b (length t) (c .before .before .before .before .before .number-at .ensures) (c .before .before .before .before .before .before .before .before .before .pre .1) (c .before .before .before .fill .ensures) in
+    let size = shaped-slots 2 t (fields-shape 2 b t (c .before .before .before .before .before .before .before .before .before .pre .0)) .2 in (
+      omega (arith, c .before .before .before .fill .kept .1 .1 .0, ap length (c .before .before .before .before .before .before .before .before .before .pre .1) ∙ length-replicate (length t) 0),
+      ap (checkRecords 2) (built ∙ ap (meant 2 b) size) ∙ meant-records 2 b (length t / 6) s,
+    )
 
 enum-known-check : tie.Need-enum-known-check
 enum-known-check c = search needs

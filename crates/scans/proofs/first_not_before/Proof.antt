@@ -6,7 +6,7 @@ use native.Mathlib.Omega.{arith}
 use denote.Ref.{now}
 use Rattle.search.specs.Search.{NoneFrom}
 use Rattle.search.specs.Parts.{none-from-weaker, none-from-join, none-from-part, least-in-part, least-rest}
-use Rattle.scans.specs.Scans.{notBefore, apart-before}
+use Rattle.scans.specs.Scans.{notBefore, apart}
 use Rattle.scans.proofs.first_not_before.Statement.{statement}
 use Rattle.scans.proofs.first_not_before.Tie as tie
 
@@ -22,38 +22,33 @@ skip-up-requires c κs = omega arith
 loop-holds : tie.Need-loop-holds Inv-loop μ-loop
 loop-holds c =
     let a = c .before .before .args in
-    none-from-weaker _ _ _ _ _ (λ k e. apart-before 2 (now (a .table)) (a .slot) k e) (c .skip-up .ensures)
+    none-from-weaker _ _ _ _ _ (λ k h e. apart 2 (now (a .table)) (a .slot) k (c .before .before .pre .1) (omega arith) e .0) (c .skip-up .ensures)
 
 add-loop : tie.Need-add-loop Inv-loop μ-loop
 add-loop c = omega arith
 
-add-first-asked : tie.Need-add-first-asked Inv-loop μ-loop
-add-first-asked c = omega arith
+part-end-requires : tie.Need-part-end-requires Inv-loop μ-loop
+part-end-requires c κs = omega arith
 
 first-asked-requires : tie.Need-first-asked-requires Inv-loop μ-loop
-first-asked-requires c κs = omega arith
-
-add-if1 : tie.Need-add-if1 Inv-loop μ-loop
-add-if1 c = omega arith
+first-asked-requires c κs = omega (arith, c .part-end .ensures .0, c .part-end .ensures .1)
 
 returns : tie.Need-returns Inv-loop μ-loop
-returns c = sym (least-in-part _ _ _ _ _ _ (c .before .before .before .loop .inv) (omega arith) (c .before .first-asked .ensures) (omega arith))
-
-add-skip-up : tie.Need-add-skip-up Inv-loop μ-loop
-add-skip-up c = omega arith
+returns c = sym (least-in-part _ _ _ _ _ _ (c .before .before .before .before .loop .inv) (c .before .before .part-end .ensures .1) (c .before .first-asked .ensures) (omega arith))
 
 skip-up-requires-2 : tie.Need-skip-up-requires-2 Inv-loop μ-loop
-skip-up-requires-2 c κs = omega arith
+skip-up-requires-2 c κs = omega (arith, c .before .before .part-end .ensures .1)
 
 loop-less : tie.Need-loop-less Inv-loop μ-loop
-loop-less c = omega (arith, c .skip-up2 .ensures .0, c .skip-up2 .ensures .1)
+loop-less c = omega (arith, c .skip-up2 .ensures .0, c .skip-up2 .ensures .1, c .before .before .before .part-end .ensures .0)
 
 loop-again : tie.Need-loop-again Inv-loop μ-loop
 loop-again c =
-    let a = c .before .before .before .before .before .before .before .args in
+    let a = c .before .before .before .before .before .before .before .before .args in
+    let end = c .before .before .before .part-end .ensures in
     none-from-join _ _ _ _ _
-    (none-from-join _ _ _ _ _ (c .before .before .before .before .loop .inv) (none-from-part _ _ _ _ _ (omega arith) (omega arith) (c .before .before .first-asked .ensures) (omega arith)))
-    (none-from-weaker _ _ _ _ _ (λ k e. apart-before 2 (now (a .table)) (a .slot) k e) (c .skip-up2 .ensures))
+    (none-from-join _ _ _ _ _ (c .before .before .before .before .before .loop .inv) (none-from-part _ _ _ _ _ (omega (arith, end .0)) (end .1) (c .before .before .first-asked .ensures) (omega arith)))
+    (none-from-weaker _ _ _ _ _ (λ k h e. apart 2 (now (a .table)) (a .slot) k (c .before .before .before .before .before .before .before .before .pre .1) (omega arith) e .0) (c .skip-up2 .ensures))
 
 first-asked-requires-2 : tie.Need-first-asked-requires-2 Inv-loop μ-loop
 first-asked-requires-2 c κs = omega arith
@@ -70,11 +65,9 @@ first-not-before-spec =
     skip-up-requires
     loop-holds
     add-loop
-    add-first-asked
+    part-end-requires
     first-asked-requires
-    add-if1
     returns
-    add-skip-up
     skip-up-requires-2
     loop-less
     loop-again

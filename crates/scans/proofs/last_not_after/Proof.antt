@@ -5,7 +5,7 @@ use native.Mathlib.Omega.{arith}
 use denote.Ref.{now}
 use Rattle.search.specs.Search.{NoneAbove}
 use Rattle.search.specs.Parts.{none-above-weaker, none-above-join, none-above-part, last-in-part, last-rest}
-use Rattle.scans.specs.Scans.{notAfter, apart-after}
+use Rattle.scans.specs.Scans.{notAfter, apart}
 use Rattle.scans.proofs.last_not_after.Statement.{statement}
 use Rattle.scans.proofs.last_not_after.Tie as tie
 
@@ -21,26 +21,29 @@ skip-down-requires c κs = omega arith
 loop-holds : tie.Need-loop-holds Inv-loop μ-loop
 loop-holds c =
     let a = c .before .before .args in
-    none-above-weaker _ _ _ _ (λ k e. apart-after 2 (now (a .table)) (a .slot) k e) (c .skip-down .ensures)
+    none-above-weaker _ _ _ _ (λ k h e. apart 2 (now (a .table)) (a .slot) k (c .before .before .pre .1) (omega arith) e .1) (c .skip-down .ensures)
+
+part-start-requires : tie.Need-part-start-requires Inv-loop μ-loop
+part-start-requires c κs = omega arith
 
 last-asked-requires : tie.Need-last-asked-requires Inv-loop μ-loop
-last-asked-requires c κs = omega arith
+last-asked-requires c κs = omega (arith, c .part-start .ensures)
 
 returns : tie.Need-returns Inv-loop μ-loop
-returns c = sym (last-in-part _ _ _ _ _ (c .before .before .before .loop .inv) (omega arith) (c .before .last-asked .ensures) (omega arith))
+returns c = sym (last-in-part _ _ _ _ _ (c .before .before .before .before .loop .inv) (omega (arith, c .before .before .part-start .ensures)) (c .before .last-asked .ensures) (omega arith))
 
 skip-down-requires-2 : tie.Need-skip-down-requires-2 Inv-loop μ-loop
-skip-down-requires-2 c κs = omega arith
+skip-down-requires-2 c κs = omega (arith, c .before .before .part-start .ensures)
 
 loop-less : tie.Need-loop-less Inv-loop μ-loop
-loop-less c = omega (arith, c .skip-down2 .ensures .0)
+loop-less c = omega (arith, c .skip-down2 .ensures .0, c .before .before .before .part-start .ensures)
 
 loop-again : tie.Need-loop-again Inv-loop μ-loop
 loop-again c =
-    let a = c .before .before .before .before .before .before .before .args in
+    let a = c .before .before .before .before .before .before .before .before .args in
     none-above-join _ _ _ _
-    (none-above-join _ _ _ _ (c .before .before .before .before .loop .inv) (none-above-part _ _ _ _ (omega arith) (c .before .before .last-asked .ensures) (omega arith)))
-    (none-above-weaker _ _ _ _ (λ k e. apart-after 2 (now (a .table)) (a .slot) k e) (c .skip-down2 .ensures))
+    (none-above-join _ _ _ _ (c .before .before .before .before .before .loop .inv) (none-above-part _ _ _ _ (omega (arith, c .before .before .before .part-start .ensures)) (c .before .before .last-asked .ensures) (omega arith)))
+    (none-above-weaker _ _ _ _ (λ k h e. apart 2 (now (a .table)) (a .slot) k (c .before .before .before .before .before .before .before .before .pre .1) (omega arith) e .1) (c .skip-down2 .ensures))
 
 last-asked-requires-2 : tie.Need-last-asked-requires-2 Inv-loop μ-loop
 last-asked-requires-2 c κs = omega arith
@@ -56,6 +59,7 @@ last-not-after-spec =
     μ-loop
     skip-down-requires
     loop-holds
+    part-start-requires
     last-asked-requires
     returns
     skip-down-requires-2

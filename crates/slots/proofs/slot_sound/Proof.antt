@@ -25,8 +25,7 @@ slot-within-requires c κs = search needs
 returns-2 : tie.Need-returns-2
 unfolding soundParts
 returns-2 c =
-    rw
-    (
+    rw (
       ap (λ (id : ℕ). eqb id 0) (sym (c .before .before .before .before .slot-id .ensures)) ∙ ne-eqb _ 0 (c .before .before .before .if1 .left),
       ap (λ (rank : ℕ). leb rank 65535) (sym (c .before .before .slot-word .ensures)) ∙ le-leb _ 65535 (c .before .if2 .taken),
     )
@@ -35,8 +34,7 @@ returns-2 c =
 returns-3 : tie.Need-returns-3
 unfolding soundParts
 returns-3 c =
-    rw
-    (
+    rw (
       ap (λ (id : ℕ). eqb id 0) (sym (c .before .before .before .slot-id .ensures)) ∙ ne-eqb _ 0 (c .before .before .if1 .left),
       ap (λ (rank : ℕ). leb rank 65535) (sym (c .before .slot-word .ensures)) ∙ lt-leb _ 65535 (c .if2 .left),
     )

@@ -3,6 +3,7 @@
 use Prim.Native.Nat.{_-_}
 use mathlib.Core.Path.{sym, _∙_}
 use native.Mathlib.Omega.{arith}
+use borrow.Author.Needs.{needs}
 use Rattle.search.specs.Search.{NoneBelow, none-start, none-more}
 use Rattle.records.specs.Checks.{checkOrder, disorderAt, lowest-at, lowest-none}
 use Rattle.table_checks.proofs.check_order.Statement.{statement}
@@ -18,7 +19,7 @@ loop-holds : tie.Need-loop-holds Inv-loop μ-loop
 loop-holds c = none-start _ _
 
 disorder-before-requires : tie.Need-disorder-before-requires Inv-loop μ-loop
-disorder-before-requires c κs = omega arith
+disorder-before-requires c κs = (omega arith, search needs)
 
 cast-t8 : tie.Need-cast-t8 Inv-loop μ-loop
 cast-t8 c = omega arith

@@ -3,7 +3,7 @@
 use mathlib.Core.Path.{sym, _∙_}
 use borrow.Author.Needs.{needs}
 use Rattle.records.specs.Checks.{tableChecks}
-use Rattle.records.specs.Laws.{failed, passed, slot-checks-length}
+use Rattle.records.specs.Laws.{failed, passed, slot-checks-length, slot-checks-law}
 use Rattle.table_checks.proofs.check_table.Statement.{statement}
 use Rattle.table_checks.proofs.check_table.Tie as tie
 
@@ -34,7 +34,10 @@ enum-told-2 : tie.Need-enum-told-2
 enum-told-2 c = search needs
 
 check-order-requires : tie.Need-check-order-requires
-check-order-requires c κs = slot-checks-length 2 _ (sym (c .before .before .before .before .before .check-slots .ensures) ∙ c .before .before .before .enum-told .given .1)
+check-order-requires c κs =
+    let t = c .before .before .before .before .before .before .before .args .table .now in
+    let pass = sym (c .before .before .before .before .before .check-slots .ensures) ∙ c .before .before .before .enum-told .given .1 in
+    (slot-checks-length 2 t pass, slot-checks-law 2 t .0 pass .1)
 
 returns-3 : tie.Need-returns-3
 unfolding tableChecks

@@ -18,7 +18,7 @@ returns : tie.Need-returns
 unfolding disorderAt
 returns c =
     let a = c .before .before .before .args in
-    sym (any-none _ _ (λ i h. misordered-empty 2 (slotWords 2 (now (a .table)) i) (slotWords 2 (now (a .table)) (a .slot)) (sym (c .before .slot-empty .ensures) ∙ c .if1 .taken)))
+    sym (any-none _ _ (λ i h. misordered-empty 2 (slotWords 2 (now (a .table)) i) (slotWords 2 (now (a .table)) (a .slot)) (sym (c .before .slot-empty .ensures) ∙ c .if1 .taken) .0))
 
 first-not-before-requires : tie.Need-first-not-before-requires
 first-not-before-requires c κs = search needs

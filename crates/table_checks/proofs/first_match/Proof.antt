@@ -3,6 +3,7 @@
 use Prim.Native.Nat.{_-_}
 use mathlib.Core.Path.{sym, _∙_}
 use native.Mathlib.Omega.{arith}
+use borrow.Author.Needs.{needs}
 use Prim.Native.Nat.{ℕ}
 use mathlib.Core.List.{[], _∷_}
 use Rattle.search.specs.Search.{NoneBelow, none-start, none-more, least-at, least-none}
@@ -21,7 +22,7 @@ loop-holds : tie.Need-loop-holds Inv-loop μ-loop
 loop-holds c = none-start _ _
 
 slot-matches-requires : tie.Need-slot-matches-requires Inv-loop μ-loop
-slot-matches-requires c κs = omega arith
+slot-matches-requires c κs = (omega arith, search needs)
 
 returns : tie.Need-returns Inv-loop μ-loop
 unfolding firstMatch

@@ -3,7 +3,7 @@
 use mathlib.Core.Path.{sym, ap, _∙_}
 use borrow.Author.Needs.{needs}
 use Rattle.records.specs.Rules.{two-words}
-use Rattle.records.specs.Laws.{refused, answered, slot-checks-length, first-match-cong}
+use Rattle.records.specs.Laws.{refused, answered, slot-checks-length, slot-checks-law, first-match-cong}
 use Rattle.lookups.specs.Lookup.{lookupAnswer, matchTold}
 use Rattle.lookups.proofs.lookup.lookup.Statement.{statement}
 use Rattle.lookups.proofs.lookup.lookup.Tie as tie
@@ -28,7 +28,8 @@ array-read-first-match-2 : tie.Need-array-read-first-match-2
 array-read-first-match-2 c = search needs
 
 first-match-requires : tie.Need-first-match-requires
-first-match-requires c κs = search needs
+first-match-requires c κs =
+    slot-checks-law 2 (c .before .before .before .before .args .table .now) .0 (sym (c .before .before .check-slots .ensures) ∙ c .enum-told .given .1) .1
 
 match-answer-requires : tie.Need-match-answer-requires
 match-answer-requires c κs = slot-checks-length 2 _ (sym (c .before .before .before .check-slots .ensures) ∙ c .before .enum-told .given .1)

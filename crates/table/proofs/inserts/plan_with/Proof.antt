@@ -3,7 +3,7 @@
 use native.Mathlib.Omega.{arith}
 use denote.Ref.{now}
 use borrow.Author.Needs.{needs}
-use Rattle.table.specs.Inserts.{insert-length}
+use Rattle.table.specs.Inserts.{insert-length, insert-records}
 use Rattle.table.proofs.inserts.plan_with.Statement.{statement}
 use Rattle.table.proofs.inserts.plan_with.Tie as tie
 
@@ -11,13 +11,13 @@ costs-along-requires : tie.Need-costs-along-requires
 costs-along-requires c κs =
     let a = c .before .before .before .before .before .before .before .args in
     let h = insert-length 2 (now (a .table)) (a .rule) (c .before .before .before .before .before .before .before .pre .0) in
-    (omega arith, omega (arith, c .before .before .before .before .before .before .before .pre .1), omega (arith, c .before .before .before .before .before .before .before .pre .1))
+    ((omega arith, omega (arith, c .before .before .before .before .before .before .before .pre .1), omega (arith, c .before .before .before .before .before .before .before .pre .1)), insert-records 2 (now (a .table)) (a .rule) (c .before .before .before .before .before .before .before .pre .0))
 
 costs-along-requires-2 : tie.Need-costs-along-requires-2
 costs-along-requires-2 c κs =
     let a = c .before .before .before .before .before .before .before .before .before .before .before .before .before .before .args in
     let h = insert-length 2 (now (a .table)) (a .rule) (c .before .before .before .before .before .before .before .before .before .before .before .before .before .before .pre .0) in
-    (omega arith, omega (arith, c .before .before .before .before .before .before .before .before .before .before .before .before .before .before .pre .1, c .before .before .before .before .before .before .costs-along .kept .1 .1 .0), omega (arith, c .before .before .before .before .before .before .before .before .before .before .before .before .before .before .pre .1))
+    ((omega arith, omega (arith, c .before .before .before .before .before .before .before .before .before .before .before .before .before .before .pre .1, c .before .before .before .before .before .before .costs-along .kept .1 .1 .0), omega (arith, c .before .before .before .before .before .before .before .before .before .before .before .before .before .before .pre .1)), insert-records 2 (now (a .table)) (a .rule) (c .before .before .before .before .before .before .before .before .before .before .before .before .before .before .pre .0))
 
 plan-priced-requires : tie.Need-plan-priced-requires
 plan-priced-requires c κs =
