@@ -156,6 +156,10 @@ table-present memory slots n = pick (decLe slots 1024)
         let e : min slots 1024 ≡ 1024 = omega arith in
         ap (tableIn memory) e ∙ (take-all 6144 memory (omega arith) ∙ sym (take-all (slots * 6) memory (omega arith)))
 
+pub slots-present : (memory : List ℕ) (slots present : ℕ) → length memory ≡ 6144 → present ≡ min slots 1024 → present * 6 ≡ length (tableIn memory slots)
+slots-present memory slots present n e =
+    ap (λ (k : ℕ). k * 6) e ∙ sym (ap length (sym (table-present memory slots n)) ∙ table-words memory (min slots 1024) n (omega arith))
+
 -- a T line
 pub table-made : (memory : List ℕ) (present slots : ℕ) → length memory ≡ 6144 → present ≤ 1024 → {count : ℕ} {out out′ zeroed : List ℕ}
     → leb 1 slots && leb slots 1024 ≡ true → zeroed ≡ emptyTable 2 slots → Shown out (tableBytes slots) count out′

@@ -212,7 +212,7 @@ fn run_command(
 }
 
 // A table has at most 1,024 slots: no more fit into the memory.
-fn slots_present(slots: usize) -> usize
+pub(crate) fn slots_present(slots: usize) -> usize
     ensures { λ r. ⌜ r ≡ min slots 1024 ⌝ }
 {
     if slots < 1024 {
