@@ -22,9 +22,9 @@ pub record TookBlock (block : List ℕ) (start : Kept) (went : Went) (end : Kept
   pub through : went .well ≡ true → (bytes : List ℕ) × Through block start bytes end
   pub stopped : went .well ≡ false → (bytes : List ℕ) × (from : ℕ) × (0 < from) × Called block start bytes end from
 
--- by what the read answered: less than 0 for a failure, else so many bytes at the buffer's start
+-- by what the read answered: less than 0 for a failure, after which no line is run, else so many bytes at the buffer's start
 unfoldable pub TookRead : ℤ → List ℕ → Kept → Went → Kept → Type 0
-TookRead (negsuc k) buffer start went end = (went .more ≡ false) × (went .well ≡ false)
+TookRead (negsuc k) buffer start went end = (went .more ≡ false) × (went .well ≡ false) × (end ≡ start)
 TookRead (pos zero) buffer start went end = (went .more ≡ false) × (went .well ≡ true) × (end ≡ start)
 TookRead (pos (suc k)) buffer start went end = TookBlock (take (suc k) buffer) start went end
 
@@ -35,7 +35,7 @@ pub record Took (start : Kept) (went : Went) (end : Kept) : Type 0 where
 
 pub took : (got : ℤ) (buffer : List ℕ) (start : Kept) (went : Went) (end : Kept) → TookRead got buffer start went end → Took start went end
 unfolding TookRead
-took (negsuc k) buffer start went end (m, w) = record {
+took (negsuc k) buffer start went end (m, w, e) = record {
   goes = λ t. absurd (false≢true (sym m ∙ t));
   block = λ t. absurd (false≢true (sym w ∙ t));
 }
@@ -52,7 +52,7 @@ took (pos (suc k)) buffer start went end t = record {
 pub read-none : (got : ℤ) (buffer : List ℕ) (start : Kept) (place : Place) → leZ got (pos 0) ≡ true
     → TookRead got buffer start (record { place = place; more = false; well = leZ (pos 0) got }) start
 unfolding TookRead
-read-none (negsuc k) buffer start place t = (refl, refl)
+read-none (negsuc k) buffer start place t = (refl, refl, refl)
 read-none (pos zero) buffer start place t = (refl, refl, refl)
 read-none (pos (suc k)) buffer start place t = absurd (omega (arith, leb-true (suc k) 0 t))
 
