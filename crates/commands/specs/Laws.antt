@@ -1,23 +1,24 @@
 -- What lines mean, said again: only the first 257 bytes of a line count, so that the program need not hold more.
--- A number, printed, is read back; and what can be unsound in the rule of an insert.
-use mathlib.Core.Path.{_≡_, sym, ap, _∙_}
+-- A number, printed, is read back; what can be unsound in the rule of an insert; and which keys match it.
+use mathlib.Core.Path.{_≡_, sym, ap, subst, _∙_}
 use mathlib.Core.Bool.{true, not, _&&_, and-true}
+use mathlib.Core.Logic.{_↔_}
 use mathlib.Core.List.{List, [], _∷_}
-use Prim.Native.Nat.{ℕ, zero, suc, _≤_, _<_}
+use Prim.Native.Nat.{ℕ, zero, suc, _+_, _-_, _≤_, _<_}
 use native.Mathlib.Omega.{arith}
 use native.Mathlib.Decide.{decLe}
 use lib.Dec.{eqb, leb}
-use lib.ListN.{length, take}
+use lib.ListN.{length, getD, take}
 use lib.Seq.{take-all, length-take-le}
 use borrow.Author.Tests.{le-leb, lt-ltb}
 use Rattle.search.specs.Search.{and-both}
 use Rattle.ternary.specs.Bit.{bit}
-use Rattle.ternary.specs.Pattern.{within, within-law}
+use Rattle.ternary.specs.Pattern.{Matches, matches, matches-law, within, within-law}
 use Rattle.records.specs.Record.{word, soundParts, soundRule}
 use Rattle.text.specs.Decimal.{every, digit, decimal, digitsOf, digits-read, digits-digits, digits-some, digits-few}
 use Rattle.fields.specs.Fields.{isNumber, sized, valueBit, maskBit, symbolWord, symbolWords}
-use Rattle.fields.specs.PatternLaws.{word-inside}
-use Rattle.commands.specs.Commands.{ruleOf, commandOf}
+use Rattle.fields.specs.PatternLaws.{Asks, word-asks, word-inside}
+use Rattle.commands.specs.Commands.{ruleOf, keyOf, commandOf}
 use Rattle.commands.specs.LineLaws.{line-long}
 
 -- a longer line is malformed, whatever follows: the program need not hold more than 257 bytes
@@ -54,3 +55,36 @@ pub insert-sound : (id priority action : ℕ) (pattern : List ℕ)
     ≡ not (eqb id 0) && leb priority 65535
 unfolding soundParts
 insert-sound id priority action pattern = rw (pattern-within pattern) (and-true (not (eqb id 0) && leb priority 65535))
+
+-- What an I line's pattern and an L line's key mean for each other: the key matches the rule exactly when at each of the 128 places where the
+-- pattern has 0 or 1 the key has the same; past its end a pattern asks nothing, and a key has 0.
+pub pattern-matches : (id priority action : ℕ) (pattern key : List ℕ)
+    → let rule = ruleOf (record { id = id; priority = priority; value = symbolWords valueBit pattern; mask = symbolWords maskBit pattern; action = action }) in
+    (matches 2 (word (keyOf (record { key = symbolWords valueBit key }))) (word (rule .value)) (word (rule .mask)) ≡ true) ↔ Asks pattern key 0 128
+pattern-matches id priority action pattern key =
+    let law = matches-law 2 (word (symbolWord valueBit key 0 ∷ symbolWord valueBit key 64 ∷ [])) (word (symbolWord valueBit pattern 0 ∷ symbolWord valueBit pattern 64 ∷ [])) (word (symbolWord maskBit pattern 0 ∷ symbolWord maskBit pattern 64 ∷ [])) in
+    (λ e. there (law .0 e), λ g. law .1 (back g))
+  where
+    Agree : Type 0
+    Agree =
+        Matches 2 (word (symbolWord valueBit key 0 ∷ symbolWord valueBit key 64 ∷ [])) (word (symbolWord valueBit pattern 0 ∷ symbolWord valueBit pattern 64 ∷ []))
+        (word (symbolWord maskBit pattern 0 ∷ symbolWord maskBit pattern 64 ∷ []))
+
+    there : Agree → Asks pattern key 0 128
+    there f k h = by (decLe k 63)
+      where
+        by : Dec (k ≤ 63) → maskBit (getD pattern (0 + k) 0) ≡ true → valueBit (getD key (0 + k) 0) ≡ valueBit (getD pattern (0 + k) 0)
+        by (yes l) = word-asks pattern key 0 .0 (f 0 (omega arith)) k (omega arith)
+        by (no l) =
+            let e : 64 + (k - 64) ≡ 0 + k = omega arith in
+            subst (λ (n : ℕ). maskBit (getD pattern n 0) ≡ true → valueBit (getD key n 0) ≡ valueBit (getD pattern n 0)) e
+            (word-asks pattern key 64 .0 (f 1 (omega arith)) (k - 64) (omega arith))
+
+    back : Asks pattern key 0 128 → Agree
+    back g zero h = word-asks pattern key 0 .1 (λ k l. g k (omega arith))
+    back g (suc zero) h =
+        word-asks pattern key 64 .1
+        (λ k l.
+        let e : 0 + (64 + k) ≡ 64 + k = omega arith in
+        subst (λ (n : ℕ). maskBit (getD pattern n 0) ≡ true → valueBit (getD key n 0) ≡ valueBit (getD pattern n 0)) e (g (64 + k) (omega arith)))
+    back g (suc (suc j)) h = absurd (omega arith)

@@ -2,6 +2,7 @@
 -- A star has neither bit, and so have the places past the field's end.
 use mathlib.Core.Path.{_≡_, refl, sym, ap, _∙_}
 use mathlib.Core.Bool.{Bool, true, false, _||_}
+use mathlib.Core.Logic.{_↔_}
 use mathlib.Core.List.{List, [], _∷_}
 use Prim.Native.Nat.{ℕ, zero, suc, _+_, _-_, _*_, _/_, _%_, _^_, _≤_, _<_}
 use native.Mathlib.Omega.{arith}
@@ -80,3 +81,46 @@ word-inside field from i = by (decLt i 64)
     by : Dec (i < 64) → bit (binary (test maskBit) 64) i ≡ 0 → bit (binary (test valueBit) 64) i ≡ 0
     by (yes h) e = binary-bit (test valueBit) 64 i h ∙ uncared (getD field (from + (64 - 1 - i)) 0) (sym (binary-bit (test maskBit) 64 i h) ∙ e)
     by (no h) e = binary-past (test valueBit) 64 i (omega arith)
+
+-- past its 64 bits a word has none
+word-past : (test : ℕ → Bool) (field : List ℕ) (from i : ℕ) → 64 ≤ i → bit (symbolWord test field from) i ≡ 0
+unfolding symbolWord
+word-past test field from i h = binary-past (λ (k : ℕ). test (getD field (from + k) 0)) 64 i h
+
+one-if-true : (b : Bool) → oneIf b ≡ 1 → b ≡ true
+one-if-true true e = refl
+one-if-true false e = absurd (omega arith)
+
+one-if-same : (a b : Bool) → oneIf a ≡ oneIf b → a ≡ b
+one-if-same true true e = refl
+one-if-same true false e = absurd (omega arith)
+one-if-same false true e = absurd (omega arith)
+one-if-same false false e = refl
+
+-- What a pattern's symbols ask of a key's, so many of them from a place on: the same where the pattern has 0 or 1. Past its end a pattern asks
+-- nothing, and a key has 0.
+abbrev pub Asks : List ℕ → List ℕ → ℕ → ℕ → Type 0
+Asks pattern key from count =
+    (k : ℕ) → k < count → maskBit (getD pattern (from + k) 0) ≡ true → valueBit (getD key (from + k) 0) ≡ valueBit (getD pattern (from + k) 0)
+
+-- it is what the words of value and mask ask of the key's word
+pub word-asks : (pattern key : List ℕ) (from : ℕ)
+    → ((i : ℕ) → bit (symbolWord maskBit pattern from) i ≡ 1 → bit (symbolWord valueBit key from) i ≡ bit (symbolWord valueBit pattern from) i)
+    ↔ Asks pattern key from 64
+word-asks pattern key from = (there, λ g i m. back g i m (decLt i 64))
+  where
+    there : ((i : ℕ) → bit (symbolWord maskBit pattern from) i ≡ 1 → bit (symbolWord valueBit key from) i ≡ bit (symbolWord valueBit pattern from) i)
+        → Asks pattern key from 64
+    there f k h m =
+        one-if-same (valueBit (getD key (from + k) 0)) (valueBit (getD pattern (from + k) 0))
+        (sym (symbol-bit valueBit key from k h) ∙ (f (63 - k) (symbol-bit maskBit pattern from k h ∙ ap oneIf m) ∙ symbol-bit valueBit pattern from k h))
+
+    back : Asks pattern key from 64 → (i : ℕ) → bit (symbolWord maskBit pattern from) i ≡ 1 → Dec (i < 64)
+        → bit (symbolWord valueBit key from) i ≡ bit (symbolWord valueBit pattern from) i
+    back g i m (no h) = let none = word-past maskBit pattern from i (omega arith) in absurd (omega (arith, none, m))
+    back g i m (yes h) =
+        let e : i ≡ 63 - (63 - i) = omega arith in
+        let here : (test : ℕ → Bool) (field : List ℕ) → bit (symbolWord test field from) i ≡ oneIf (test (getD field (from + (63 - i)) 0)) =
+        λ test field. ap (bit (symbolWord test field from)) e ∙ symbol-bit test field from (63 - i) (omega arith) in
+        let same = g (63 - i) (omega arith) (one-if-true (maskBit (getD pattern (from + (63 - i)) 0)) (sym (here maskBit pattern) ∙ m)) in
+        here valueBit key ∙ (ap oneIf same ∙ sym (here valueBit pattern))

@@ -31,6 +31,7 @@ use Rattle.histories.specs.Demand2.{demand-2-insert, demand-2-delete, carried-w
 use Rattle.lines.specs.Blocks.{Outcome}
 use Rattle.answers.specs.Answers.{tableBytes, planBytes, refusalBytes}
 use Rattle.printing.specs.Printing.{Shown}
+use Rattle.script.specs.declared.LineAnswer.{LineAnswer}
 use Rattle.script.specs.declared.Ran.{Ran}
 use Rattle.script.specs.Script.{outcome, refused, lookupBytes, changeOutcome, planOutcome, insertOutcome, deleteOutcome, tableOutcome, noRule, tableIn, Within, Changed, Left}
 
@@ -127,9 +128,9 @@ table-words : (memory : List ℕ) (present : ℕ) → length memory ≡ 6144 →
 table-words memory present n h = length-take-le (present * 6) memory (omega arith)
 
 -- a change of the table in its place, and no change
-module _ (memory : List ℕ) (present : ℕ) (n : length memory ≡ 6144) (h : present ≤ 1024) {told : Outcome (List ℕ)} {count : ℕ} {out out′ : List ℕ} where
+module _ (memory : List ℕ) (present : ℕ) (n : length memory ≡ 6144) (h : present ≤ 1024) {told : Outcome (List ℕ)} {count : ℕ} {answer : LineAnswer} {out out′ : List ℕ} where
   pub left-changed : {after : List ℕ} → length after ≡ present * 6 → Changed told count after out out′
-      → Left told (record { slots = present; length = count }) memory (after ++ drop (present * 6) memory) out out′
+      → Left told (record { slots = present; length = count; answer = answer }) memory (after ++ drop (present * 6) memory) out out′
   left-changed {after} e c = record {
     slots = sym (ap length (sym (c .table)) ∙ e);
     table = ap₂ (λ (a : List ℕ) (k : ℕ). a ++ drop k memory) (c .table) (sym (ap length (sym (c .table)) ∙ e));
@@ -137,7 +138,7 @@ module _ (memory : List ℕ) (present : ℕ) (n : length memory ≡ 6144) (h : p
   }
 
   pub left-kept : told .table ≡ tableIn memory present → Shown out (told .printed) count out′
-      → Left told (record { slots = present; length = count }) memory memory out out′
+      → Left told (record { slots = present; length = count; answer = answer }) memory memory out out′
   left-kept e s =
       let size = ap length e ∙ table-words memory present n h in
       record {
@@ -156,19 +157,23 @@ table-present memory slots n = pick (decLe slots 1024)
         let e : min slots 1024 ≡ 1024 = omega arith in
         ap (tableIn memory) e ∙ (take-all 6144 memory (omega arith) ∙ sym (take-all (slots * 6) memory (omega arith)))
 
+pub slots-present : (memory : List ℕ) (slots present : ℕ) → length memory ≡ 6144 → present ≡ min slots 1024 → present * 6 ≡ length (tableIn memory slots)
+slots-present memory slots present n e =
+    ap (λ (k : ℕ). k * 6) e ∙ sym (ap length (sym (table-present memory slots n)) ∙ table-words memory (min slots 1024) n (omega arith))
+
 -- a T line
-pub table-made : (memory : List ℕ) (present slots : ℕ) → length memory ≡ 6144 → present ≤ 1024 → {count : ℕ} {out out′ zeroed : List ℕ}
+pub table-made : (memory : List ℕ) (present slots : ℕ) → length memory ≡ 6144 → present ≤ 1024 → {count : ℕ} {answer : LineAnswer} {out out′ zeroed : List ℕ}
     → leb 1 slots && leb slots 1024 ≡ true → zeroed ≡ emptyTable 2 slots → Shown out (tableBytes slots) count out′
-    → Left (tableOutcome (tableIn memory present) slots) (record { slots = slots; length = count }) memory (zeroed ++ drop (slots * 6) memory) out out′
+    → Left (tableOutcome (tableIn memory present) slots) (record { slots = slots; length = count; answer = answer }) memory (zeroed ++ drop (slots * 6) memory) out out′
 unfolding tableOutcome
-table-made memory present slots n h {count} {out} {out′} e f s =
+table-made memory present slots n h {count} {answer} {out} {out′} e f s =
     let size : length (emptyTable 2 slots) ≡ slots * 6 = length-replicate (slots * 6) 0 in
     rw (e, f)
     (record { slots = sym size; table = ap (λ (k : ℕ). emptyTable 2 slots ++ drop k memory) (sym size); shown = s })
 
-pub table-refused : (memory : List ℕ) (present slots : ℕ) → length memory ≡ 6144 → present ≤ 1024 → {count : ℕ} {out out′ : List ℕ}
+pub table-refused : (memory : List ℕ) (present slots : ℕ) → length memory ≡ 6144 → present ≤ 1024 → {count : ℕ} {answer : LineAnswer} {out out′ : List ℕ}
     → leb 1 slots && leb slots 1024 ≡ false → Shown out (refusalBytes 1 0) count out′
-    → Left (tableOutcome (tableIn memory present) slots) (record { slots = present; length = count }) memory memory out out′
+    → Left (tableOutcome (tableIn memory present) slots) (record { slots = present; length = count; answer = answer }) memory memory out out′
 unfolding tableOutcome
 table-refused memory present slots n h e s = rw e (left-kept memory present n h refl s)
 
@@ -181,7 +186,7 @@ pub left-malformed : (memory : List ℕ) (present number : ℕ) → length memor
     → ran .slots ≡ present → Shown out (refusalBytes 13 number) (ran .length) out′
     → Left (refused (tableIn memory present) 13 number) ran memory memory out out′
 left-malformed memory present number n h ran {out} {out′} e s =
-    let kept = left-kept memory present n h {told = refused (tableIn memory present) 13 number} refl s in
+    let kept = left-kept memory present n h {told = refused (tableIn memory present) 13 number} {answer = ran .answer} refl s in
     record { slots = ap (λ (k : ℕ). k * 6) e ∙ kept .slots; table = kept .table; shown = s }
 
 -- the same of what is left

@@ -1,5 +1,6 @@
 -- What each line of a script does to the table and prints, and a script read block by block.
--- Script, Reading: the definitions. Laws, ReadingLaws: how the code meets them.
+-- Told, Script, Reading: the definitions. Laws, ReadingLaws: how the code meets them.
+pub mod Told
 pub mod Script
 pub mod Laws
 pub mod Reading

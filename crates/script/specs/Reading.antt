@@ -3,7 +3,7 @@
 use mathlib.Core.Path.{_≡_}
 use mathlib.Core.Bool.{cond}
 use mathlib.Core.List.{List, [], _∷_, _++_}
-use Prim.Native.Nat.{ℕ}
+use Prim.Native.Nat.{ℕ, _*_}
 use lib.ListN.{length, drop}
 use Rattle.lines.specs.Held.{takenOf}
 use Rattle.lines.specs.Blocks.{Reading, taking, handedOut}
@@ -28,10 +28,11 @@ turnOf r block from =
     cond (takenOf (length (r .line)) (r .held) (drop from block) from .complete) (handedOut lineOutcome (taking lineOutcome r block from))
     (taking lineOutcome r block from)
 
--- What a call leaves: the reading afterwards, but for what was printed before the call; its bytes stand at the start of the output, and the
--- bytes past them are left as they were.
-pub record Turned (after : Reading (List ℕ)) (next : ℕ) (turn : Turn) (memory′ line′ out out′ : List ℕ) : Type 0 where
-  pub table : tableIn memory′ (turn .place .slots) ≡ after .table
+-- What a call leaves: the reading afterwards, but for what was printed before the call. The table stands at the memory's start, and words past
+-- it are left as they were; its bytes stand at the start of the output, and the bytes past them are left as they were.
+pub record Turned (after : Reading (List ℕ)) (next : ℕ) (turn : Turn) (memory memory′ line′ out out′ : List ℕ) : Type 0 where
+  pub slots : turn .place .slots * 6 ≡ length (after .table)
+  pub table : memory′ ≡ after .table ++ drop (length (after .table)) memory
   pub line : line′ ≡ after .line
   pub held : turn .place .held ≡ after .held
   pub number : turn .place .number ≡ after .number

@@ -6,12 +6,15 @@ use answers::print_plan;
 use answers::print_refusal;
 use answers::print_table;
 use commands::Command;
+use commands::NewTable;
 use commands::key_of;
 use commands::parse;
 use commands::rule_of;
+use lookups::Hit;
 use lookups::LookupAnswer;
 use lookups::lookup::lookup;
 use plans::PlanAnswer;
+use plans::PlanInfo;
 use plans::deletes::plan_delete;
 use records::Cause;
 use records::Rule;
@@ -24,18 +27,60 @@ pub mod reading;
 ghost use mathlib.Core.Path.{_≡_};
 ghost use Prim.Native.Nat.{_≤_, min};
 ghost use lib.ListN.{length, replicate};
-ghost use Rattle.records.specs.Checks.{causeNumber};
+ghost use Rattle.records.specs.Checks.{causeNumber, refusal};
+ghost use Rattle.records.specs.declared.Cause.the-variants.{Line};
 ghost use Rattle.records.specs.Record.{word};
-ghost use Rattle.lookups.specs.Lookup.{lookupAnswer};
+ghost use Rattle.lookups.specs.Lookup.{lookupAnswer, lookupTold};
+ghost use Rattle.table.specs.Inserts.{insertAnswer};
+ghost use Rattle.plans.specs.Deletes.{deleteAnswer};
+ghost use Rattle.commands.specs.Commands.{commandOf};
+ghost use Rattle.script.specs.Told.{lettered, lineTold, tableTold, changeTold, lookedTold, commandTold};
 ghost use Rattle.printing.specs.Printing.{Shown};
 ghost use Rattle.answers.specs.Answers.{refusalBytes};
 ghost use Rattle.script.specs.Script.{lookupBytes, planOutcome, insertOutcome, deleteOutcome, tableOutcome, lookupOutcome, commandOutcome, lineOutcome, tableIn, Within, Changed, Left};
 ghost use Rattle.plans.specs.Plans.{planTold};
 
-// What a line came to: the slots of the table afterwards, and how many bytes the answer has.
+// What a line is answered: the slots of the new table, a plan's count, a hit or a miss, or a refusal.
+pub enum LineAnswer {
+    Made(NewTable),
+    Planned(PlanInfo),
+    Found(Hit),
+    Miss,
+    Refused(Cause, u64),
+}
+
+// How many bytes an answer has, and the answer.
+pub struct Said {
+    pub length: usize,
+    pub answer: LineAnswer,
+}
+
+// What a line came to: the slots of the table afterwards, how many bytes the answer has, and the answer.
 pub struct Ran {
     pub slots: usize,
     pub length: usize,
+    pub answer: LineAnswer,
+}
+
+// A planning call's answer as a line's.
+fn of_plan(answer: PlanAnswer) -> LineAnswer
+    ensures { λ r. ⌜ lineTold r ≡ changeTold (planTold answer) ⌝ }
+{
+    match answer {
+        PlanAnswer::Planned(info) => LineAnswer::Planned(info),
+        PlanAnswer::Refused(cause, spot) => LineAnswer::Refused(cause, spot as u64),
+    }
+}
+
+// A lookup's answer as a line's.
+fn of_lookup(answer: LookupAnswer) -> LineAnswer
+    ensures { λ r. ⌜ lineTold r ≡ lookedTold (lookupTold answer) ⌝ }
+{
+    match answer {
+        LookupAnswer::Found(hit) => LineAnswer::Found(hit),
+        LookupAnswer::Miss => LineAnswer::Miss,
+        LookupAnswer::Refused(cause, spot) => LineAnswer::Refused(cause, spot as u64),
+    }
 }
 
 // `R number spot`
@@ -46,14 +91,27 @@ fn refuse(out: &mut [u8; 14343], cause: Cause, spot: u32) -> usize
     print_refusal(out, number, spot as u64)
 }
 
-// An L line.
-fn look_up(table: &[u64], key: [u64; 2], out: &mut [u8; 14343]) -> usize
-    ensures { λ r. ⌜ Shown (now (out .entry)) (lookupBytes (lookupAnswer 2 (now (table .entry)) (word key))) r (now (out .exit)) ⌝ }
+// A lookup's answer, printed.
+fn print_lookup(answer: LookupAnswer, out: &mut [u8; 14343]) -> usize
+    ensures { λ r. ⌜ Shown (now (out .entry)) (lookupBytes (lookupTold answer)) r (now (out .exit)) ⌝ }
 {
-    match lookup(table, key) {
+    match answer {
         LookupAnswer::Found(hit) => print_hit(out, hit.slot, hit.id, hit.action),
         LookupAnswer::Miss => print_miss(out),
         LookupAnswer::Refused(cause, spot) => refuse(out, cause, spot),
+    }
+}
+
+// An L line.
+fn look_up(table: &[u64], key: [u64; 2], out: &mut [u8; 14343]) -> Said
+    ensures { λ r. ⌜ Shown (now (out .entry)) (lookupBytes (lookupAnswer 2 (now (table .entry)) (word key))) (r .length) (now (out .exit)) ⌝ }
+    ensures { λ r. ⌜ lineTold (r .answer) ≡ lookedTold (lookupAnswer 2 (now (table .entry)) (word key)) ⌝ }
+{
+    let found = lookup(table, key);
+    let length = print_lookup(found, out);
+    Said {
+        length,
+        answer: of_lookup(found),
     }
 }
 
@@ -78,18 +136,24 @@ fn carry_and_print(
 }
 
 // An I line, with a working plan.
-fn insert(table: &mut [u64], rule: Rule, plan: &mut [u32], out: &mut [u8; 14343]) -> usize
+fn insert(table: &mut [u64], rule: Rule, plan: &mut [u32], out: &mut [u8; 14343]) -> Said
     requires { ⌜ length (now plan) ≡ 1024 ⌝ }
-    ensures { λ r. ⌜ Changed (insertOutcome (now (table .entry)) rule) r (now (table .exit)) (now (out .entry)) (now (out .exit)) ⌝ }
+    ensures { λ r. ⌜ Changed (insertOutcome (now (table .entry)) rule) (r .length) (now (table .exit)) (now (out .entry)) (now (out .exit)) ⌝ }
+    ensures { λ r. ⌜ lineTold (r .answer) ≡ changeTold (insertAnswer 2 (now (table .entry)) rule 1024) ⌝ }
 {
     let answer = plan_insert(table, rule, plan);
-    carry_and_print(answer, table, plan, rule, out)
+    let length = carry_and_print(answer, table, plan, rule, out);
+    Said {
+        length,
+        answer: of_plan(answer),
+    }
 }
 
 // A D line, with a working plan.
-fn delete(table: &mut [u64], id: u32, plan: &mut [u32], out: &mut [u8; 14343]) -> usize
+fn delete(table: &mut [u64], id: u32, plan: &mut [u32], out: &mut [u8; 14343]) -> Said
     requires { ⌜ length (now plan) ≡ 1024 ⌝ }
-    ensures { λ r. ⌜ Changed (deleteOutcome (now (table .entry)) id) r (now (table .exit)) (now (out .entry)) (now (out .exit)) ⌝ }
+    ensures { λ r. ⌜ Changed (deleteOutcome (now (table .entry)) id) (r .length) (now (table .exit)) (now (out .entry)) (now (out .exit)) ⌝ }
+    ensures { λ r. ⌜ lineTold (r .answer) ≡ changeTold (deleteAnswer 2 (now (table .entry)) id 1024) ⌝ }
 {
     let answer = plan_delete(table, id, plan);
     let rule = Rule {
@@ -99,18 +163,24 @@ fn delete(table: &mut [u64], id: u32, plan: &mut [u32], out: &mut [u8; 14343]) -
         mask: [0, 0],
         action: 0,
     };
-    carry_and_print(answer, table, plan, rule, out)
+    let length = carry_and_print(answer, table, plan, rule, out);
+    Said {
+        length,
+        answer: of_plan(answer),
+    }
 }
 
-fn insert_line(table: &mut [u64], rule: Rule, out: &mut [u8; 14343]) -> usize
-    ensures { λ r. ⌜ Changed (insertOutcome (now (table .entry)) rule) r (now (table .exit)) (now (out .entry)) (now (out .exit)) ⌝ }
+fn insert_line(table: &mut [u64], rule: Rule, out: &mut [u8; 14343]) -> Said
+    ensures { λ r. ⌜ Changed (insertOutcome (now (table .entry)) rule) (r .length) (now (table .exit)) (now (out .entry)) (now (out .exit)) ⌝ }
+    ensures { λ r. ⌜ lineTold (r .answer) ≡ changeTold (insertAnswer 2 (now (table .entry)) rule 1024) ⌝ }
 {
     let mut plan = [0u32; 1024];
     insert(table, rule, &mut plan, out)
 }
 
-fn delete_line(table: &mut [u64], id: u32, out: &mut [u8; 14343]) -> usize
-    ensures { λ r. ⌜ Changed (deleteOutcome (now (table .entry)) id) r (now (table .exit)) (now (out .entry)) (now (out .exit)) ⌝ }
+fn delete_line(table: &mut [u64], id: u32, out: &mut [u8; 14343]) -> Said
+    ensures { λ r. ⌜ Changed (deleteOutcome (now (table .entry)) id) (r .length) (now (table .exit)) (now (out .entry)) (now (out .exit)) ⌝ }
+    ensures { λ r. ⌜ lineTold (r .answer) ≡ changeTold (deleteAnswer 2 (now (table .entry)) id 1024) ⌝ }
 {
     let mut plan = [0u32; 1024];
     delete(table, id, &mut plan, out)
@@ -131,6 +201,7 @@ fn clear_words(words: &mut [u64])
 fn new_table(memory: &mut [u64], present: usize, slots: u32, out: &mut [u8; 14343]) -> Ran
     requires { ⌜ (length (now memory) ≡ 6144) × (present ≤ 1024) ⌝ }
     ensures { λ r. ⌜ Left (tableOutcome (tableIn (now (memory .entry)) present) slots) r (now (memory .entry)) (now (memory .exit)) (now (out .entry)) (now (out .exit)) ⌝ }
+    ensures { λ r. ⌜ lineTold (r .answer) ≡ tableTold slots ⌝ }
 {
     let count = slots as usize;
     if (1 <= count) & (count <= 1024) {
@@ -139,56 +210,69 @@ fn new_table(memory: &mut [u64], present: usize, slots: u32, out: &mut [u8; 1434
         return Ran {
             slots: count,
             length,
+            answer: LineAnswer::Made(NewTable { slots }),
         };
     }
     let length = refuse(out, Cause::Shape, 0);
     Ran {
         slots: present,
         length,
+        answer: LineAnswer::Refused(Cause::Shape, 0),
     }
 }
 
 fn insert_in(memory: &mut [u64], present: usize, rule: Rule, out: &mut [u8; 14343]) -> Ran
     requires { ⌜ (length (now memory) ≡ 6144) × (present ≤ 1024) ⌝ }
     ensures { λ r. ⌜ Left (insertOutcome (tableIn (now (memory .entry)) present) rule) r (now (memory .entry)) (now (memory .exit)) (now (out .entry)) (now (out .exit)) ⌝ }
+    ensures { λ r. ⌜ lineTold (r .answer) ≡ changeTold (insertAnswer 2 (tableIn (now (memory .entry)) present) rule 1024) ⌝ }
 {
-    let length = insert_line(&mut memory[..present * 6], rule, out);
+    let said = insert_line(&mut memory[..present * 6], rule, out);
+    let answer = said.answer;
     Ran {
         slots: present,
-        length,
+        length: said.length,
+        answer,
     }
 }
 
 fn delete_in(memory: &mut [u64], present: usize, id: u32, out: &mut [u8; 14343]) -> Ran
     requires { ⌜ (length (now memory) ≡ 6144) × (present ≤ 1024) ⌝ }
     ensures { λ r. ⌜ Left (deleteOutcome (tableIn (now (memory .entry)) present) id) r (now (memory .entry)) (now (memory .exit)) (now (out .entry)) (now (out .exit)) ⌝ }
+    ensures { λ r. ⌜ lineTold (r .answer) ≡ changeTold (deleteAnswer 2 (tableIn (now (memory .entry)) present) id 1024) ⌝ }
 {
-    let length = delete_line(&mut memory[..present * 6], id, out);
+    let said = delete_line(&mut memory[..present * 6], id, out);
+    let answer = said.answer;
     Ran {
         slots: present,
-        length,
+        length: said.length,
+        answer,
     }
 }
 
 fn lookup_in(memory: &[u64], present: usize, key: [u64; 2], out: &mut [u8; 14343]) -> Ran
     requires { ⌜ (length (now memory) ≡ 6144) × (present ≤ 1024) ⌝ }
     ensures { λ r. ⌜ Left (lookupOutcome (tableIn (now (memory .entry)) present) key) r (now (memory .entry)) (now (memory .entry)) (now (out .entry)) (now (out .exit)) ⌝ }
+    ensures { λ r. ⌜ lineTold (r .answer) ≡ lookedTold (lookupAnswer 2 (tableIn (now (memory .entry)) present) (word key)) ⌝ }
 {
-    let length = look_up(&memory[..present * 6], key, out);
+    let said = look_up(&memory[..present * 6], key, out);
+    let answer = said.answer;
     Ran {
         slots: present,
-        length,
+        length: said.length,
+        answer,
     }
 }
 
 // A malformed line: 13, spot the line's number.
 fn malformed(present: usize, number: u64, out: &mut [u8; 14343]) -> Ran
+    ensures { λ r. ⌜ lineTold (r .answer) ≡ lettered 82 (refusal Line number) ⌝ }
     ensures { λ r. ⌜ (r .slots ≡ present) × Shown (now (out .entry)) (refusalBytes 13 number) (r .length) (now (out .exit)) ⌝ }
 {
     let length = print_refusal(out, cause_number(Cause::Line), number);
     Ran {
         slots: present,
         length,
+        answer: LineAnswer::Refused(Cause::Line, number),
     }
 }
 
@@ -201,6 +285,7 @@ fn run_command(
 ) -> Ran
     requires { ⌜ (length (now memory) ≡ 6144) × (present ≤ 1024) ⌝ }
     ensures { λ r. ⌜ Left (commandOutcome (tableIn (now (memory .entry)) present) number command) r (now (memory .entry)) (now (memory .exit)) (now (out .entry)) (now (out .exit)) ⌝ }
+    ensures { λ r. ⌜ lineTold (r .answer) ≡ commandTold (tableIn (now (memory .entry)) present) number command ⌝ }
 {
     match command {
         Command::Table(new) => new_table(memory, present, new.slots, out),
@@ -212,7 +297,7 @@ fn run_command(
 }
 
 // A table has at most 1,024 slots: no more fit into the memory.
-fn slots_present(slots: usize) -> usize
+pub(crate) fn slots_present(slots: usize) -> usize
     ensures { λ r. ⌜ r ≡ min slots 1024 ⌝ }
 {
     if slots < 1024 {
@@ -230,6 +315,7 @@ pub fn run_line(
     out: &mut [u8; 14343],
 ) -> Ran
     ensures { λ r. ⌜ Left (lineOutcome (tableIn (now (memory .entry)) slots) number (now (line .entry))) r (now (memory .entry)) (now (memory .exit)) (now (out .entry)) (now (out .exit)) ⌝ }
+    ensures { λ r. ⌜ lineTold (r .answer) ≡ commandTold (tableIn (now (memory .entry)) slots) number (commandOf (now (line .entry))) ⌝ }
 {
     let present = slots_present(slots);
     let command = parse(line);

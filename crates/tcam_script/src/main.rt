@@ -4,8 +4,9 @@ ghost use mathlib.Core.Path.{_≡_};
 ghost use mathlib.Core.Bool.{true};
 ghost use mathlib.Core.List.{List};
 ghost use Prim.Native.Nat.{ℕ, _≤_};
-ghost use lib.ListN.{length};
-ghost use Rattle.transcripts.specs.Whole.{Ended, Read, Through, keeping, opening};
+ghost use lib.ListN.{length, replicate};
+ghost use Rattle.transcripts.specs.Whole.{Ended, Read, Stopped, keeping, opening};
+ghost use Rattle.tcam_script.specs.Reads.{Took, TookBlock, TookRead};
 use script::reading::Place;
 use script::reading::last_turn;
 use script::reading::take_turn;
@@ -27,13 +28,12 @@ fn write_answer(out: &[u8], count: usize) -> bool
 // Takes the bytes of a block, turn by turn, and writes each answer; stops where one cannot be written.
 fn run_block(
     memory: &mut [u64; 6144],
-    line: &mut [u8],
+    line: &mut [u8; 257],
     first: Place,
     block: &[u8],
     out: &mut [u8; 14343],
 ) -> Went
-    ensures { λ r. ⌜ (r .more ≡ true → r .well ≡ true) ⌝ }
-    ensures { λ r. ⌜ (r .well ≡ true → (bytes : List ℕ) × Through (now (block .entry)) (keeping (now (memory .entry)) (now (line .entry)) first) bytes (keeping (now (memory .exit)) (now (line .exit)) (r .place))) ⌝ }
+    ensures { λ r. ⌜ TookBlock (now (block .entry)) (keeping (now (memory .entry)) (now (line .entry)) first) r (keeping (now (memory .exit)) (now (line .exit)) (r .place)) ⌝ }
 {
     let mut place = first;
     let mut from = 0;
@@ -51,18 +51,17 @@ fn run_block(
     }
 }
 
-// Reads a block and takes its bytes.
-fn read_block(
+// What a read comes to that answered a number: a failure, the end of the input, or so many bytes, which are taken.
+fn take_read(
     memory: &mut [u64; 6144],
-    line: &mut [u8],
+    line: &mut [u8; 257],
     place: Place,
+    buffer: &[u8],
+    got: isize,
     out: &mut [u8; 14343],
 ) -> Went
-    ensures { λ r. ⌜ (r .more ≡ true → r .well ≡ true) ⌝ }
-    ensures { λ r. ⌜ (r .well ≡ true → (block : List ℕ) × (bytes : List ℕ) × Through block (keeping (now (memory .entry)) (now (line .entry)) place) bytes (keeping (now (memory .exit)) (now (line .exit)) (r .place))) ⌝ }
+    ensures { λ r. ⌜ TookRead got (now (buffer .entry)) (keeping (now (memory .entry)) (now (line .entry)) place) r (keeping (now (memory .exit)) (now (line .exit)) (r .place)) ⌝ }
 {
-    let mut block = io::buffer();
-    let got = libc::read(0, &mut block);
     if got <= 0 {
         return Went {
             place,
@@ -70,13 +69,27 @@ fn read_block(
             well: 0 <= got,
         };
     }
-    let count = io::count(got, &block);
-    run_block(memory, line, place, &block[..count], out)
+    let count = io::count(got, buffer);
+    run_block(memory, line, place, &buffer[..count], out)
+}
+
+// Reads a block and takes its bytes.
+fn read_block(
+    memory: &mut [u64; 6144],
+    line: &mut [u8; 257],
+    place: Place,
+    out: &mut [u8; 14343],
+) -> Went
+    ensures { λ r. ⌜ Took (keeping (now (memory .entry)) (now (line .entry)) place) r (keeping (now (memory .exit)) (now (line .exit)) (r .place)) ⌝ }
+{
+    let mut buffer = io::buffer();
+    let got = libc::read(0, &mut buffer);
+    take_read(memory, line, place, &buffer, got, out)
 }
 
 // Reads all blocks.
-fn read_blocks(memory: &mut [u64; 6144], line: &mut [u8], out: &mut [u8; 14343]) -> Went
-    ensures { λ r. ⌜ (r .well ≡ true → (blocks : List (List ℕ)) × (bytes : List ℕ) × Read (opening (now (memory .entry)) (now (line .entry))) blocks bytes (keeping (now (memory .exit)) (now (line .exit)) (r .place))) ⌝ }
+fn read_blocks(memory: &mut [u64; 6144], line: &mut [u8; 257], out: &mut [u8; 14343]) -> Went
+    ensures { λ r. ⌜ (r .well ≡ true → (blocks : List (List ℕ)) × (bytes : List ℕ) × Stopped blocks × Read (opening (now (memory .entry)) (now (line .entry))) blocks bytes (keeping (now (memory .exit)) (now (line .exit)) (r .place))) ⌝ }
 {
     let mut turns = u64::MAX;
     let mut went = Went {
@@ -96,12 +109,13 @@ fn read_blocks(memory: &mut [u64; 6144], line: &mut [u8], out: &mut [u8; 14343])
 }
 
 // Reads the whole script; a read or a write that fails ends it.
-fn run(memory: &mut [u64; 6144], line: &mut [u8; 257], out: &mut [u8; 14343]) -> Went
-    ensures { λ r. ⌜ (r .well ≡ true → Ended (opening (now (memory .entry)) (now (line .entry))) (now (memory .exit)) (now (out .exit)) (r .place .slots)) ⌝ }
+fn run(memory: &mut [u64; 6144], out: &mut [u8; 14343]) -> Went
+    ensures { λ r. ⌜ (r .well ≡ true → Ended (opening (now (memory .entry)) (replicate 257 0)) (now (memory .exit)) (now (out .exit)) (r .place .slots)) ⌝ }
 {
-    let went = read_blocks(memory, line, out);
+    let mut line = [0u8; 257];
+    let went = read_blocks(memory, &mut line, out);
     if went.well {
-        let turn = last_turn(memory, line, went.place, out);
+        let turn = last_turn(memory, &line, went.place, out);
         let well = write_answer(out, turn.length);
         let place = turn.place;
         return Went {
@@ -115,7 +129,6 @@ fn run(memory: &mut [u64; 6144], line: &mut [u8; 257], out: &mut [u8; 14343]) ->
 
 fn main() {
     let mut memory = [0u64; 6144];
-    let mut line = [0u8; 257];
     let mut out = [0u8; 14343];
-    run(&mut memory, &mut line, &mut out);
+    run(&mut memory, &mut out);
 }

@@ -5,7 +5,7 @@ use mathlib.Core.Bool.{Bool, true, false, cond, _&&_, true≢false}
 use mathlib.Core.Logic.{_⊎_}
 use mathlib.Core.Logic._⊎_.{inl, inr}
 use mathlib.Core.Option.{Option, none, some}
-use mathlib.Core.List.{List, [], _∷_}
+use mathlib.Core.List.{List, [], _∷_, _++_}
 use Prim.Native.Nat.{ℕ, _<_}
 use native.Mathlib.Omega.{arith}
 use lib.Dec.{eqb, leb}
@@ -30,7 +30,7 @@ use Rattle.table.specs.Inserts.{insertWords}
 use Rattle.plans.specs.Deletes.{deleteChecks, deleteWords}
 use Rattle.histories.specs.RuleSet.{Change, insert, delete, ruleSet, highestMatch, ruleReply}
 use Rattle.histories.specs.Demand2.{demand-2-insert, demand-2-delete, carried-whole}
-use Rattle.histories.specs.Histories.{Reached, reached-sound, reached-lookup}
+use Rattle.histories.specs.Histories.{Reached, emptyTable, reached-sound, reached-lookup}
 use Rattle.lines.specs.Lines.{nextNumber}
 use Rattle.lines.specs.Blocks.{Outcome, answered}
 use Rattle.fields.specs.Fields.{isNumber, isPattern, isKey, symbolWords, valueBit, maskBit}
@@ -39,8 +39,9 @@ use Rattle.commands.specs.Commands.{commandOf, ruleOf, keyOf, tableCommand, ins
 use Rattle.commands.specs.declared.Query.{Query}
 use Rattle.commands.specs.declared.Command.{Command}
 use Rattle.commands.specs.declared.Command.the-variants.{Table, Insert, Delete, Lookup, Malformed}
-use Rattle.answers.specs.Answers.{hitBytes, missBytes, refusalBytes}
-use Rattle.script.specs.Script.{refused, lookupBytes, tableOutcome, insertOutcome, deleteOutcome, commandOutcome, lineOutcome, noRule}
+use Rattle.printing.specs.Lines.{printed}
+use Rattle.answers.specs.Answers.{tableBytes, printedWrites, planBytes, hitBytes, missBytes, refusalBytes}
+use Rattle.script.specs.Script.{refused, changeOutcome, lookupBytes, tableOutcome, insertOutcome, deleteOutcome, commandOutcome, lineOutcome, noRule}
 
 -- an insert that a line tells has an action of 32 bits
 abbrev Small : Command → Type 0
@@ -122,11 +123,11 @@ none-deletes : (id : ℕ) → deleteChecks 2 [] id ≡ Fail Shape 0
 unfolding deleteChecks tableChecks slotChecks checkShape shaped
 none-deletes id = refl
 
-insert-none : (rule : Rule) → insertOutcome [] rule ≡ refused [] 1 0
+pub insert-none : (rule : Rule) → insertOutcome [] rule ≡ refused [] 1 0
 unfolding insertOutcome
 insert-none rule = rw (none-inserts rule)
 
-delete-none : (id : ℕ) → deleteOutcome [] id ≡ refused [] 1 0
+pub delete-none : (id : ℕ) → deleteOutcome [] id ≡ refused [] 1 0
 unfolding deleteOutcome
 delete-none id = rw (none-deletes id)
 
@@ -277,3 +278,42 @@ script-lookup lines number line query e = pick (script-since lines)
         inr
         (subst (AnswerOf (highestMatch 2 (word (keyOf query)) (ruleSet (historyOf [] 1 [] lines)))) (sym same)
         (lookup-answered (historyOf [] 1 [] lines) t reached (keyOf query)))
+
+-- A line that is declined leaves the table as it was: one whose answer starts with R.
+plan-first : (words : List ℕ) → getD (planBytes words) 0 0 ≡ 82 → ⊥
+unfolding planBytes
+plan-first words = by (leb (length words) 1024)
+  where
+    by : (b : Bool) → getD (cond b (printed 80 (length words ∷ []) ++ printedWrites words) []) 0 0 ≡ 82 → ⊥
+    by true e = let n : _≡_ {A = ℕ} 80 82 = e in omega arith
+    by false e = let n : _≡_ {A = ℕ} 0 82 = e in omega arith
+
+change-kept : (t : List ℕ) (x : Check) (words after : List ℕ) → getD (changeOutcome t x words after .printed) 0 0 ≡ 82 → changeOutcome t x words after .table ≡ t
+change-kept t Pass words after e = absurd (plan-first words e)
+change-kept t (Fail cause spot) words after e = refl
+
+table-kept : (t : List ℕ) (slots : ℕ) → getD (tableOutcome t slots .printed) 0 0 ≡ 82 → tableOutcome t slots .table ≡ t
+unfolding tableOutcome
+table-kept t slots = by (leb 1 slots && leb slots 1024)
+  where
+    told : Bool → Outcome (List ℕ)
+    told b = cond b (record { table = emptyTable 2 slots; printed = tableBytes slots }) (refused t 1 0)
+
+    by : (b : Bool) → getD (told b .printed) 0 0 ≡ 82 → told b .table ≡ t
+    by true e = let n : _≡_ {A = ℕ} 78 82 = e in absurd (omega arith)
+    by false e = refl
+
+command-kept : (t : List ℕ) (number : ℕ) (c : Command) → getD (commandOutcome t number c .printed) 0 0 ≡ 82 → commandOutcome t number c .table ≡ t
+unfolding insertOutcome deleteOutcome
+command-kept t number (Table new) e = table-kept t (new .slots) e
+command-kept t number (Insert insertion) e =
+    let rule = ruleOf insertion in
+    change-kept t (insertChecks 2 t rule) (insertWords 2 t rule) (applyWords 2 t rule (insertWords 2 t rule)) e
+command-kept t number (Delete deletion) e =
+    let id = deletion .id in
+    change-kept t (deleteChecks 2 t id) (deleteWords 2 t id) (applyWords 2 t noRule (deleteWords 2 t id)) e
+command-kept t number (Lookup query) e = refl
+command-kept t number Malformed e = refl
+
+pub refused-kept : (t : List ℕ) (number : ℕ) (line : List ℕ) → getD (lineOutcome t number line .printed) 0 0 ≡ 82 → lineOutcome t number line .table ≡ t
+refused-kept t number line e = command-kept t number (commandOf line) e

@@ -22,6 +22,7 @@ use Rattle.script.specs.declared.reading.Place.{Place}
 use Rattle.script.specs.declared.reading.Turn.{Turn}
 use Rattle.script.specs.Script.{commandOutcome, lineOutcome, tableIn}
 use Rattle.script.specs.Reading.{readingOf, turnOf, Turned}
+use Rattle.script.specs.ReadingLaws.{turned-table}
 
 -- document 01: before a good T the table has no slots; lines are numbered from 1
 unfoldable pub scriptOutcome : List ℕ → Outcome (List ℕ)
@@ -104,12 +105,12 @@ shown-within {out} {text} s =
 
 -- What a call leaves, where the reading stands: the reading after it stands where the program then does, and it has printed the bytes at the
 -- output's start more.
-module _ {after x : Reading (List ℕ)} {next : ℕ} {turn : Turn} {memory′ line′ out out′ : List ℕ} where
-  goes-on : (bytes : List ℕ) → after ≡ printedBefore bytes x → Turned x next turn memory′ line′ out out′
+module _ {after x : Reading (List ℕ)} {next : ℕ} {turn : Turn} {memory memory′ line′ out out′ : List ℕ} where
+  goes-on : (bytes : List ℕ) → after ≡ printedBefore bytes x → Turned x next turn memory memory′ line′ out out′
       → At after (keeping memory′ line′ (turn .place)) × (after .printed ≡ bytes ++ take (turn .length) out′)
   goes-on bytes e t = (
     record {
-      table = t .table ∙ ap (λ (y : Reading (List ℕ)). y .table) (sym e);
+      table = turned-table t ∙ ap (λ (y : Reading (List ℕ)). y .table) (sym e);
       line = t .line ∙ ap (λ (y : Reading (List ℕ)). y .line) (sym e);
       held = t .held ∙ ap (λ (y : Reading (List ℕ)). y .held) (sym e);
       number = t .number ∙ ap (λ (y : Reading (List ℕ)). y .number) (sym e);
@@ -119,7 +120,7 @@ module _ {after x : Reading (List ℕ)} {next : ℕ} {turn : Turn} {memory′ li
 
 -- a call of take_turn is a turn of the reading
 pub turn-kept : (r : Reading (List ℕ)) (kept : Kept) (block : List ℕ) (from next : ℕ) (turn : Turn) (memory′ line′ out out′ : List ℕ) → At r kept
-    → Turned (turnOf (readingOf (kept .memory) (kept .line) (kept .place)) block from) next turn memory′ line′ out out′
+    → Turned (turnOf (readingOf (kept .memory) (kept .line) (kept .place)) block from) next turn (kept .memory) memory′ line′ out out′
     → At (turnOf r block from) (keeping memory′ line′ (turn .place))
     × (turnOf r block from .printed ≡ r .printed ++ take (turn .length) out′)
 turn-kept r kept block from next turn memory′ line′ out out′ a t =
@@ -128,7 +129,7 @@ turn-kept r kept block from next turn memory′ line′ out out′ a t =
 
 -- a call of last_turn is the reading's end
 pub last-kept : (r : Reading (List ℕ)) (kept : Kept) (turn : Turn) (memory′ out out′ : List ℕ) → At r kept
-    → Turned (finished lineOutcome (readingOf (kept .memory) (kept .line) (kept .place))) 0 turn memory′ (kept .line) out out′
+    → Turned (finished lineOutcome (readingOf (kept .memory) (kept .line) (kept .place))) 0 turn (kept .memory) memory′ (kept .line) out out′
     → At (finished lineOutcome r) (keeping memory′ (kept .line) (turn .place))
     × (finished lineOutcome r .printed ≡ r .printed ++ take (turn .length) out′)
 last-kept r kept turn memory′ out out′ a t =
@@ -168,7 +169,7 @@ pub data Called (block : List ℕ) (start : Kept) : List ℕ → Kept → ℕ �
   begin : Called block start [] start 0
   turned : (bytes : List ℕ) (kept : Kept) (from : ℕ) → Called block start bytes kept from → from < length block
       → (turn : Turn) (memory′ line′ out out′ : List ℕ)
-      → Turned (turnOf (readingOf (kept .memory) (kept .line) (kept .place)) block from) (nextOf kept block from) turn memory′ line′ out out′
+      → Turned (turnOf (readingOf (kept .memory) (kept .line) (kept .place)) block from) (nextOf kept block from) turn (kept .memory) memory′ line′ out out′
       → Called block start (bytes ++ take (turn .length) out′) (keeping memory′ line′ (turn .place)) (turn .next)
 
 -- a block taken until its end
@@ -271,7 +272,7 @@ opening memory line = keeping memory line (record { slots = 0; held = 0; number 
 -- The whole script: the answers of all turns and of the last are what the input prints, and the table in the memory is the one it leaves.
 pub script-printed : (memory line : List ℕ) → length line ≡ 257 → (blocks : List (List ℕ)) (bytes : List ℕ) (kept : Kept)
     → Read (opening memory line) blocks bytes kept → (turn : Turn) (memory′ out out′ : List ℕ)
-    → Turned (finished lineOutcome (readingOf (kept .memory) (kept .line) (kept .place))) 0 turn memory′ (kept .line) out out′
+    → Turned (finished lineOutcome (readingOf (kept .memory) (kept .line) (kept .place))) 0 turn (kept .memory) memory′ (kept .line) out out′
     → (bytes ++ take (turn .length) out′ ≡ scriptOutcome (whole blocks) .printed)
     × (tableIn memory′ (turn .place .slots) ≡ scriptOutcome (whole blocks) .table)
 script-printed memory line h blocks bytes kept read turn memory′ out out′ t =
@@ -284,21 +285,26 @@ script-printed memory line h blocks bytes kept read turn memory′ out out′ t 
       end .0 .table ∙ ap (λ (x : Outcome (List ℕ)). x .table) e,
     )
 
+-- where reading stops: at a block of no bytes, the end of the input, and never before, unless 2^64 − 1 blocks were read
+abbrev pub Stopped : List (List ℕ) → Type 0
+Stopped blocks = ((before : List (List ℕ)) × (blocks ≡ before ++ [] ∷ [])) ⊎ (length blocks ≡ 18446744073709551615)
+
 -- What a program leaves that has read to the end and made the last turn, its answer at the output's start: the blocks read, all answers before
 -- the last, and the program where it then stood.
 pub record Ended (start : Kept) (memory′ out′ : List ℕ) (slots : ℕ) : Type 0 where
   pub blocks : List (List ℕ)
   pub answers : List ℕ
   pub before : Kept
+  pub stopped : Stopped blocks
   pub read : Read start blocks answers before
   pub last : ℕ
   pub printed : answers ++ take last out′ ≡ scriptOutcome (whole blocks) .printed
   pub table : tableIn memory′ slots ≡ scriptOutcome (whole blocks) .table
 
 pub script-ended : (memory line : List ℕ) → length line ≡ 257 → (kept : Kept)
-    → ((blocks : List (List ℕ)) × (bytes : List ℕ) × Read (opening memory line) blocks bytes kept) → (turn : Turn) (memory′ out out′ : List ℕ)
-    → Turned (finished lineOutcome (readingOf (kept .memory) (kept .line) (kept .place))) 0 turn memory′ (kept .line) out out′
+    → ((blocks : List (List ℕ)) × (bytes : List ℕ) × Stopped blocks × Read (opening memory line) blocks bytes kept) → (turn : Turn) (memory′ out out′ : List ℕ)
+    → Turned (finished lineOutcome (readingOf (kept .memory) (kept .line) (kept .place))) 0 turn (kept .memory) memory′ (kept .line) out out′
     → Ended (opening memory line) memory′ out′ (turn .place .slots)
-script-ended memory line h kept (blocks, bytes, read) turn memory′ out out′ t =
+script-ended memory line h kept (blocks, bytes, stopped, read) turn memory′ out out′ t =
     let told = script-printed memory line h blocks bytes kept read turn memory′ out out′ t in
-    record { blocks = blocks; answers = bytes; before = kept; read = read; last = turn .length; printed = told .0; table = told .1 }
+    record { blocks = blocks; answers = bytes; before = kept; stopped = stopped; read = read; last = turn .length; printed = told .0; table = told .1 }

@@ -1,8 +1,11 @@
 -- `script::delete` meets its contract.
--- The planning call, carried out and printed, is the line's outcome.
+-- The plan is carried out and printed, and the answer is the planning call's.
+use mathlib.Core.Path.{ap, _∙_}
 use native.Mathlib.Omega.{arith}
 use denote.Ref.{now}
+use Rattle.plans.specs.Deletes.{deleteAnswer}
 use Rattle.script.specs.Laws.{delete-is, changed-is}
+use Rattle.script.specs.Told.{changeTold}
 use borrow.Author.Needs.{needs}
 use Rattle.script.proofs.delete.Statement.{statement}
 use Rattle.script.proofs.delete.Tie as tie
@@ -11,7 +14,13 @@ plan-delete-requires : tie.Need-plan-delete-requires
 plan-delete-requires c κs = search needs
 
 carry-and-print-requires : tie.Need-carry-and-print-requires
-carry-and-print-requires c κs = delete-is (now (c .before .before .before .before .before .before .before .before .before .before .args .table)) (c .before .before .before .before .before .before .before .before .before .before .args .id) (now (c .before .before .before .before .before .before .before .before .before .before .args .plan)) (c .before .before .before .before .before .plan-delete .last .1 .1 .0) _ (c .before .before .before .before .before .before .before .before .before .before .pre) (c .before .before .before .before .before .plan-delete .ensures .0) (c .before .before .before .before .before .plan-delete .ensures .1) .0
+carry-and-print-requires c κs =
+    let s = c .before .before .before .before .before .before .before .before .before .before in
+    let p = c .before .before .before .before .before .plan-delete in
+    delete-is (now (s .args .table)) (s .args .id) (now (s .args .plan)) (p .last .1 .1 .0) _ (s .pre) (p .ensures .0) (p .ensures .1) .0
+
+of-plan-requires : tie.Need-of-plan-requires
+of-plan-requires c κs = search needs
 
 same-length : tie.Need-same-length
 same-length c = search needs
@@ -20,9 +29,20 @@ same-length-2 : tie.Need-same-length-2
 same-length-2 c = search needs
 
 returns : tie.Need-returns
-returns c = changed-is (delete-is (now (c .before .before .before .before .before .before .before .before .before .before .before .before .before .args .table)) (c .before .before .before .before .before .before .before .before .before .before .before .before .before .args .id) (now (c .before .before .before .before .before .before .before .before .before .before .before .before .before .args .plan)) (c .before .before .before .before .before .before .before .before .plan-delete .last .1 .1 .0) _ (c .before .before .before .before .before .before .before .before .before .before .before .before .before .pre) (c .before .before .before .before .before .before .before .before .plan-delete .ensures .0) (c .before .before .before .before .before .before .before .before .plan-delete .ensures .1) .1) (c .before .before .carry-and-print .ensures)
+returns c =
+    let s = c .before .before .before .before .before .before .before .before .before .before .before .before .before .before in
+    let p = c .before .before .before .before .before .before .before .before .before .plan-delete in (
+      changed-is (delete-is (now (s .args .table)) (s .args .id) (now (s .args .plan)) (p .last .1 .1 .0) _ (s .pre) (p .ensures .0) (p .ensures .1) .1) (c .before .before .before .carry-and-print .ensures),
+      c .of-plan .ensures ∙ ap changeTold (p .ensures .0 ∙ ap (deleteAnswer 2 (now (s .args .table)) (s .args .id)) (s .pre)),
+    )
 
 pub delete-spec : {M : Type 1} → statement M
 delete-spec =
     tie.close
-    (tie.spec plan-delete-requires carry-and-print-requires same-length same-length-2 returns)
+    (tie.spec
+    plan-delete-requires
+    carry-and-print-requires
+    of-plan-requires
+    same-length
+    same-length-2
+    returns)

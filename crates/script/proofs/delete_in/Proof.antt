@@ -1,5 +1,5 @@
 -- `script::delete_in` meets its contract.
--- The table is the words at the memory's start.
+-- The words past the table stay.
 use mathlib.Core.Path.{_≡_, sym, _∙_}
 use native.Mathlib.Omega.{arith}
 use Prim.Native.Nat.{_*_}
@@ -28,10 +28,13 @@ same-length c = search needs
 
 returns : tie.Need-returns
 returns c =
-    let a = c .before .before .before .before .before .before .args in
-    let pre = c .before .before .before .before .before .before .pre in
-    let kept : length (c .before .before .delete-line .last .0) ≡ length (take (a .present * 6) (now (a .memory))) = search needs in
-    left-changed (now (a .memory)) (a .present) (pre .0) (pre .1) (kept ∙ length-take-le (a .present * 6) (now (a .memory)) (omega (arith, pre .0, pre .1))) (c .before .before .delete-line .ensures)
+    let s = c .before .before .before .before .before .before in
+    let a = s .args in
+    let line = c .before .before .delete-line in
+    let kept : length (line .last .0) ≡ length (take (a .present * 6) (now (a .memory))) = search needs in (
+      left-changed (now (a .memory)) (a .present) (s .pre .0) (s .pre .1) (kept ∙ length-take-le (a .present * 6) (now (a .memory)) (omega (arith, s .pre .0, s .pre .1))) (line .ensures .0),
+      line .ensures .1,
+    )
 
 pub delete-in-spec : {M : Type 1} → statement M
 delete-in-spec =

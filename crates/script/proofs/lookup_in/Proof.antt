@@ -1,5 +1,5 @@
 -- `script::lookup_in` meets its contract.
--- The table is the words at the memory's start.
+-- The table stays.
 use mathlib.Core.Path.{refl, sym}
 use native.Mathlib.Omega.{arith}
 use lib.Seq.{length-take-le}
@@ -19,7 +19,9 @@ look-up-requires : tie.Need-look-up-requires
 look-up-requires c κs = search needs
 
 returns : tie.Need-returns
-returns c = let a = c .before .before .before .before .args in left-kept (now (a .memory)) (a .present) (c .before .before .before .before .pre .0) (c .before .before .before .before .pre .1) refl (c .look-up .ensures)
+returns c =
+    let s = c .before .before .before .before in
+    (left-kept (now (s .args .memory)) (s .args .present) (s .pre .0) (s .pre .1) refl (c .look-up .ensures .0), c .look-up .ensures .1)
 
 pub lookup-in-spec : {M : Type 1} → statement M
 lookup-in-spec = tie.close (tie.spec mul-look-up slice-aggregate-look-up look-up-requires returns)

@@ -1,5 +1,5 @@
 -- `script::malformed` meets its contract.
--- The number printed is that of a malformed line.
+-- The cause is 13.
 use mathlib.Core.Path.{refl, ap}
 use Prim.Native.Nat.{ℕ}
 use Rattle.answers.specs.Answers.{refusalBytes}
@@ -15,7 +15,7 @@ print-refusal-requires : tie.Need-print-refusal-requires
 print-refusal-requires c κs = search needs
 
 returns : tie.Need-returns
-returns c = (refl, shown-is (ap (λ (n : ℕ). refusalBytes n (c .before .before .before .args .number)) (c .before .cause-number .ensures)) (c .print-refusal .ensures))
+returns c = (refl, (refl, shown-is (ap (λ (n : ℕ). refusalBytes n (c .before .before .before .args .number)) (c .before .cause-number .ensures)) (c .print-refusal .ensures)))
 
 pub malformed-spec : {M : Type 1} → statement M
 malformed-spec = tie.close (tie.spec cause-number-requires print-refusal-requires returns)

@@ -1,11 +1,12 @@
 -- `script::new_table` meets its contract.
--- The words of the new table, where it has 1 to 1,024 slots, are zero.
+-- Slots made are empty, and a refused T leaves the table.
 use mathlib.Core.Path.{sym, ap, _∙_}
 use Prim.Native.Nat.{ℕ, _*_}
 use native.Mathlib.Omega.{arith}
 use lib.ListN.{length, replicate}
 use lib.Seq.{length-take-le}
 use denote.Ref.{now}
+use Rattle.script.specs.Told.{table-told, table-untold}
 use Rattle.script.specs.Laws.{slots-fit, table-made, table-refused}
 use borrow.Author.Needs.{needs}
 use Rattle.script.proofs.new_table.Statement.{statement}
@@ -32,15 +33,22 @@ same-length c = search needs
 returns : tie.Need-returns
 returns c =
     let s = c .before .before .before .before .before .before .before .before in
-    let fit = slots-fit (s .args .memory .now) (s .args .slots) (s .pre .0) (c .before .before .before .before .before .before .if1 .taken) in
-    table-made (now (s .args .memory)) (s .args .present) (s .args .slots) (s .pre .0) (s .pre .1) (c .before .before .before .before .before .before .if1 .taken)
-    (c .before .before .before .before .clear-words .ensures ∙ ap (λ (n : ℕ). replicate n 0) (length-take-le (s .args .slots * 6) (s .args .memory .now) fit)) (c .print-table .ensures)
+    let good = c .before .before .before .before .before .before .if1 .taken in
+    let fit = slots-fit (s .args .memory .now) (s .args .slots) (s .pre .0) good in (
+      table-made (now (s .args .memory)) (s .args .present) (s .args .slots) (s .pre .0) (s .pre .1) good
+          (c .before .before .before .before .clear-words .ensures ∙ ap (λ (n : ℕ). replicate n 0) (length-take-le (s .args .slots * 6) (s .args .memory .now) fit)) (c .print-table .ensures),
+      table-told (s .args .slots) good,
+    )
 
 refuse-requires : tie.Need-refuse-requires
 refuse-requires c κs = search needs
 
 returns-2 : tie.Need-returns-2
-returns-2 c = let s = c .before .before .before .before in table-refused (now (s .args .memory)) (s .args .present) (s .args .slots) (s .pre .0) (s .pre .1) (c .before .before .if1 .left) (c .refuse .ensures)
+returns-2 c =
+    let s = c .before .before .before .before in (
+      table-refused (now (s .args .memory)) (s .args .present) (s .args .slots) (s .pre .0) (s .pre .1) (c .before .before .if1 .left) (c .refuse .ensures),
+      table-untold (s .args .slots) (c .before .before .if1 .left),
+    )
 
 pub new-table-spec : {M : Type 1} → statement M
 new-table-spec =

@@ -1,7 +1,14 @@
 -- `script::run_command` meets its contract.
 -- Each command is what its letter says.
 use mathlib.Core.Path.{sym, ap, _∙_}
+use mathlib.Core.List.{List}
+use Prim.Native.Nat.{ℕ}
 use denote.Ref.{now}
+use Rattle.records.specs.Record.{word}
+use Rattle.records.specs.declared.Rule.{Rule}
+use Rattle.lookups.specs.Lookup.{lookupAnswer}
+use Rattle.table.specs.Inserts.{insertAnswer}
+use Rattle.script.specs.Told.{changeTold, lookedTold, commandTold}
 use Rattle.script.specs.Script.{insertOutcome, lookupOutcome, commandOutcome, tableIn}
 use Rattle.script.specs.Laws.{left-is, left-malformed}
 use borrow.Author.Needs.{needs}
@@ -48,31 +55,64 @@ same-length : tie.Need-same-length
 same-length c = search needs
 
 returns : tie.Need-returns
-returns c = left-is (ap (commandOutcome (tableIn (now (c .before .before .before .before .before .before .before .before .before .args .memory)) (c .before .before .before .before .before .before .before .before .before .args .present)) (c .before .before .before .before .before .before .before .before .before .args .number)) (sym (c .before .before .before .before .before .before .command .given .1))) (c .before .before .new-table .ensures)
+returns c =
+    let a = c .before .before .before .before .before .before .before .before .before .args in
+    let t = tableIn (now (a .memory)) (a .present) in
+    let same = sym (c .before .before .before .before .before .before .command .given .1) in
+    let did = c .before .before .new-table in (
+      left-is (ap (commandOutcome t (a .number)) same) (did .ensures .0),
+      did .ensures .1 ∙ (ap (commandTold t (a .number)) same),
+    )
 
 same-length-2 : tie.Need-same-length-2
 same-length-2 c = search needs
 
 returns-2 : tie.Need-returns-2
-returns-2 c = left-is (ap (insertOutcome (tableIn (now (c .before .before .before .before .before .before .before .before .before .before .args .memory)) (c .before .before .before .before .before .before .before .before .before .before .args .present))) (c .before .before .before .before .rule-of .ensures) ∙ ap (commandOutcome (tableIn (now (c .before .before .before .before .before .before .before .before .before .before .args .memory)) (c .before .before .before .before .before .before .before .before .before .before .args .present)) (c .before .before .before .before .before .before .before .before .before .before .args .number)) (sym (c .before .before .before .before .before .before .before .command2 .given .1))) (c .before .before .insert-in .ensures)
+returns-2 c =
+    let a = c .before .before .before .before .before .before .before .before .before .before .args in
+    let t = tableIn (now (a .memory)) (a .present) in
+    let same = sym (c .before .before .before .before .before .before .before .command2 .given .1) in
+    let did = c .before .before .insert-in in (
+      left-is (ap (insertOutcome t) (c .before .before .before .before .rule-of .ensures) ∙ ap (commandOutcome t (a .number)) same) (did .ensures .0),
+      did .ensures .1 ∙ (ap (λ (x : Rule). changeTold (insertAnswer 2 t x 1024)) (c .before .before .before .before .rule-of .ensures) ∙ ap (commandTold t (a .number)) same),
+    )
 
 same-length-3 : tie.Need-same-length-3
 same-length-3 c = search needs
 
 returns-3 : tie.Need-returns-3
-returns-3 c = left-is (ap (commandOutcome (tableIn (now (c .before .before .before .before .before .before .before .before .before .args .memory)) (c .before .before .before .before .before .before .before .before .before .args .present)) (c .before .before .before .before .before .before .before .before .before .args .number)) (sym (c .before .before .before .before .before .before .command3 .given .1))) (c .before .before .delete-in .ensures)
+returns-3 c =
+    let a = c .before .before .before .before .before .before .before .before .before .args in
+    let t = tableIn (now (a .memory)) (a .present) in
+    let same = sym (c .before .before .before .before .before .before .command3 .given .1) in
+    let did = c .before .before .delete-in in (
+      left-is (ap (commandOutcome t (a .number)) same) (did .ensures .0),
+      did .ensures .1 ∙ (ap (commandTold t (a .number)) same),
+    )
 
 same-length-4 : tie.Need-same-length-4
 same-length-4 c = search needs
 
 returns-4 : tie.Need-returns-4
-returns-4 c = left-is (ap (lookupOutcome (tableIn (now (c .before .before .before .before .before .before .before .before .args .memory)) (c .before .before .before .before .before .before .before .before .args .present))) (c .before .before .key-of .ensures) ∙ ap (commandOutcome (tableIn (now (c .before .before .before .before .before .before .before .before .args .memory)) (c .before .before .before .before .before .before .before .before .args .present)) (c .before .before .before .before .before .before .before .before .args .number)) (sym (c .before .before .before .before .before .command4 .given .1))) (c .lookup-in .ensures)
+returns-4 c =
+    let a = c .before .before .before .before .before .before .before .before .args in
+    let t = tableIn (now (a .memory)) (a .present) in
+    let same = sym (c .before .before .before .before .before .command4 .given .1) in
+    let did = c .lookup-in in (
+      left-is (ap (lookupOutcome t) (c .before .before .key-of .ensures) ∙ ap (commandOutcome t (a .number)) same) (did .ensures .0),
+      did .ensures .1 ∙ (ap (λ (k : List ℕ). lookedTold (lookupAnswer 2 t (word k))) (c .before .before .key-of .ensures) ∙ ap (commandTold t (a .number)) same),
+    )
 
 returns-5 : tie.Need-returns-5
 returns-5 c =
     let s = c .before .before .before .before .before in
-    left-is (ap (commandOutcome (tableIn (now (s .args .memory)) (s .args .present)) (s .args .number)) (sym (c .before .before .enum-told .given .1)))
-    (left-malformed (now (s .args .memory)) (s .args .present) (s .args .number) (s .pre .0) (s .pre .1) (c .malformed .result) (c .malformed .ensures .0) (c .malformed .ensures .1))
+    let t = tableIn (now (s .args .memory)) (s .args .present) in
+    let same = sym (c .before .before .enum-told .given .1) in
+    let did = c .malformed in (
+      left-is (ap (commandOutcome t (s .args .number)) same)
+          (left-malformed (now (s .args .memory)) (s .args .present) (s .args .number) (s .pre .0) (s .pre .1) (did .result) (did .ensures .1 .0) (did .ensures .1 .1)),
+      did .ensures .0 ∙ ap (commandTold t (s .args .number)) same,
+    )
 
 pub run-command-spec : {M : Type 1} → statement M
 run-command-spec =

@@ -7,6 +7,7 @@ use lib.ListN.{length}
 use denote.Ref.{now}
 use Rattle.commands.specs.declared.Command.{Command}
 use Rattle.script.specs.Script.{commandOutcome, tableIn}
+use Rattle.script.specs.Told.{commandTold}
 use Rattle.script.specs.Laws.{left-is, table-present}
 use borrow.Author.Needs.{needs}
 use Rattle.script.proofs.run_line.Statement.{statement}
@@ -26,7 +27,10 @@ returns c =
     let a = c .before .before .before .before .before .before .args in
     let room : length (now (a .memory)) ≡ 6144 = search needs in
     let table = ap (tableIn (now (a .memory))) (c .before .before .before .before .slots-present .ensures) ∙ table-present (now (a .memory)) (a .slots) room in
-    left-is (ap₂ (λ (t : List ℕ) (command : Command). commandOutcome t (a .number) command) table (c .before .before .before .parse .ensures)) (c .run-command .ensures)
+    let command = c .before .before .before .parse .ensures in (
+      left-is (ap₂ (λ (t : List ℕ) (x : Command). commandOutcome t (a .number) x) table command) (c .run-command .ensures .0),
+      c .run-command .ensures .1 ∙ ap₂ (λ (t : List ℕ) (x : Command). commandTold t (a .number) x) table command,
+    )
 
 pub run-line-spec : {M : Type 1} → statement M
 run-line-spec =

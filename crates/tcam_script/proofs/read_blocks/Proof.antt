@@ -1,12 +1,13 @@
 -- `tcam_script::read_blocks` meets its contract.
--- Each turn of the loop reads one block more.
-use mathlib.Core.Path.{_≡_, refl}
-use mathlib.Core.Bool.{true}
-use mathlib.Core.List.{List, []}
-use Prim.Native.Nat.{ℕ}
+-- Each turn of the loop reads one block more, until one of no bytes.
+use mathlib.Core.Path.{_≡_, refl, ap}
+use mathlib.Core.Bool.{true, false, true≢false}
+use mathlib.Core.Logic._⊎_.{inl, inr}
+use mathlib.Core.List.{List, [], _∷_, _++_}
+use Prim.Native.Nat.{ℕ, _+_}
 use native.Mathlib.Omega.{arith}
-use lib.ListN.{length}
-use borrow.Author.Tests.{ltb-true}
+use lib.ListN.{length, length-append}
+use borrow.Author.Tests.{ltb-true, ltb-false}
 use borrow.Author.Needs.{needs}
 use Rattle.transcripts.specs.Whole.{Read, keeping, opening}
 use Rattle.tcam_script.proofs.read_blocks.Statement.{statement}
@@ -14,14 +15,17 @@ use Rattle.tcam_script.proofs.read_blocks.Tie as tie
 
 abbrev Inv-loop : tie.InvT-loop
 Inv-loop memory₀ line₀ out₀ turns₀ went₀ memory line out turns went =
-    (length line ≡ length line₀) × (went .more ≡ true → went .well ≡ true)
-    × (went .well ≡ true → (blocks : List (List ℕ)) × (bytes : List ℕ) × Read (opening memory₀ line₀) blocks bytes (keeping memory line (went .place)))
+    (went .more ≡ true → went .well ≡ true)
+    × (went .well ≡ true → (blocks : List (List ℕ)) × (bytes : List ℕ)
+    × (went .more ≡ false → (before : List (List ℕ)) × (blocks ≡ before ++ [] ∷ []))
+    × (turns + length blocks ≡ 18446744073709551615)
+    × Read (opening memory₀ line₀) blocks bytes (keeping memory line (went .place)))
 
 abbrev μ-loop : tie.MeasureT-loop
 μ-loop memory₀ line₀ out₀ turns₀ went₀ memory line out turns went = turns
 
 loop-holds : tie.Need-loop-holds Inv-loop μ-loop
-loop-holds c = (refl, λ m. refl, λ w. ([], [], Read.nothing))
+loop-holds c = (λ m. refl, λ w. ([], [], λ f. absurd (true≢false f), omega arith, Read.nothing))
 
 sub-turns : tie.Need-sub-turns Inv-loop μ-loop
 sub-turns c = omega (arith, ltb-true)
@@ -34,25 +38,31 @@ loop-less c = omega (arith, ltb-true)
 
 loop-again : tie.Need-loop-again Inv-loop μ-loop
 loop-again c =
-    let b = c .before .before .before .before .before .before .before .before .loop in
-    let t = c .before .before .read-block in
-    let before = b .inv .2 (b .inv .1 (c .before .before .before .before .before .before .before .loop-test .taken)) in (
-      search needs,
-      t .ensures .0,
-      λ w. let o = t .ensures .1 w in (_, _, Read.oneMore (before .0) (before .1) (keeping (b .memory) (b .line) (b .went .place)) (before .2) (o .0) (o .1) _ (o .2)),
+    let b = c .before .before .before .before .before .before .loop in
+    let some = ltb-true 0 (b .turns) (c .before .before .before .before .if1 .taken) in
+    let t = c .read-block in
+    let before = b .inv .1 (b .inv .0 (c .before .before .before .before .before .loop-test .taken)) in (
+      t .ensures .goes,
+      λ w.
+          let o = t .ensures .block w in (
+            before .0 ++ o .0 ∷ [],
+            _,
+            λ f. (before .0, ap (λ (x : List ℕ). before .0 ++ x ∷ []) (o .2 f)),
+            (let n = length-append (before .0) (o .0 ∷ []) in let m = before .3 in omega (arith, n, m, some)),
+            Read.oneMore (before .0) (before .1) (keeping (b .memory) (b .line) (b .went .place)) (before .4) (o .0) (o .1) _ (o .3),
+          ),
     )
 
-same-length : tie.Need-same-length Inv-loop μ-loop
-same-length c = search needs
-
 returns : tie.Need-returns Inv-loop μ-loop
-returns c = c .before .before .loop .inv .2
-
-same-length-2 : tie.Need-same-length-2 Inv-loop μ-loop
-same-length-2 c = search needs
+returns c = λ w.
+    let b = c .before .before .loop in
+    let i = b .inv .1 w in
+    let none = ltb-false 0 (b .turns) (c .if1 .left) in
+    let n = i .3 in
+    (i .0, i .1, inr (omega (arith, none, n)), i .4)
 
 returns-2 : tie.Need-returns-2 Inv-loop μ-loop
-returns-2 c = c .before .loop .inv .2
+returns-2 c = λ w. let i = c .before .loop .inv .1 w in (i .0, i .1, inl (i .2 (c .loop-test .left)), i .4)
 
 pub read-blocks-spec : {M : Type 1} → statement M
 read-blocks-spec =
@@ -65,7 +75,5 @@ read-blocks-spec =
     read-block-requires
     loop-less
     loop-again
-    same-length
     returns
-    same-length-2
     returns-2)

@@ -1,8 +1,9 @@
 -- `tcam_script::run` meets its contract.
 -- After all blocks comes the last turn.
-use mathlib.Core.Path.{_≡_, sym, _∙_}
+use mathlib.Core.Path.{sym, _∙_}
 use mathlib.Core.Bool.{true≢false}
-use lib.ListN.{length}
+use Prim.Native.Nat.{ℕ}
+use lib.ListN.{replicate, length-replicate}
 use denote.Ref.{now}
 use borrow.Author.Needs.{needs}
 use Rattle.transcripts.specs.Whole.{keeping, shown-within, script-ended}
@@ -20,11 +21,10 @@ write-answer-requires c κs = shown-within (c .before .before .last-turn .ensure
 
 returns : tie.Need-returns
 returns c = λ w.
-    let a = c .before .before .before .before .before .before .before .before .before .before .before .before .before .before .args in
-    let b = c .before .before .before .before .before .before .before .before .before .before .read-blocks in
+    let a = c .before .before .before .before .before .before .before .before .before .before .before .before .before .args in
+    let b = c .before .before .before .before .before .before .before .before .before .read-blocks in
     let t = c .before .before .before .before .last-turn in
-    let size : length (now (a .line)) ≡ 257 = search needs in
-    script-ended (now (a .memory)) (now (a .line)) size (keeping (b .last .0) (b .last .1 .0) (b .result .place)) (b .ensures (c .before .before .before .before .before .before .before .before .before .if1 .taken)) (t .result) (t .last .0) _ (t .last .1 .1 .1 .0) (t .ensures)
+    script-ended (now (a .memory)) (replicate 257 0) (length-replicate {A = ℕ} 257 0) (keeping (b .last .0) (b .last .1 .0) (b .result .place)) (b .ensures (c .before .before .before .before .before .before .before .before .if1 .taken)) (t .result) (t .last .0) _ (t .last .1 .1 .1 .0) (t .ensures)
 
 returns-2 : tie.Need-returns-2
 returns-2 c = λ w. absurd (true≢false (sym w ∙ c .if1 .left))

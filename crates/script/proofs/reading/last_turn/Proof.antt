@@ -13,10 +13,19 @@ run-held-requires : tie.Need-run-held-requires
 run-held-requires c κs = search needs
 
 returns : tie.Need-returns
-returns c = let a = c .before .before .before .before .before .before .args in turned-last (now (a .memory)) (now (a .line)) (a .place) (c .before .before .before .before .line-stands .ensures) (c .before .before .before .if1 .taken) (c .run-held .ensures)
+returns c =
+    let a = c .before .before .before .before .before .before .args in
+    turned-last (now (a .memory)) (now (a .line)) (a .place) (c .before .before .before .before .before .line-stands .ensures) (c .before .before .before .before .if1 .taken) (c .run-held .ensures)
+
+slots-in-requires : tie.Need-slots-in-requires
+slots-in-requires c κs = search needs
 
 returns-2 : tie.Need-returns-2
-returns-2 c = let a = c .before .before .before .args in turned-end (now (a .memory)) (now (a .line)) (a .place) (c .before .line-stands .ensures) (now (a .out)) (c .if1 .left)
+returns-2 c =
+    let a = c .before .before .before .before .before .args in
+    turned-end (now (a .memory)) (now (a .line)) (a .place) (c .before .before .before .before .line-stands .ensures) (c .slots-in .result) (c .slots-in .ensures) (now (a .out)) (c .before .before .before .if1 .left)
 
 pub last-turn-spec : {M : Type 1} → statement M
-last-turn-spec = tie.close (tie.spec line-stands-requires run-held-requires returns returns-2)
+last-turn-spec =
+    tie.close
+    (tie.spec line-stands-requires run-held-requires returns slots-in-requires returns-2)

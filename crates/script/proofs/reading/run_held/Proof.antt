@@ -22,7 +22,7 @@ next-number-requires : tie.Need-next-number-requires
 next-number-requires c κs = search needs
 
 returns : tie.Need-returns
-returns c = let a = c .before .before .before .before .before .before .before .args in turned-run (now (a .memory)) (now (a .line)) (a .place) (a .next) _ _ (c .before .run-line .result) (c .before .before .before .before .before .bytes-held .ensures) (c .next-number .ensures) (c .before .run-line .ensures)
+returns c = let a = c .before .before .before .before .before .before .before .args in turned-run (now (a .memory)) (now (a .line)) (a .place) (a .next) _ _ (c .before .run-line .result) (c .before .before .before .before .before .bytes-held .ensures) (c .next-number .ensures) (c .before .run-line .ensures .0)
 
 pub run-held-spec : {M : Type 1} → statement M
 run-held-spec =

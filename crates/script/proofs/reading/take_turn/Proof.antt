@@ -9,28 +9,27 @@ use Rattle.script.proofs.reading.take_turn.Tie as tie
 take-bytes-requires : tie.Need-take-bytes-requires
 take-bytes-requires c κs = search needs
 
+slots-in-requires : tie.Need-slots-in-requires
+slots-in-requires c κs = search needs
+
 run-held-requires : tie.Need-run-held-requires
 run-held-requires c κs = search needs
 
-same-length : tie.Need-same-length
-same-length c = search needs
-
 returns : tie.Need-returns
 returns c =
-    let a = c .before .before .before .before .before .before .before .before .before .before .before .args in
-    let t = c .before .before .before .before .before .before .before .take-bytes in
-    turned-complete (now (a .memory)) (now (a .line)) (now (a .block)) (a .place) (a .from) (t .result) (t .last .0) (t .ensures .0) (t .ensures .1) (c .before .before .before .before .if1 .taken) (c .run-held .ensures)
-
-same-length-2 : tie.Need-same-length-2
-same-length-2 c = search needs
+    let a = c .before .before .before .before .before .before .before .before .before .before .before .before .args in
+    let t = c .before .before .before .before .before .before .before .before .before .take-bytes in
+    let s = c .before .before .before .before .before .before .slots-in in
+    turned-complete (now (a .memory)) (now (a .line)) (now (a .block)) (a .place) (a .from) (t .result) (t .last .0) (s .result) (t .ensures .0) (t .ensures .1) (s .ensures) (c .before .before .before .before .before .if1 .taken) (c .run-held .ensures)
 
 returns-2 : tie.Need-returns-2
 returns-2 c =
     let a = c .before .before .before .before .before .before .before .args in
-    let t = c .before .before .before .take-bytes in
-    turned-begun (now (a .memory)) (now (a .line)) (now (a .block)) (a .place) (a .from) (t .result) (t .last .0) (t .ensures .0) (t .ensures .1) (now (a .out)) (c .if1 .left)
+    let t = c .before .before .before .before .take-bytes in
+    let s = c .before .slots-in in
+    turned-begun (now (a .memory)) (now (a .line)) (now (a .block)) (a .place) (a .from) (t .result) (t .last .0) (s .result) (t .ensures .0) (t .ensures .1) (s .ensures) (now (a .out)) (c .if1 .left)
 
 pub take-turn-spec : {M : Type 1} → statement M
 take-turn-spec =
     tie.close
-    (tie.spec take-bytes-requires run-held-requires same-length returns same-length-2 returns-2)
+    (tie.spec take-bytes-requires slots-in-requires run-held-requires returns returns-2)
