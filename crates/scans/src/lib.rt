@@ -6,7 +6,7 @@ use slots::slot_word;
 ghost use mathlib.Core.Path.{_≡_};
 ghost use mathlib.Core.Bool.{_||_};
 ghost use mathlib.Core.List.{[], _∷_};
-ghost use Prim.Native.Nat.{_+_, _-_, _≤_, _<_, _/_};
+ghost use Prim.Native.Nat.{_+_, _-_, _≤_, _<_, _/_, min};
 ghost use lib.ListN.{length};
 ghost use Rattle.search.specs.Search.{least, afterLast, NoneFrom, NoneAbove};
 ghost use Rattle.search.specs.Parts.{lastOf};
@@ -128,19 +128,18 @@ fn last_asked(table: &[u64], slot: usize, from: usize, end: usize) -> usize
     from
 }
 
-// Where a rule overlaps, the 16 slots from there on are asked one by one, since others near it are likely to.
-fn part_end(at: usize, to: usize) -> usize
-    requires { ⌜ at + 4 ≤ to ⌝ }
-    ensures { λ r. ⌜ (at < r) × (r ≤ to) ⌝ }
+// Where a rule overlaps, 16 slots from there on are asked one by one, since others near it are likely to.
+fn part_end(start: usize, to: usize) -> usize
+    requires { ⌜ start ≤ to ⌝ }
+    ensures { λ r. ⌜ r ≡ min (start + 16) to ⌝ }
 {
-    if to - at < 16 { to } else { at + 16 }
+    if to - start < 16 { to } else { start + 16 }
 }
 
-fn part_start(after: usize) -> usize
-    requires { ⌜ 4 ≤ after ⌝ }
-    ensures { λ r. ⌜ r < after ⌝ }
+fn part_start(end: usize) -> usize
+    ensures { λ r. ⌜ r ≡ end - 16 ⌝ }
 {
-    if after < 16 { 0 } else { after - 16 }
+    if end < 16 { 0 } else { end - 16 }
 }
 
 // Of the slots from `from` up to, not including, `to`, the first that may not stand before a slot; `to` where none is.
@@ -149,16 +148,17 @@ pub fn first_not_before(table: &[u64], slot: usize, from: usize, to: usize) -> u
     requires { ⌜ checkRecords 2 (now table) ≡ Pass ⌝ }
     ensures { λ r. ⌜ r ≡ least (notBefore 2 (now (table .entry)) slot) (to - from) from ⌝ }
 {
-    let mut at = skip_up(table, slot, from, to);
-    while at + 4 <= to {
-        let end = part_end(at, to);
-        let first = first_asked(table, slot, at, end);
+    let mut at = from;
+    while at < to {
+        let start = skip_up(table, slot, at, to);
+        let end = part_end(start, to);
+        let first = first_asked(table, slot, start, end);
         if first < end {
             return first;
         }
-        at = skip_up(table, slot, end, to);
+        at = end;
     }
-    first_asked(table, slot, at, to)
+    to
 }
 
 // One past the last of the slots below an end that may not stand after a slot; 0 where none is.
@@ -167,14 +167,15 @@ pub fn last_not_after(table: &[u64], slot: usize, end: usize) -> usize
     requires { ⌜ checkRecords 2 (now table) ≡ Pass ⌝ }
     ensures { λ r. ⌜ r ≡ afterLast (notAfter 2 (now (table .entry)) slot) end ⌝ }
 {
-    let mut after = skip_down(table, slot, end);
-    while 4 <= after {
-        let start = part_start(after);
-        let last = last_asked(table, slot, start, after);
+    let mut after = end;
+    while 0 < after {
+        let top = skip_down(table, slot, after);
+        let start = part_start(top);
+        let last = last_asked(table, slot, start, top);
         if start < last {
             return last;
         }
-        after = skip_down(table, slot, start);
+        after = start;
     }
-    last_asked(table, slot, 0, after)
+    0
 }
