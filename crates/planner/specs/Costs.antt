@@ -75,25 +75,14 @@ solved-more ends costs slots i v z h l inv e p a b = pick (ℕ-discrete p (i - 1
     pick (no q) =
         sym (kept p (omega arith)) ∙ (inv p (omega arith) b ∙ position-cost-cong ends slots p (λ j r. kept j (omega arith)))
 
--- a minimum counted down: one index more, ..
-pub minimum-more : (c : ℕ → ℕ) (top to i : ℕ) → 0 < i → i ≤ to → minimum c top (to - (i - 1)) (i - 1) ≡ min (c (i - 1)) (minimum c top (to - i) i)
+-- a minimum counted up: the value at this index and the minimum of those after it, or no index is left
+pub minimum-further : (c : ℕ → ℕ) (top to i : ℕ) → i < to → minimum c top (to - i) i ≡ min (c i) (minimum c top (to - (i + 1)) (i + 1))
 unfolding minimum
-minimum-more c top to i z h =
-    let e : to - (i - 1) ≡ suc (to - i) = omega arith in
-    let s : suc (i - 1) ≡ i = omega arith in
-    rw (e, s)
+minimum-further c top to i h = let e : to - i ≡ suc (to - suc i) = omega arith in rw (e, add-one)
 
--- .. and all of them, none where the stretch is empty
-pub minimum-whole : (c : ℕ → ℕ) (top from to i : ℕ) → i ≤ from → to - i ≤ to - from → minimum c top (to - i) i ≡ minimum c top (to - from) from
+pub minimum-over : (c : ℕ → ℕ) (top to i : ℕ) → to ≤ i → minimum c top (to - i) i ≡ top
 unfolding minimum
-minimum-whole c top from to i l h = pick (ℕ-discrete i from)
-  where
-    pick : Dec (i ≡ from) → minimum c top (to - i) i ≡ minimum c top (to - from) from
-    pick (yes e) = rw e
-    pick (no e) =
-        let a : to - i ≡ 0 = omega arith in
-        let b : to - from ≡ 0 = omega arith in
-        rw (a, b)
+minimum-over c top to i h = let e : to - i ≡ 0 = omega arith in rw e
 
 -- a search counted up: the test holds at this index, fails at it, or no index is left
 pub least-here : (p : ℕ → Bool) (to i : ℕ) → i < to → p i ≡ true → least p (to - i) i ≡ i

@@ -50,11 +50,11 @@ pub fn least_between(costs: &[u16], from: usize, to: usize, top: usize) -> usize
     requires { ⌜ top < 65536 ⌝ }
     ensures { λ r. ⌜ r ≡ minimum (costOf (now (costs .entry))) top (to - from) from ⌝ }
 {
-    let mut at = to;
+    let mut at = from;
     let mut least = top as u16;
-    while from < at {
-        at -= 1;
-        least = lesser_cost(costs[at], least);
+    while at < to {
+        least = lesser_cost(least, costs[at]);
+        at += 1;
     }
     least as usize
 }
