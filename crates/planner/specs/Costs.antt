@@ -1,6 +1,6 @@
 -- Costs of positions in one direction, from the ends of their windows alone.
 -- A position's window starts right after it; its end is one past the window's last position, and 0 says that the position is empty.
-use mathlib.Core.Path.{_≡_, sym, ap, _∙_}
+use mathlib.Core.Path.{_≡_, sym, ap, ap₂, _∙_}
 use mathlib.Core.Bool.{Bool, true, false, cond}
 use mathlib.Core.List.{List}
 use Prim.Native.Nat.{ℕ, suc, _+_, _-_, _≤_, _<_, min}
@@ -52,6 +52,11 @@ pub cost-found : (ends : List ℕ) (slots : ℕ) (c : ℕ → ℕ) (p m : ℕ) �
     → m ≡ minimum c slots (getD ends p 0 - (p + 1)) (p + 1) → m + 1 ≡ positionCost ends slots c p
 cost-found ends slots c p m o e = rw (add-one m) (ap suc (rw (add-one p) at e) ∙ sym (cost-occupied ends slots c p o))
 
+-- the same of a window that runs to the last position
+pub cost-to-last : (ends : List ℕ) (slots : ℕ) (c : ℕ → ℕ) (p m : ℕ) → (getD ends p 0 ≡ 0 → ⊥) → getD ends p 0 ≡ slots
+    → m ≡ minimum c slots (slots - (p + 1)) (p + 1) → m + 1 ≡ positionCost ends slots c p
+cost-to-last ends slots c p m o l e = cost-found ends slots c p m o (e ∙ ap (λ (n : ℕ). minimum c slots (n - (p + 1)) (p + 1)) (sym l))
+
 pub minimum-high : (c : ℕ → ℕ) (top k i m : ℕ) → m ≡ minimum c top k i → m ≤ top
 minimum-high c top k i m e = omega (arith, minimum-law c top k i .high)
 
@@ -75,25 +80,23 @@ solved-more ends costs slots i v z h l inv e p a b = pick (ℕ-discrete p (i - 1
     pick (no q) =
         sym (kept p (omega arith)) ∙ (inv p (omega arith) b ∙ position-cost-cong ends slots p (λ j r. kept j (omega arith)))
 
--- a minimum counted down: one index more, ..
-pub minimum-more : (c : ℕ → ℕ) (top to i : ℕ) → 0 < i → i ≤ to → minimum c top (to - (i - 1)) (i - 1) ≡ min (c (i - 1)) (minimum c top (to - i) i)
+-- a minimum counted up: the value at this index and the minimum of those after it, or no index is left
+pub minimum-further : (c : ℕ → ℕ) (top to i : ℕ) → i < to → minimum c top (to - i) i ≡ min (c i) (minimum c top (to - (i + 1)) (i + 1))
 unfolding minimum
-minimum-more c top to i z h =
-    let e : to - (i - 1) ≡ suc (to - i) = omega arith in
-    let s : suc (i - 1) ≡ i = omega arith in
-    rw (e, s)
+minimum-further c top to i h = let e : to - i ≡ suc (to - suc i) = omega arith in rw (e, add-one)
 
--- .. and all of them, none where the stretch is empty
-pub minimum-whole : (c : ℕ → ℕ) (top from to i : ℕ) → i ≤ from → to - i ≤ to - from → minimum c top (to - i) i ≡ minimum c top (to - from) from
+pub minimum-over : (c : ℕ → ℕ) (top to i : ℕ) → to ≤ i → minimum c top (to - i) i ≡ top
 unfolding minimum
-minimum-whole c top from to i l h = pick (ℕ-discrete i from)
-  where
-    pick : Dec (i ≡ from) → minimum c top (to - i) i ≡ minimum c top (to - from) from
-    pick (yes e) = rw e
-    pick (no e) =
-        let a : to - i ≡ 0 = omega arith in
-        let b : to - from ≡ 0 = omega arith in
-        rw (a, b)
+minimum-over c top to i h = let e : to - i ≡ 0 = omega arith in rw e
+
+-- the least of all costs, with one position more
+pub minimum-stored : (costs : List ℕ) (slots i v : ℕ) → 0 < i → i ≤ slots → slots ≤ length costs
+    → minimum (costOf (set costs (i - 1) v)) slots (slots - (i - 1)) (i - 1) ≡ min v (minimum (costOf costs) slots (slots - i) i)
+minimum-stored costs slots i v z h l =
+    let s : i - 1 + 1 ≡ i = omega arith in
+    let kept = minimum-cong {c = costOf (set costs (i - 1) v)} {d = costOf costs} slots (slots - i) i (λ j a b. getD-set-other costs (i - 1) j v 0 (λ q. omega arith)) in
+    (rw s at (minimum-further (costOf (set costs (i - 1) v)) slots slots (i - 1) (omega arith)))
+    ∙ ap₂ min (getD-set-same costs (i - 1) v 0 (omega arith)) kept
 
 -- a search counted up: the test holds at this index, fails at it, or no index is left
 pub least-here : (p : ℕ → Bool) (to i : ℕ) → i < to → p i ≡ true → least p (to - i) i ≡ i

@@ -2,7 +2,7 @@
 // Everything runs in one direction along positions; position p is slot p going down and the slot as far from the last one going up.
 ghost use mathlib.Core.Path.{_≡_};
 ghost use mathlib.Core.List.{_++_};
-ghost use Prim.Native.Nat.{ℕ, suc, _-_, _≤_, _<_, min};
+ghost use Prim.Native.Nat.{ℕ, suc, _+_, _-_, _≤_, _<_, min};
 ghost use lib.Dec.{eqb};
 ghost use lib.ListN.{length, drop};
 ghost use Rattle.search.specs.Search.{least};
@@ -50,11 +50,11 @@ pub fn least_between(costs: &[u16], from: usize, to: usize, top: usize) -> usize
     requires { ⌜ top < 65536 ⌝ }
     ensures { λ r. ⌜ r ≡ minimum (costOf (now (costs .entry))) top (to - from) from ⌝ }
 {
-    let mut at = to;
+    let mut at = from;
     let mut least = top as u16;
-    while from < at {
-        at -= 1;
-        least = lesser_cost(costs[at], least);
+    while at < to {
+        least = lesser_cost(least, costs[at]);
+        at += 1;
     }
     least as usize
 }
@@ -74,30 +74,52 @@ pub fn first_of_cost(costs: &[u16], from: usize, to: usize, cost: usize) -> usiz
     at
 }
 
-// The cost of one position, from those after it.
-fn position_cost(ends: &[u16], costs: &[u16], slots: usize, position: usize) -> u16
+// The result of `least_between`, for a window whose first cost may just have been stored: that one is read by itself, since a read of
+// several costs at a time would wait for the store.
+fn least_in_window(costs: &[u16], from: usize, to: usize, top: usize) -> usize
+    requires { ⌜ to ≤ length (now costs) ⌝ }
+    requires { ⌜ top < 65536 ⌝ }
+    ensures { λ r. ⌜ r ≡ minimum (costOf (now (costs .entry))) top (to - from) from ⌝ }
+{
+    if to <= from {
+        return top;
+    }
+    let first = costs[from] as usize;
+    let rest = least_between(costs, from + 1, to, top);
+    lesser(first, rest)
+}
+
+// The cost of one position, from those after it, of which `beyond` is the least of all.
+fn position_cost(ends: &[u16], costs: &[u16], slots: usize, position: usize, beyond: u16) -> u16
     requires { ⌜ Sized (now ends) (now costs) slots ⌝ }
     requires { ⌜ position < slots ⌝ }
+    requires { ⌜ beyond ≡ minimum (costOf (now costs)) slots (slots - (position + 1)) (position + 1) ⌝ }
     ensures { λ r. ⌜ r ≡ positionCost (now (ends .entry)) slots (costOf (now (costs .entry))) position ⌝ }
 {
     let end = ends[position] as usize;
     if end == 0 {
         return 0;
     }
-    let least = least_between(costs, position + 1, end, slots);
+    if end == slots {
+        return beyond + 1;
+    }
+    let least = least_in_window(costs, position + 1, end, slots);
     (least + 1) as u16
 }
 
 // The cost of every position, the last one first, since each rests on those after it.
+// The least of all is kept, so that no window that runs to the last position is searched.
 pub fn fill_costs(ends: &[u16], costs: &mut [u16], slots: usize)
     requires { ⌜ Sized (now ends) (now costs) slots ⌝ }
     ensures { λ _. ⌜ Filled (now (ends .entry)) slots (now (costs .entry)) (now (costs .exit)) ⌝ }
 {
     let mut position = slots;
+    let mut least = slots as u16;
     while 0 < position {
         position -= 1;
-        let cost = position_cost(ends, costs, slots, position);
+        let cost = position_cost(ends, costs, slots, position, least);
         costs[position] = cost;
+        least = lesser_cost(least, cost);
     }
 }
 
