@@ -63,7 +63,8 @@
  *   - the platform is x86-64 with the System V calling convention. SSE2 registers and the red zone are
  *     used: an interrupt handler saves those registers if it uses them, and steps over the 128 bytes
  *     below the stack pointer if it runs on the same stack;
- *   - the program has a memset and a memcpy, as in C's string.h: tcam_plan_insert calls memset, tcam_load both;
+ *   - the program has a memset and a memcpy, as in C's string.h: the planning calls and tcam_save call
+ *     memset, tcam_load both;
  *   - there is stack enough.
  *
  * No call but tcam_carry_out and tcam_load changes the table, and none keeps anything for later. Each call but
@@ -74,14 +75,14 @@
  * STACK, measured on this build at 1,024 slots, rounded up, with the arguments that the caller pushes:
  *
  *     tcam_lookup, tcam_slot_record   128 bytes
- *     tcam_plan_delete                256 bytes
+ *     tcam_plan_delete                4,480 bytes
  *     tcam_carry_out                  192 bytes
- *     tcam_plan_insert                6,656 bytes, and 96 for each word of the plan
- *     tcam_save                       256 bytes
- *     tcam_load                       49,664 bytes
+ *     tcam_plan_insert                10,752 bytes, or 6,656 and 96 for each word of the plan, where that is more
+ *     tcam_save                       4,480 bytes
+ *     tcam_load                       53,760 bytes
  *
  * The longest plan, of 1,024 words, takes 104,960 bytes, 102.5 KiB. A plan that does not fit its buffer is
- * not written out, so that a buffer of n words bounds the stack at 6,656 + 96 * n bytes.
+ * not written out, so that a buffer of n words bounds the stack at 6,656 + 96 * n bytes, or at 10,752.
  */
 #ifndef TCAM_H
 #define TCAM_H
