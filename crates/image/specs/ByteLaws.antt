@@ -38,6 +38,16 @@ number-bytes (suc k) n rest h =
 abbrev pub Bytes : List ℕ → Type 0
 Bytes b = (i : ℕ) → getD b i 0 < 256
 
+-- eight bytes, in halves
+pub number-halves : (b : List ℕ) (at : ℕ) → numberAt b at 8 ≡ numberAt b at 4 * 4294967296 + numberAt b (at + 4) 4
+unfolding numberAt
+number-halves b at =
+    let none : at + 4 + 0 ≡ at + 4 = omega arith in
+    let one : at + 4 + 1 ≡ at + 5 = omega arith in
+    let two : at + 4 + 2 ≡ at + 6 = omega arith in
+    let three : at + 4 + 3 ≡ at + 7 = omega arith in
+    rw (none, one, two, three) (omega arith)
+
 pub number-small : (k : ℕ) (b : List ℕ) (at : ℕ) → Bytes b → numberAt b at k < 256 ^ k
 unfolding numberAt
 number-small zero b at h = rw (pow-zero 256) (omega arith)

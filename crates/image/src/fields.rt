@@ -26,6 +26,16 @@ pub fn number_at(image: &[u8], at: usize, bytes: usize) -> u64
     number
 }
 
+// The number that eight bytes at an offset are. In halves, since the compiler reads four bytes at once but not eight.
+pub fn word_at(image: &[u8], at: usize) -> u64
+    requires { ⌜ at + 8 ≤ length (now image) ⌝ }
+    ensures { λ r. ⌜ r ≡ numberAt (now (image .entry)) at 8 ⌝ }
+{
+    let high = number_at(image, at, 4);
+    let low = number_at(image, at + 4, 4);
+    high * 4294967296 + low
+}
+
 // Stores the lowest bytes of a number at an offset.
 pub fn put_number(image: &mut [u8], at: usize, bytes: usize, number: u64)
     requires { ⌜ at + bytes ≤ length (now image) ⌝ }

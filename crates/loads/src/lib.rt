@@ -2,6 +2,7 @@
 // A refused load leaves the lent table as it was; of it only the length counts.
 use image::LoadAnswer;
 use image::fields::number_at;
+use image::fields::word_at;
 use records::Cause;
 use records::Check;
 use slots::parts_sound;
@@ -76,10 +77,10 @@ fn record_at(image: &[u8], rules: usize, entry: usize) -> [u64; 6]
     let id = number_at(image, 4 + entry * 10, 4);
     let action = number_at(image, body + 36, 4);
     [
-        number_at(image, body, 8),
-        number_at(image, body + 8, 8),
-        number_at(image, body + 16, 8),
-        number_at(image, body + 24, 8),
+        word_at(image, body),
+        word_at(image, body + 8),
+        word_at(image, body + 16),
+        word_at(image, body + 24),
         id * 4294967296 + action,
         number_at(image, body + 32, 4),
     ]

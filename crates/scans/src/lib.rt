@@ -70,11 +70,13 @@ fn skip_up(table: &[u64], slot: usize, from: usize, to: usize) -> usize
     let mask_high = slot_word(table, slot, 2);
     let mask_low = slot_word(table, slot, 3);
     let mut at = from;
-    while at + 4 <= to {
+    let mut fours = (to - from) / 4;
+    while 0 < fours {
         if one_overlaps(table, at, value_high, value_low, mask_high, mask_low) {
             return at;
         }
         at += 4;
+        fours -= 1;
     }
     at
 }

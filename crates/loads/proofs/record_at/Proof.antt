@@ -37,26 +37,26 @@ add-number-at-2 c = search needs
 number-at-requires-2 : tie.Need-number-at-requires-2
 number-at-requires-2 c κs = search needs
 
-number-at-requires-3 : tie.Need-number-at-requires-3
-number-at-requires-3 c κs = search needs
+word-at-requires : tie.Need-word-at-requires
+word-at-requires c κs = search needs
 
-add-number-at-3 : tie.Need-add-number-at-3
-add-number-at-3 c = search needs
+add-word-at : tie.Need-add-word-at
+add-word-at c = search needs
 
-number-at-requires-4 : tie.Need-number-at-requires-4
-number-at-requires-4 c κs = search needs
+word-at-requires-2 : tie.Need-word-at-requires-2
+word-at-requires-2 c κs = search needs
 
-add-number-at-4 : tie.Need-add-number-at-4
-add-number-at-4 c = search needs
+add-word-at-2 : tie.Need-add-word-at-2
+add-word-at-2 c = search needs
 
-number-at-requires-5 : tie.Need-number-at-requires-5
-number-at-requires-5 c κs = search needs
+word-at-requires-3 : tie.Need-word-at-requires-3
+word-at-requires-3 c κs = search needs
 
-add-number-at-5 : tie.Need-add-number-at-5
-add-number-at-5 c = search needs
+add-word-at-3 : tie.Need-add-word-at-3
+add-word-at-3 c = search needs
 
-number-at-requires-6 : tie.Need-number-at-requires-6
-number-at-requires-6 c κs = search needs
+word-at-requires-4 : tie.Need-word-at-requires-4
+word-at-requires-4 c κs = search needs
 
 mul-t14 : tie.Need-mul-t14
 mul-t14 c =
@@ -73,15 +73,15 @@ add-t15 c =
       number-small 4 (a .image .now) (4 + a .rules * 10 + a .entry * 40 + 36) (λ i. omega (arith, c .before .before .before .before .before .before .shared-slice-known .given i)),
     )
 
-add-number-at-6 : tie.Need-add-number-at-6
-add-number-at-6 c = search needs
+add-number-at-3 : tie.Need-add-number-at-3
+add-number-at-3 c = search needs
 
-number-at-requires-7 : tie.Need-number-at-requires-7
-number-at-requires-7 c κs = search needs
+number-at-requires-3 : tie.Need-number-at-requires-3
+number-at-requires-3 c κs = search needs
 
 returns : tie.Need-returns
 unfolding recordAt listed
-returns c = rw (c .number-at7 .ensures, c .before .number-at6 .ensures, c .before .before .number-at5 .ensures, c .before .before .before .number-at4 .ensures, c .before .before .before .before .number-at3 .ensures, c .before .before .before .before .before .number-at2 .ensures, c .before .before .before .before .before .before .number-at .ensures, add-zero (4 + c .before .before .before .before .before .before .before .before .args .rules * 10 + c .before .before .before .before .before .before .before .before .args .entry * 40))
+returns c = rw (c .number-at3 .ensures, c .before .word-at4 .ensures, c .before .before .word-at3 .ensures, c .before .before .before .word-at2 .ensures, c .before .before .before .before .word-at .ensures, c .before .before .before .before .before .number-at2 .ensures, c .before .before .before .before .before .before .number-at .ensures, add-zero (4 + c .before .before .before .before .before .before .before .before .args .rules * 10 + c .before .before .before .before .before .before .before .before .args .entry * 40))
 
 pub record-at-spec : {M : Type 1} → statement M
 record-at-spec =
@@ -96,15 +96,15 @@ record-at-spec =
     number-at-requires
     add-number-at-2
     number-at-requires-2
-    number-at-requires-3
-    add-number-at-3
-    number-at-requires-4
-    add-number-at-4
-    number-at-requires-5
-    add-number-at-5
-    number-at-requires-6
+    word-at-requires
+    add-word-at
+    word-at-requires-2
+    add-word-at-2
+    word-at-requires-3
+    add-word-at-3
+    word-at-requires-4
     mul-t14
     add-t15
-    add-number-at-6
-    number-at-requires-7
+    add-number-at-3
+    number-at-requires-3
     returns)
