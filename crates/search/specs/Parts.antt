@@ -9,7 +9,7 @@ use native.Mathlib.Omega.{arith}
 use native.Mathlib.Decide.{ℕ-discrete, decLt}
 use lib.Dec.{ltb}
 use borrow.Author.Tests.{lt-ltb, le-ltb}
-use Rattle.search.specs.Search.{any, any-some, any-none, least, Least, least-law, least-unique, afterLast, AfterLast, after-last-law, after-last-unique, decided, NoneFrom, NoneAbove}
+use Rattle.search.specs.Search.{any, any-some, any-none, least, Least, least-law, least-unique, afterLast, after-last-law, after-last-unique, decided, NoneFrom, NoneAbove}
 
 -- of the k indices below n, one past the last at which the test holds; n − k where there is none
 unfoldable pub lastOf : (ℕ → Bool) → ℕ → ℕ → ℕ

@@ -1,9 +1,9 @@
--- `slots::both_occupied` meets its contract.
+-- `pairs::both_occupied` meets its contract.
 -- The second slot is asked where the first is occupied.
 use mathlib.Core.Path.{sym, _∙_}
 use borrow.Author.Needs.{needs}
-use Rattle.slots.proofs.both_occupied.Statement.{statement}
-use Rattle.slots.proofs.both_occupied.Tie as tie
+use Rattle.pairs.proofs.both_occupied.Statement.{statement}
+use Rattle.pairs.proofs.both_occupied.Tie as tie
 
 slot-empty-requires : tie.Need-slot-empty-requires
 slot-empty-requires c κs = search needs

@@ -1,4 +1,4 @@
--- `slots::pattern_overlaps` meets its contract.
+-- `pairs::pattern_overlaps` meets its contract.
 -- The words read are the slot's; the low ones are asked where the high ones overlap.
 use mathlib.Core.Path.{ap₂, _∙_}
 use Prim.Native.Nat.{ℕ}
@@ -6,8 +6,8 @@ use Rattle.ternary.specs.Word.{agree, both}
 use Rattle.ternary.specs.Pattern.{overlaps}
 use Rattle.search.specs.Search.{all, and-more, and-stop}
 use borrow.Author.Needs.{needs}
-use Rattle.slots.proofs.pattern_overlaps.Statement.{statement}
-use Rattle.slots.proofs.pattern_overlaps.Tie as tie
+use Rattle.pairs.proofs.pattern_overlaps.Statement.{statement}
+use Rattle.pairs.proofs.pattern_overlaps.Tie as tie
 
 slot-word-requires : tie.Need-slot-word-requires
 slot-word-requires c κs = search needs

@@ -1,11 +1,11 @@
--- `slots::slots_overlap` meets its contract.
+-- `pairs::slots_overlap` meets its contract.
 -- The words at hand are the other slot's.
 use mathlib.Core.Path.{_∙_}
 use Rattle.ternary.specs.Pattern.{overlaps}
 use Rattle.search.specs.Search.{all}
 use borrow.Author.Needs.{needs}
-use Rattle.slots.proofs.slots_overlap.Statement.{statement}
-use Rattle.slots.proofs.slots_overlap.Tie as tie
+use Rattle.pairs.proofs.slots_overlap.Statement.{statement}
+use Rattle.pairs.proofs.slots_overlap.Tie as tie
 
 slot-word-requires : tie.Need-slot-word-requires
 slot-word-requires c κs = search needs

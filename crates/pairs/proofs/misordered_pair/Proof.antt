@@ -1,12 +1,12 @@
--- `slots::misordered_pair` meets its contract.
+-- `pairs::misordered_pair` meets its contract.
 -- Priorities first, then whether two rules overlap.
 use mathlib.Core.Path.{sym, ap₂, _∙_}
 use lib.Dec.{leb}
 use borrow.Author.Tests.{le-leb, lt-leb}
 use Rattle.records.specs.Order.{misordered-asked, misordered-higher}
 use borrow.Author.Needs.{needs}
-use Rattle.slots.proofs.misordered_pair.Statement.{statement}
-use Rattle.slots.proofs.misordered_pair.Tie as tie
+use Rattle.pairs.proofs.misordered_pair.Statement.{statement}
+use Rattle.pairs.proofs.misordered_pair.Tie as tie
 
 slot-word-requires : tie.Need-slot-word-requires
 slot-word-requires c κs = search needs

@@ -1,4 +1,4 @@
--- `slots::same_id` meets its contract.
+-- `pairs::same_id` meets its contract.
 -- Equal ids, and then both slots occupied.
 use mathlib.Core.Path.{ap₂}
 use lib.Dec.{eqb}
@@ -6,8 +6,8 @@ use borrow.Author.Tests.{eq-eqb, ne-eqb}
 use borrow.Author.Needs.{needs}
 use Rattle.search.specs.Search.{and-more, and-stop}
 use Rattle.records.specs.Order.{sameId}
-use Rattle.slots.proofs.same_id.Statement.{statement}
-use Rattle.slots.proofs.same_id.Tie as tie
+use Rattle.pairs.proofs.same_id.Statement.{statement}
+use Rattle.pairs.proofs.same_id.Tie as tie
 
 slot-id-requires : tie.Need-slot-id-requires
 slot-id-requires c κs = search needs

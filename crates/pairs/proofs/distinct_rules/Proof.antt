@@ -1,11 +1,11 @@
--- `slots::distinct_rules` meets its contract.
+-- `pairs::distinct_rules` meets its contract.
 -- The ids are compared where both slots are occupied.
 use mathlib.Core.Path.{sym, _∙_}
 use mathlib.Core.Bool.{and-true, and-false}
 use Rattle.records.specs.Order.{distinct}
 use borrow.Author.Needs.{needs}
-use Rattle.slots.proofs.distinct_rules.Statement.{statement}
-use Rattle.slots.proofs.distinct_rules.Tie as tie
+use Rattle.pairs.proofs.distinct_rules.Statement.{statement}
+use Rattle.pairs.proofs.distinct_rules.Tie as tie
 
 both-occupied-requires : tie.Need-both-occupied-requires
 both-occupied-requires c κs = search needs

@@ -1,9 +1,9 @@
--- `slots::rules_overlap` meets its contract.
+-- `pairs::rules_overlap` meets its contract.
 -- The patterns are compared where the slots hold two rules.
 use Rattle.search.specs.Search.{and-more, and-stop}
 use borrow.Author.Needs.{needs}
-use Rattle.slots.proofs.rules_overlap.Statement.{statement}
-use Rattle.slots.proofs.rules_overlap.Tie as tie
+use Rattle.pairs.proofs.rules_overlap.Statement.{statement}
+use Rattle.pairs.proofs.rules_overlap.Tie as tie
 
 distinct-rules-requires : tie.Need-distinct-rules-requires
 distinct-rules-requires c κs = search needs
