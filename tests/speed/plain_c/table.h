@@ -67,7 +67,7 @@ static inline bool overlap(const uint64_t *first, const uint64_t *second)
 
 static inline bool distinct(const uint64_t *first, const uint64_t *second)
 {
-    return id_of(first) != id_of(second) && id_of(first) != 0 && id_of(second) != 0;
+    return id_of(first) != 0 && id_of(second) != 0 && id_of(first) != id_of(second);
 }
 
 /* Whether a rule that overlaps another stands in the first record; the other is a rule. */

@@ -37,7 +37,7 @@ pub fn overlap(first: &Record, second: &Record) -> bool {
 }
 
 fn distinct(first: &Record, second: &Record) -> bool {
-    id_of(first) != id_of(second) && id_of(first) != 0 && id_of(second) != 0
+    id_of(first) != 0 && id_of(second) != 0 && id_of(first) != id_of(second)
 }
 
 /// Whether a rule that overlaps another stands in the first record; the other is a rule.

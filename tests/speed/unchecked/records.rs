@@ -65,7 +65,7 @@ pub fn meets(first: &Record, second: &Record) -> bool {
 
 #[inline(always)]
 fn distinct(first: &Record, second: &Record) -> bool {
-    id_of(first) != id_of(second) && id_of(first) != 0 && id_of(second) != 0
+    id_of(first) != 0 && id_of(second) != 0 && id_of(first) != id_of(second)
 }
 
 /// Whether the first rule, standing before the second, is out of order; most pairs are told apart by their patterns.
