@@ -10,6 +10,8 @@ ghost use Prim.Native.Nat.{_<_, _/_};
 ghost use lib.ListN.{length};
 ghost use Rattle.ternary.specs.Pattern.{overlaps};
 ghost use Rattle.records.specs.Record.{word, slotWords, value, mask, occupied};
+ghost use Rattle.records.specs.Checks.{checkRecords};
+ghost use Rattle.records.specs.declared.Check.the-variants.{Pass};
 ghost use Rattle.records.specs.Order.{sameId, distinct, tied, precedes, misordered, overlapping};
 
 // Whether a slot's pattern overlaps one whose words are at hand.
@@ -91,20 +93,37 @@ pub fn distinct_rules(table: &[u64], slot: usize, others: &[u64], other: usize) 
     false
 }
 
+// Whether both slots are occupied, told by their words of id and action: that is all it takes where check 2 passes.
+fn both_hold_rules(table: &[u64], slot: usize, others: &[u64], other: usize) -> bool
+    requires { ⌜ (slot < length (now table) / 6) × (other < length (now others) / 6) ⌝ }
+    requires { ⌜ (checkRecords 2 (now table) ≡ Pass) × (checkRecords 2 (now others) ≡ Pass) ⌝ }
+    ensures { λ r. ⌜ r ≡ (occupied 2 (slotWords 2 (now (table .entry)) slot) && occupied 2 (slotWords 2 (now (others .entry)) other)) ⌝ }
+{
+    if slot_word(table, slot, 4) == 0 {
+        return false;
+    }
+    slot_word(others, other, 4) != 0
+}
+
 // Whether the slots hold two rules of different ids that overlap.
 fn rules_overlap(table: &[u64], slot: usize, others: &[u64], other: usize) -> bool
     requires { ⌜ (slot < length (now table) / 6) × (other < length (now others) / 6) ⌝ }
+    requires { ⌜ (checkRecords 2 (now table) ≡ Pass) × (checkRecords 2 (now others) ≡ Pass) ⌝ }
     ensures { λ r. ⌜ r ≡ (distinct 2 (slotWords 2 (now (table .entry)) slot) (slotWords 2 (now (others .entry)) other) && overlapping 2 (slotWords 2 (now (table .entry)) slot) (slotWords 2 (now (others .entry)) other)) ⌝ }
 {
-    if distinct_rules(table, slot, others, other) {
-        return slots_overlap(table, slot, others, other);
+    if !both_hold_rules(table, slot, others, other) {
+        return false;
     }
-    false
+    if slot_id(table, slot) == slot_id(others, other) {
+        return false;
+    }
+    slots_overlap(table, slot, others, other)
 }
 
-// Whether a slot's standing before another is out of order. Priorities first: in a table in order most pairs are told by them.
+// Whether a slot's standing before another is out of order. Priorities first: in a table in order most pairs that overlap are told by them.
 pub fn misordered_pair(table: &[u64], slot: usize, others: &[u64], other: usize) -> bool
     requires { ⌜ (slot < length (now table) / 6) × (other < length (now others) / 6) ⌝ }
+    requires { ⌜ (checkRecords 2 (now table) ≡ Pass) × (checkRecords 2 (now others) ≡ Pass) ⌝ }
     ensures { λ r. ⌜ r ≡ misordered 2 (slotWords 2 (now (table .entry)) slot) (slotWords 2 (now (others .entry)) other) ⌝ }
 {
     if slot_word(table, slot, 5) <= slot_word(others, other, 5) {

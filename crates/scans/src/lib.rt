@@ -103,6 +103,7 @@ fn skip_down(table: &[u64], slot: usize, end: usize) -> usize
 // Of the slots from `from` up to, not including, `to`, the first that may not stand before a slot, each slot asked.
 fn first_asked(table: &[u64], slot: usize, from: usize, to: usize) -> usize
     requires { ⌜ (slot < length (now table) / 6) × (from ≤ to) × (to ≤ length (now table) / 6) ⌝ }
+    requires { ⌜ checkRecords 2 (now table) ≡ Pass ⌝ }
     ensures { λ r. ⌜ r ≡ least (notBefore 2 (now (table .entry)) slot) (to - from) from ⌝ }
 {
     let mut at = from;
@@ -118,6 +119,7 @@ fn first_asked(table: &[u64], slot: usize, from: usize, to: usize) -> usize
 // One past the last slot below `end`, not below `from`, that may not stand after a slot, each slot asked.
 fn last_asked(table: &[u64], slot: usize, from: usize, end: usize) -> usize
     requires { ⌜ (slot < length (now table) / 6) × (from ≤ end) × (end ≤ length (now table) / 6) ⌝ }
+    requires { ⌜ checkRecords 2 (now table) ≡ Pass ⌝ }
     ensures { λ r. ⌜ r ≡ lastOf (notAfter 2 (now (table .entry)) slot) (end - from) end ⌝ }
 {
     let mut after = end;
@@ -130,18 +132,18 @@ fn last_asked(table: &[u64], slot: usize, from: usize, end: usize) -> usize
     from
 }
 
-// Where a rule overlaps, 16 slots from there on are asked one by one, since others near it are likely to.
+// Where a rule overlaps, 64 slots from there on are asked one by one, since others near it are likely to.
 fn part_end(start: usize, to: usize) -> usize
     requires { ⌜ start ≤ to ⌝ }
-    ensures { λ r. ⌜ r ≡ min (start + 16) to ⌝ }
+    ensures { λ r. ⌜ r ≡ min (start + 64) to ⌝ }
 {
-    if to - start < 16 { to } else { start + 16 }
+    if to - start < 64 { to } else { start + 64 }
 }
 
 fn part_start(end: usize) -> usize
-    ensures { λ r. ⌜ r ≡ end - 16 ⌝ }
+    ensures { λ r. ⌜ r ≡ end - 64 ⌝ }
 {
-    if end < 16 { 0 } else { end - 16 }
+    if end < 64 { 0 } else { end - 64 }
 }
 
 // Of the slots from `from` up to, not including, `to`, the first that may not stand before a slot; `to` where none is.

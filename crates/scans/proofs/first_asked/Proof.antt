@@ -3,6 +3,7 @@
 use Prim.Native.Nat.{_-_}
 use mathlib.Core.Path.{sym, _∙_}
 use native.Mathlib.Omega.{arith}
+use borrow.Author.Needs.{needs}
 use Rattle.search.specs.Search.{NoneFrom, none-from-start, none-from-more}
 use Rattle.search.specs.Parts.{least-here, least-open}
 use Rattle.scans.specs.Scans.{notBefore}
@@ -19,7 +20,7 @@ loop-holds : tie.Need-loop-holds Inv-loop μ-loop
 loop-holds c = none-from-start _ _ _ (omega arith)
 
 misordered-pair-requires : tie.Need-misordered-pair-requires Inv-loop μ-loop
-misordered-pair-requires c κs = omega arith
+misordered-pair-requires c κs = (omega arith, search needs)
 
 returns : tie.Need-returns Inv-loop μ-loop
 returns c = sym (least-here _ _ _ _ (c .before .before .before .loop .inv) (omega arith) (sym (c .before .misordered-pair .ensures) ∙ c .if1 .taken))

@@ -4,6 +4,7 @@ use Prim.Native.Nat.{_-_}
 use mathlib.Core.Path.{sym}
 use native.Mathlib.Omega.{arith}
 use denote.Ref.{now}
+use borrow.Author.Needs.{needs}
 use Rattle.search.specs.Search.{NoneFrom, none-from-start}
 use Rattle.search.specs.Parts.{none-from-weaker, none-from-join, none-from-part, least-in-part, least-open}
 use Rattle.scans.specs.Scans.{notBefore, apart}
@@ -26,7 +27,7 @@ part-end-requires : tie.Need-part-end-requires Inv-loop μ-loop
 part-end-requires c κs = c .skip-up .ensures .1
 
 first-asked-requires : tie.Need-first-asked-requires Inv-loop μ-loop
-first-asked-requires c κs = omega (arith, c .part-end .ensures, c .before .skip-up .ensures .1)
+first-asked-requires c κs = (omega (arith, c .part-end .ensures, c .before .skip-up .ensures .1), search needs)
 
 returns : tie.Need-returns Inv-loop μ-loop
 returns c =

@@ -3,6 +3,7 @@
 use Prim.Native.Nat.{_≤_}
 use mathlib.Core.Path.{sym, _∙_}
 use native.Mathlib.Omega.{arith}
+use borrow.Author.Needs.{needs}
 use Rattle.search.specs.Search.{NoneAbove, none-above, none-lower}
 use Rattle.search.specs.Parts.{last-here, last-open}
 use Rattle.scans.specs.Scans.{notAfter}
@@ -22,7 +23,7 @@ sub-misordered-pair : tie.Need-sub-misordered-pair Inv-loop μ-loop
 sub-misordered-pair c = omega arith
 
 misordered-pair-requires : tie.Need-misordered-pair-requires Inv-loop μ-loop
-misordered-pair-requires c κs = omega arith
+misordered-pair-requires c κs = (omega arith, search needs)
 
 returns : tie.Need-returns Inv-loop μ-loop
 returns c = sym (last-here _ _ _ _ (c .before .before .before .loop .inv .1) (omega arith) (sym (c .before .misordered-pair .ensures) ∙ c .if1 .taken))

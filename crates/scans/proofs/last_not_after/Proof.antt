@@ -26,7 +26,7 @@ part-start-requires : tie.Need-part-start-requires Inv-loop μ-loop
 part-start-requires c κs = search needs
 
 last-asked-requires : tie.Need-last-asked-requires Inv-loop μ-loop
-last-asked-requires c κs = omega (arith, c .part-start .ensures, c .before .skip-down .ensures .0)
+last-asked-requires c κs = (omega (arith, c .part-start .ensures, c .before .skip-down .ensures .0), search needs)
 
 returns : tie.Need-returns Inv-loop μ-loop
 returns c =
