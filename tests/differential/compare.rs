@@ -30,6 +30,7 @@ impl Mismatch {
 
 /// Makes the input's call on both sides.
 pub fn check(library: &Guarded, input: &Input, tally: &mut Tally) -> Result<(), Mismatch> {
+    tally.slots = input.table.len() / RECORD_WORDS;
     match input.call {
         Call::Lookup => input.keys.iter().try_for_each(|&key| check_lookup(library, input, key, tally).map(|_| ())),
         Call::SlotRecord => {
