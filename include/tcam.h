@@ -53,9 +53,11 @@
  * writes nothing at all.
  *
  * THE CALLER OWES, since no call can test it:
- *   - every pointer is valid for what it points to, aligned, and not null; the pointers of the table, of the
- *     plan and of the image may be null only where the length that goes with them is 0;
- *   - the lent cells, the progress record, the plan, the image and the table are apart from each other;
+ *   - every pointer is valid for what it points to and not null; the pointers of the table, of the plan and
+ *     of the image may be null only where the length that goes with them is 0;
+ *   - every pointer is aligned: a table's to 8 bytes; a plan's, a cell's and a progress record's to 4; an
+ *     image's to any;
+ *   - the lent cells, the progress record, the plan, the image and the table share no byte with each other;
  *   - nothing changes the table or the image during a call, nor the plan or the progress record during
  *     tcam_carry_out;
  *   - no other call is made on the table while tcam_carry_out or tcam_load runs, not from an interrupt handler
@@ -189,10 +191,10 @@ uint32_t tcam_slot_record(const uint64_t *table, size_t words, uint32_t slot, ui
  * in. Words of the buffer past the count are left as they were.
  *
  * *count is at least 1 and at most the number of slots, so that a buffer of as many words as the table has
- * slots always does. It is the least number of writes in document 01's comparison class: the sequences that
- * copy rules between slots, all copies toward higher slots or all toward lower ones, and put the new rule
- * in last, where each write goes to an empty slot or to one whose id stands in another slot too, and the
- * table is in order after each write. Of sequences outside this class, such as those that copy both ways,
+ * slots always does. It is the least number of writes in this class of sequences: those that copy rules
+ * between slots, all copies toward higher slots or all toward lower ones, and put the new rule in last,
+ * where each write goes to an empty slot or to one whose id stands in another slot too, and the table is
+ * in order after each write. Of sequences outside this class, such as those that copy both ways,
  * nothing is said. Which of several such plans is given is fixed: with copies toward higher slots if there
  * is one; and where slots are equally good the lowest, or in a plan toward lower slots the highest.
  *

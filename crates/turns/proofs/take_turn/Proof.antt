@@ -1,10 +1,10 @@
--- `script::reading::take_turn` meets its contract.
+-- `turns::take_turn` meets its contract.
 -- A line that is complete is run, any other is held.
 use denote.Ref.{now}
-use Rattle.script.specs.ReadingLaws.{turned-complete, turned-begun}
+use Rattle.turns.specs.Laws.{turned-complete, turned-begun}
 use borrow.Author.Needs.{needs}
-use Rattle.script.proofs.reading.take_turn.Statement.{statement}
-use Rattle.script.proofs.reading.take_turn.Tie as tie
+use Rattle.turns.proofs.take_turn.Statement.{statement}
+use Rattle.turns.proofs.take_turn.Tie as tie
 
 take-bytes-requires : tie.Need-take-bytes-requires
 take-bytes-requires c κs = search needs

@@ -1,13 +1,13 @@
--- `script::reading::run_held` meets its contract.
+-- `turns::run_held` meets its contract.
 -- The bytes held are run as a line.
 use mathlib.Core.Path.{sym, _∙_}
 use native.Mathlib.Omega.{arith}
 use lib.Seq.{length-take-le}
 use denote.Ref.{now}
-use Rattle.script.specs.ReadingLaws.{turned-run}
+use Rattle.turns.specs.Laws.{turned-run}
 use borrow.Author.Needs.{needs}
-use Rattle.script.proofs.reading.run_held.Statement.{statement}
-use Rattle.script.proofs.reading.run_held.Tie as tie
+use Rattle.turns.proofs.run_held.Statement.{statement}
+use Rattle.turns.proofs.run_held.Tie as tie
 
 bytes-held-requires : tie.Need-bytes-held-requires
 bytes-held-requires c κs = search needs

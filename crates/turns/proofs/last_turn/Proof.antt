@@ -1,10 +1,10 @@
--- `script::reading::last_turn` meets its contract.
+-- `turns::last_turn` meets its contract.
 -- A line that stands there is run.
 use denote.Ref.{now}
-use Rattle.script.specs.ReadingLaws.{turned-last, turned-end}
+use Rattle.turns.specs.Laws.{turned-last, turned-end}
 use borrow.Author.Needs.{needs}
-use Rattle.script.proofs.reading.last_turn.Statement.{statement}
-use Rattle.script.proofs.reading.last_turn.Tie as tie
+use Rattle.turns.proofs.last_turn.Statement.{statement}
+use Rattle.turns.proofs.last_turn.Tie as tie
 
 line-stands-requires : tie.Need-line-stands-requires
 line-stands-requires c κs = search needs

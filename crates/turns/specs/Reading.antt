@@ -8,9 +8,9 @@ use lib.ListN.{length, drop}
 use Rattle.lines.specs.Held.{takenOf}
 use Rattle.lines.specs.Blocks.{Reading, taking, handedOut}
 use Rattle.printing.specs.Printing.{Shown}
 use Rattle.script.specs.Script.{lineOutcome, tableIn}
-use Rattle.script.specs.declared.reading.Place.{Place}
-use Rattle.script.specs.declared.reading.Turn.{Turn}
+use Rattle.turns.specs.declared.Place.{Place}
+use Rattle.turns.specs.declared.Turn.{Turn}
 
 -- what the program has at hand before a call that prints: the table in the memory, nothing printed yet, the line begun and its number
 abbrev pub readingOf : List ℕ → List ℕ → Place → Reading (List ℕ)

@@ -1,17 +1,17 @@
 // Reading a script block by block: each turn takes bytes out of a block, and runs the line that they complete.
 // What is held between turns is a few numbers, the table's memory and the line's buffer; however the input is cut, the answers are the same.
-use crate::run_line;
-use crate::slots_present;
 use lines::line_stands;
 use lines::next_number;
 use lines::take_bytes;
+use script::run_line;
+use script::slots_present;
 ghost use mathlib.Core.Path.{_≡_};
 ghost use Prim.Native.Nat.{_*_, min};
 ghost use lib.ListN.{length, drop};
 ghost use Rattle.lines.specs.Held.{takenOf};
 ghost use Rattle.lines.specs.Blocks.{handedOut, finished};
 ghost use Rattle.script.specs.Script.{lineOutcome, tableIn};
-ghost use Rattle.script.specs.Reading.{Turned, readingOf, turnOf};
+ghost use Rattle.turns.specs.Reading.{Turned, readingOf, turnOf};
 
 // What is held between turns: the slots of the table, the bytes held of a line, and the line's number.
 pub struct Place {

@@ -1,10 +1,10 @@
--- `script::reading::slots_in` meets its contract.
+-- `turns::slots_in` meets its contract.
 -- The memory has room for 1,024 slots.
 use denote.Ref.{now}
 use Rattle.script.specs.Laws.{slots-present}
 use borrow.Author.Needs.{needs}
-use Rattle.script.proofs.reading.slots_in.Statement.{statement}
-use Rattle.script.proofs.reading.slots_in.Tie as tie
+use Rattle.turns.proofs.slots_in.Statement.{statement}
+use Rattle.turns.proofs.slots_in.Tie as tie
 
 slots-present-requires : tie.Need-slots-present-requires
 slots-present-requires c κs = search needs

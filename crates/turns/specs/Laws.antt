@@ -14,11 +14,11 @@ use Rattle.lines.specs.Held.{takenOf, heldLine, standing}
 use Rattle.lines.specs.declared.Taken.{Taken}
 use Rattle.lines.specs.Blocks.{Reading, Outcome, taking, handedOut, finished}
 use Rattle.printing.specs.Printing.{Shown}
 use Rattle.script.specs.declared.Ran.{Ran}
-use Rattle.script.specs.declared.reading.Place.{Place}
-use Rattle.script.specs.declared.reading.Turn.{Turn}
+use Rattle.turns.specs.declared.Place.{Place}
+use Rattle.turns.specs.declared.Turn.{Turn}
 use Rattle.script.specs.Script.{lineOutcome, tableIn, Left}
-use Rattle.script.specs.Reading.{readingOf, turnOf, Turned}
+use Rattle.turns.specs.Reading.{readingOf, turnOf, Turned}
 
 -- the table afterwards is that in the memory
 pub turned-table : {after : Reading (List ℕ)} {next : ℕ} {turn : Turn} {memory memory′ line′ out out′ : List ℕ}
