@@ -10,7 +10,7 @@ use reference::lookup::{lookup, slot_record, Found};
 use reference::plan::{plan_delete, plan_insert};
 use reference::table::{first_out_of_order, read_slots, Refusal, Rule, Slot, RECORD_WORDS};
 
-/// Tables of up to this many slots are tested for order after every write; larger ones now and then.
+/// Tables of up to this many slots are tested for order after every write; larger ones now and then, and around the last write.
 const SLOTS_ALWAYS_TESTED: usize = 64;
 
 /// The result of tcam_carry_out that says "finished": the header's number, since document 01 has none.
@@ -30,6 +30,7 @@ impl Mismatch {
 
 /// Makes the input's call on both sides.
 pub fn check(library: &Guarded, input: &Input, tally: &mut Tally) -> Result<(), Mismatch> {
+    tally.slots = input.table.len() / RECORD_WORDS;
     match input.call {
         Call::Lookup => input.keys.iter().try_for_each(|&key| check_lookup(library, input, key, tally).map(|_| ())),
         Call::SlotRecord => {
@@ -244,7 +245,7 @@ fn check_in_full(library: &Guarded, input: &Input, tally: &mut Tally) -> Result<
 fn check_state(library: &Guarded, state: &Input, rules: &[Rule], tally: &mut Tally) -> Result<(), Mismatch> {
     let slots: Vec<Slot> = read_slots(&state.table).expect("copies of sound records are sound");
     let is_small = state.table.len() <= SLOTS_ALWAYS_TESTED * RECORD_WORDS;
-    if is_small || state.done % 256 == 0 || state.done == state.total {
+    if is_small || state.done % 256 == 0 || state.done + 1 >= state.total {
         if let Some(slot) = first_out_of_order(&slots) {
             return Err(Mismatch::of(format!("out of order after {} writes", state.done), slot, &state.plan));
         }

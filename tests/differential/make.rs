@@ -1,10 +1,11 @@
 // How inputs are made: sound tables of every fill and layout, damage to them, arbitrary words, plans and images.
 // Rules use few bit positions, so that overlaps, ties and crossings are frequent and plans long.
+// In larger tables they also stand apart, so that searches pass over many slots before they find one.
 
 use crate::input::{Call, Input};
 use reference::image::save;
 use reference::plan::{plan_insert, write_word, EMPTYING, PUT_IN};
-use reference::table::{read_slots, words_of, Rule, Slot, RECORD_WORDS};
+use reference::table::{read_slots, rule_of, words_of, Rule, Slot, RECORD_WORDS};
 use support::random::Random;
 
 /// How the patterns of a table are made.
@@ -20,7 +21,16 @@ enum Style {
     Wild,
     /// Random words of 128 bits, few bits cared for.
     Wide,
+    /// Rules in groups, taken in turn: each overlaps the rules of its own group, and those between two of them not.
+    Apart { groups: usize, lowest_bit: u32 },
 }
+
+/// How far apart the rules of a group stand: the library's searches pass over 4 slots at once and ask 16 one by one.
+const GROUPS: [usize; 16] = [2, 3, 4, 5, 7, 8, 9, 12, 15, 16, 17, 19, 20, 33, 64, 200];
+
+/// A group's number has 10 bits: in the low word, in the high one, or in both.
+const GROUP_BITS: u128 = 1023;
+const GROUP_PLACES: [u32; 5] = [0, 54, 59, 64, 118];
 
 struct Maker<'a> {
     random: &'a mut Random,
@@ -32,7 +42,7 @@ struct Maker<'a> {
 pub fn make_input(random: &mut Random) -> Input {
     let fence_after = random.one_in(2);
     let slots = slot_count(random);
-    let style = random.pick(&[Style::Path, Style::Path, Style::Prefix, Style::Mixed, Style::Mixed, Style::Wild, Style::Wide]);
+    let style = style(random, slots);
     let mut maker = Maker { bits: bit_positions(random), style, random };
     let mut table = maker.sound_table(slots);
     let new = maker.new_rule(&table);
@@ -78,10 +88,22 @@ fn slot_count(random: &mut Random) -> usize {
     if random.one_in(1500) {
         return random.pick(&[1022, 1023, 1024, 1024, 1024]);
     }
-    if random.one_in(25) {
+    if random.one_in(100) {
+        let most = random.pick(&[128, 256, 256, 512, 1021]);
+        return random.between(65, most);
+    }
+    if random.one_in(12) {
         return random.between(13, 64);
     }
     random.between(1, 12)
+}
+
+/// Tables of more than 12 slots have their rules apart every other time: the other styles overlap at every few slots.
+fn style(random: &mut Random, slots: usize) -> Style {
+    if random.one_in(if slots > 12 { 2 } else { 8 }) {
+        return Style::Apart { groups: random.pick(&GROUPS), lowest_bit: random.pick(&GROUP_PLACES) };
+    }
+    random.pick(&[Style::Path, Style::Path, Style::Prefix, Style::Mixed, Style::Mixed, Style::Wild, Style::Wide])
 }
 
 /// Up to seven positions, often the ends of the words.
@@ -135,6 +157,12 @@ impl Maker<'_> {
             Style::Wide => {
                 let mask = self.random.wide() & self.random.wide() & self.random.wide() & self.random.wide();
                 (self.random.wide() & mask, mask)
+            }
+            Style::Apart { groups, lowest_bit } => {
+                let group = if self.random.one_in(16) { self.random.below(groups) } else { place % groups };
+                let joined = if self.random.one_in(16) { self.random.pick(&[1, 2, 3, 7]) } else { 0 };
+                let mask = (GROUP_BITS & !joined) << lowest_bit;
+                ((group as u128) << lowest_bit & mask, mask)
             }
         }
     }
@@ -282,7 +310,7 @@ impl Maker<'_> {
     fn damage(&mut self, words: &mut Vec<u64>) {
         let slots = words.len() / RECORD_WORDS;
         let record = RECORD_WORDS * self.random.below(slots);
-        match self.random.below(14) {
+        match self.random.below(18) {
             0..=3 => {
                 let word = self.random.below(words.len());
                 words[word] ^= 1 << self.random.below(64);
@@ -298,18 +326,34 @@ impl Maker<'_> {
                     words.swap(record + word, other + word);
                 }
             }
-            10 => {
+            10 | 11 => {
                 let other = RECORD_WORDS * self.random.below(slots);
                 words[other + 4] = words[record + 4];
             }
-            11 => words[record + 5] = words[record + 5].wrapping_add(1),
-            12 => words.iter_mut().for_each(|word| *word = self.random.word()),
+            12 => words[record + 5] = words[record + 5].wrapping_add(1),
+            13..=15 => {
+                let other = self.overlapping_record(words, record);
+                words[record + 5] = words[other + 5].saturating_add(self.random.below(2) as u64);
+            }
+            16 => words.iter_mut().for_each(|word| *word = self.random.word()),
             _ => {
                 for word in words.iter_mut() {
                     let any = self.random.any_word();
                     *word = self.random.pick(&[0, 0, 0, 1, 1 << 32, 3, any]);
                 }
             }
+        }
+    }
+
+    /// Where a record begins whose rule overlaps that of the record at `record`, which may be that one itself.
+    fn overlapping_record(&mut self, words: &[u64], record: usize) -> usize {
+        let rule = rule_of(&words[record..]);
+        let is_met = |at: usize| words[at + 4] != 0 && rule_of(&words[at..]).overlaps(&rule);
+        let met: Vec<usize> = (0..words.len()).step_by(RECORD_WORDS).filter(|&at| is_met(at)).collect();
+        if met.is_empty() {
+            record
+        } else {
+            self.random.pick(&met)
         }
     }
 

@@ -7,9 +7,14 @@ use reference::plan::{EMPTYING, PUT_IN};
 use reference::table::{Refusal, CROSSED, FULL, IMAGE, KNOWN, ORDER, RECORD, RULE, SHAPE, SHORT, TIE, TWICE, UNKNOWN, WRITE};
 use std::collections::BTreeMap;
 
+/// Tables of more slots than this are counted apart too, since what a search does over many slots small tables don't reach.
+const SMALL_MOST: usize = 64;
+
 #[derive(Default)]
 pub struct Tally {
     counts: BTreeMap<(Call, String), u64>,
+    /// How many slots the table at hand has.
+    pub slots: usize,
     /// How many insert plans had 1, 2, 3 .. writes; the last place is for longer ones.
     lengths: [u64; 10],
     longest: usize,
@@ -36,12 +41,30 @@ fn wanted() -> Vec<(Call, String)> {
     want(Call::Save, &[], &[SHORT]);
     want(Call::Load, &["loaded", "14 at 0", "14 at 2", "14 at an id", "14 at a slot", "14 at an offset", "14 at a body"], &[]);
     want(Call::Load, &[], &[SHAPE, TWICE, ORDER]);
+    let mut want_large = |call: Call, kinds: &[&str], numbers: &[u32]| {
+        wanted.extend(kinds.iter().map(|kind| (call, large(kind))));
+        wanted.extend(numbers.iter().map(|number| (call, large(&number.to_string()))));
+    };
+    want_large(Call::Lookup, &["hit", "miss"], &[RECORD]);
+    want_large(Call::PlanInsert, &["one write", "down", "up"], &[RECORD, TWICE, ORDER, RULE, KNOWN, TIE, FULL, CROSSED, SHORT]);
+    want_large(Call::PlanDelete, &["emptying"], &[UNKNOWN]);
+    want_large(Call::CarryOut, &["copied", "put in", "emptied", "finished"], &[]);
+    want_large(Call::Save, &["saved"], &[SHORT]);
+    want_large(Call::Load, &["loaded"], &[]);
     wanted
+}
+
+/// The name of an answer on a table of many slots.
+fn large(kind: &str) -> String {
+    format!("{kind}, large")
 }
 
 impl Tally {
     pub fn count(&mut self, call: Call, kind: &str) {
         *self.counts.entry((call, kind.to_string())).or_default() += 1;
+        if self.slots > SMALL_MOST {
+            *self.counts.entry((call, large(kind))).or_default() += 1;
+        }
     }
 
     pub fn refusal(&mut self, call: Call, number: u32) {
@@ -106,7 +129,7 @@ impl Tally {
 
     pub fn print(&self) {
         for ((call, kind), count) in &self.counts {
-            println!("  {:<12} {:<20} {:>10}", format!("{call:?}"), kind, count);
+            println!("  {:<12} {:<24} {:>10}", format!("{call:?}"), kind, count);
         }
         println!("  insert plans of 1, 2, .. 9 writes and of more: {:?}; longest {}", self.lengths, self.longest);
         println!("  lookups between writes: {}", self.lookups_between);
