@@ -11,7 +11,7 @@ use native.Mathlib.Decide.{ℕ-discrete}
 use lib.Dec.{eqb}
 use lib.ListN.{length, getD, length-reverse}
 use borrow.Author.Tests.{eq-eqb, ne-eqb}
-use Rattle.search.specs.Search.{least, least-law, least-unique, least-cong, afterLast, after-last-law, after-last-unique, after-last-cong, decided}
+use Rattle.search.specs.Search.{least, least-law, least-unique, least-cong, afterLast, after-last-law, after-last-unique, decided}
 use Rattle.layout.specs.Order.{Direction, Higher, Lower}
 use Rattle.layout.specs.Cost.{InWindow, Costs, slotCost, costs-law, nextSlot, next-law}
 use Rattle.layout.specs.Mirror.{mirror, mirror-twice, getD-reverse, window-mirrored}
@@ -148,9 +148,6 @@ lastOfCost c k s = afterLast (λ y. eqb (c y) k) s - 1
 -- of the costs they see those of the slots
 pub first-of-cost-cong : {c d : ℕ → ℕ} (n : ℕ) → ((j : ℕ) → j < n → c j ≡ d j) → (k s : ℕ) → firstOfCost c n k s ≡ firstOfCost d n k s
 first-of-cost-cong n h k s = least-cong (n - suc s) (suc s) (λ j l r. ap (λ (x : ℕ). eqb x k) (h j (omega arith)))
-
-pub last-of-cost-cong : {c d : ℕ → ℕ} (k s : ℕ) → ((j : ℕ) → j < s → c j ≡ d j) → lastOfCost c k s ≡ lastOfCost d k s
-last-of-cost-cong k s h = ap (λ (x : ℕ). x - 1) (after-last-cong s (λ j l. ap (λ (x : ℕ). eqb x k) (h j l)))
 
 -- the walk is found by stepping, where each step goes to the slot that the tie rule takes
 pub walk-steps : {S : Type 0} {empty : S} {occupied : S → Bool} {toward : ℕ → ℕ → Type 0} {misplaced : S → S → Bool} {t : List S} {top : ℕ} {c : ℕ → ℕ}

@@ -1,6 +1,5 @@
 -- How a plan is found, in document 01's words: costs in both directions, the neighbours A and B, the choice, the chain, the writes.
 -- The choice takes its two ranges of slots as arguments; the ranges of an insert are one use of it.
-use mathlib.Core.Path.{_≡_, refl}
 use mathlib.Core.Bool.{Bool, true, false, cond}
 use mathlib.Core.List.{List, [], _∷_, _++_, map, reverse}
 use Prim.Native.Nat.{ℕ, suc, _+_, _-_, _≤_, _<_, min}
@@ -12,7 +11,7 @@ use Rattle.layout.specs.Minimum.{minimum, lowest, highest}
 use Rattle.layout.specs.Cost.{slotCost, nextSlot}
 use Rattle.layout.specs.Mirror.{mirror}
 use Rattle.layout.specs.Chain.{steps}
-use Rattle.layout.specs.Write.{Write, copy, put, moves}
+use Rattle.layout.specs.Write.{Write, put, moves}
 
 -- the slots from the one number up to, not including, the other
 pub record Range : Type 0 where
@@ -92,8 +91,3 @@ module _ {S : Type 0} (empty : S) (occupied : S → Bool) (misordered : S → S 
 -- the plan: the far end of the chain first, the new rule last
 abbrev pub writes : Choice → List Write
 writes c = moves (c .slot) (c .chain) ++ (put (c .slot) ∷ [])
-
--- a chain that is stepped is emitted on the way back, the moves left falling
-pub moves-steps : (next : ℕ → ℕ → ℕ) (k s : ℕ) → moves s (steps next (suc k) s) ≡ moves (next k s) (steps next k (next k s)) ++ (copy s (next k s) ∷ [])
-unfolding moves steps
-moves-steps next k s = refl

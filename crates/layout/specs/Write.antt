@@ -1,14 +1,13 @@
 -- Writes: what one does to a layout, when it fits, and the list of writes that carries a chain out.
 -- A plan's writes are carried out in order, one at a time.
-use mathlib.Core.Path.{_≡_, refl, ap, _∙_}
+use mathlib.Core.Path.{_≡_, refl, ap}
 use mathlib.Core.Bool.{Bool, true, not, _&&_}
 use mathlib.Core.Logic.{_↔_, _≢_}
 use mathlib.Core.List.{List, [], _∷_, _++_}
-use Prim.Native.Nat.{ℕ, suc, _+_, _*_, _<_}
+use Prim.Native.Nat.{ℕ, _+_, _*_, _<_}
 use native.Mathlib.Omega.{arith}
 use lib.Dec.{eqb, ltb}
-use lib.ListN.{length, getD, take, length-append}
-use lib.Seq.{take-suc}
+use lib.ListN.{length, getD, length-append}
 use borrow.Author.Tests.{not-true, eqb-false, ne-eqb, ltb-true, lt-ltb}
 use Rattle.search.specs.Search.{and-law}
 use Rattle.layout.specs.Held.{Free, free, free-law, copied, filled, emptied}
@@ -90,8 +89,3 @@ pub carried-append : {S : Type 0} (empty new : S) (t : List S) (ws vs : List Wri
     → carried empty new t (ws ++ vs) ≡ carried empty new (carried empty new t ws) vs
 carried-append empty new t [] vs = refl
 carried-append empty new t (w ∷ ws) vs = carried-append empty new (applied empty new t w) ws vs
-
--- one write more
-pub carried-next : {S : Type 0} (empty new : S) (t : List S) (ws : List Write) (k : ℕ) (d : Write) → k < length ws
-    → carried empty new t (take (suc k) ws) ≡ applied empty new (carried empty new t (take k ws)) (getD ws k d)
-carried-next empty new t ws k d h = ap (carried empty new t) (take-suc ws k d h) ∙ carried-append empty new t (take k ws) (getD ws k d ∷ [])

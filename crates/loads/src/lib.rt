@@ -15,8 +15,8 @@ ghost use Prim.Native.Nat.{ℕ, _+_, _*_, _/_, _≤_, _<_};
 ghost use lib.ListN.{length, replicate};
 ghost use Rattle.records.specs.Checks.{orElse, checkShape, checkRecords, checkTwice, checkOrder};
 ghost use Rattle.records.specs.declared.Check.the-variants.{Pass};
-ghost use Rattle.image.specs.Format.{imageBytes, slotAt, rulesIn, recordAt};
-ghost use Rattle.image.specs.Checks.{checkHeader, lowestSlot, checkEntry, checkBody, checkContents, checkBodies, imageChecks, filled, meant, loadChecks};
+ghost use Rattle.image.specs.Format.{imageBytes, slotAt, recordAt};
+ghost use Rattle.image.specs.Checks.{checkHeader, lowestSlot, checkEntry, checkBody, checkContents, checkBodies, imageChecks, filled, meant};
 ghost use Rattle.image.specs.Answers.{loadTold, loadAnswer, loadTable};
 
 // Slots as the lent table's; rules no more than slots, and as many bytes as so many rules have.

@@ -1,7 +1,7 @@
 -- The windows of a table's rules, seen along one direction: position p is slot p going down, and slot n − 1 − p going up.
 -- One definition serves both directions; the planner works on these numbers alone.
-use mathlib.Core.Path.{_≡_, refl, sym, ap, _∙_, subst}
-use mathlib.Core.Bool.{Bool, true, false, cond, false≢true, true≢false}
+use mathlib.Core.Path.{_≡_, sym, ap, _∙_, subst}
+use mathlib.Core.Bool.{Bool, true, false, cond}
 use mathlib.Core.List.{List, _++_}
 use Prim.Native.Nat.{ℕ, suc, _+_, _-_, _≤_, _<_, min}
 use native.Mathlib.Omega.{arith}
@@ -9,7 +9,7 @@ use native.Mathlib.Numerals.{add-one}
 use lib.ListN.{length, getD, set, drop}
 use lib.Seq.{drop-cons, set-at, append-snoc}
 use Rattle.ternary.specs.Pattern.{Words}
-use Rattle.search.specs.Search.{least, Least, least-law, least-unique, afterLast, AfterLast, after-last-law}
+use Rattle.search.specs.Search.{least, least-law, least-unique, afterLast, AfterLast, after-last-law}
 use Rattle.records.specs.Record.{slotWords, empty, listed}
 use Rattle.records.specs.Rules.{length-listed}
 use Rattle.records.specs.Order.{slots, misordered}

@@ -1,14 +1,14 @@
 // A new rule against a table: known id, tie, room, and its neighbours A and B. Checks 1 to 10 of an insert.
 // The new rule is lent as a table of one slot that holds its record.
+use pairs::precedes_pair;
+use pairs::same_id;
+use pairs::tied_pair;
 use records::Cause;
 use records::Check;
 use records::Rule;
-use slots::precedes_pair;
 use slots::rules::record_of;
 use slots::rules::rule_sound;
-use slots::same_id;
 use slots::slot_empty;
-use slots::tied_pair;
 use table_checks::check_table;
 ghost use mathlib.Core.Path.{_≡_};
 ghost use Prim.Native.Nat.{_≤_, _<_};

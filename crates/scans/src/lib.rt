@@ -1,7 +1,7 @@
 // The nearest slot that is out of order with a slot: the searches of check 4 and of the windows.
 // Slots that do not overlap are passed over four at a time; the rest are asked one by one.
-use slots::misordered_pair;
-use slots::pattern_overlaps;
+use pairs::misordered_pair;
+use pairs::pattern_overlaps;
 use slots::slot_word;
 ghost use mathlib.Core.Path.{_≡_};
 ghost use mathlib.Core.Bool.{_||_};

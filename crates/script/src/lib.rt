@@ -21,9 +21,6 @@ use records::Rule;
 use records::cause_number;
 use steps::whole::carry_whole;
 use table::inserts::plan_insert;
-
-pub mod reading;
-
 ghost use mathlib.Core.Path.{_≡_};
 ghost use Prim.Native.Nat.{_≤_, min};
 ghost use lib.ListN.{length, replicate};
@@ -297,7 +294,7 @@ fn run_command(
 }
 
 // A table has at most 1,024 slots: no more fit into the memory.
-pub(crate) fn slots_present(slots: usize) -> usize
+pub fn slots_present(slots: usize) -> usize
     ensures { λ r. ⌜ r ≡ min slots 1024 ⌝ }
 {
     if slots < 1024 {

@@ -1,16 +1,14 @@
-// One slot of a table, or two, read in the table itself.
-// A function on slots asks that they exist; the table may hold anything.
+// One slot of a table, read in the table itself: empty, sound, matching a key; and a rule's record.
+// A function on a slot asks that it exists; the table may hold anything.
 pub mod rules;
 
 ghost use mathlib.Core.Path.{_≡_};
 ghost use mathlib.Core.List.{[], _∷_};
-ghost use mathlib.Core.Bool.{not, _&&_};
 ghost use Prim.Native.Nat.{_+_, _<_, _/_};
 ghost use lib.ListN.{length};
 ghost use Rattle.ternary.specs.Word.{agree, inside};
-ghost use Rattle.ternary.specs.Pattern.{within, overlaps};
-ghost use Rattle.records.specs.Record.{word, slotWords, value, mask, empty, occupied, ident, sound, soundParts, patternMatches, slotMatches, listed, putSlot};
-ghost use Rattle.records.specs.Order.{sameId, distinct, tied, precedes, misordered, overlapping};
+ghost use Rattle.ternary.specs.Pattern.{within};
+ghost use Rattle.records.specs.Record.{word, slotWords, value, mask, empty, ident, sound, soundParts, patternMatches, slotMatches, listed, putSlot};
 ghost use Rattle.records.specs.Checks.{unsoundAt, checkRecords};
 ghost use Rattle.records.specs.declared.Check.the-variants.{Pass};
 
@@ -22,7 +20,7 @@ pub fn slot_word(table: &[u64], slot: usize, index: usize) -> u64
     table[slot * 6 + index]
 }
 
-// The tests of this file end at the first word that decides: most slots and most pairs are told apart by it.
+// Tests end at the first word that decides, since most slots are told by it.
 
 // Whether each value bit outside the mask is 0.
 fn value_within(value_high: u64, value_low: u64, mask_high: u64, mask_low: u64) -> bool
@@ -152,135 +150,6 @@ pub fn slot_matches(table: &[u64], slot: usize, key_high: u64, key_low: u64) -> 
 {
     if pattern_matches(table, slot, key_high, key_low) {
         return slot_word(table, slot, 4) != 0;
-    }
-    false
-}
-
-// Pairs: a slot of one table and a slot of another, or of the same; a rule to be inserted is a table of one slot.
-
-// Whether a slot's pattern overlaps one whose words are at hand.
-pub fn pattern_overlaps(
-    table: &[u64],
-    slot: usize,
-    value_high: u64,
-    value_low: u64,
-    mask_high: u64,
-    mask_low: u64,
-) -> bool
-    requires { ⌜ slot < length (now table) / 6 ⌝ }
-    ensures { λ r. ⌜ r ≡ overlaps 2 (value (slotWords 2 (now (table .entry)) slot)) (mask 2 (slotWords 2 (now (table .entry)) slot))
-        (word («value_high» ∷ «value_low» ∷ [])) (word («mask_high» ∷ «mask_low» ∷ [])) ⌝ }
-{
-    let high = ternary::words_overlap(
-        slot_word(table, slot, 0),
-        slot_word(table, slot, 2),
-        value_high,
-        mask_high,
-    );
-    if high {
-        return ternary::words_overlap(
-            slot_word(table, slot, 1),
-            slot_word(table, slot, 3),
-            value_low,
-            mask_low,
-        );
-    }
-    false
-}
-
-// Whether two slots' patterns overlap, the slots read as rules.
-pub fn slots_overlap(table: &[u64], slot: usize, others: &[u64], other: usize) -> bool
-    requires { ⌜ (slot < length (now table) / 6) × (other < length (now others) / 6) ⌝ }
-    ensures { λ r. ⌜ r ≡ overlapping 2 (slotWords 2 (now (table .entry)) slot) (slotWords 2 (now (others .entry)) other) ⌝ }
-{
-    pattern_overlaps(
-        table,
-        slot,
-        slot_word(others, other, 0),
-        slot_word(others, other, 1),
-        slot_word(others, other, 2),
-        slot_word(others, other, 3),
-    )
-}
-
-// Whether both slots are occupied.
-pub fn both_occupied(table: &[u64], slot: usize, others: &[u64], other: usize) -> bool
-    requires { ⌜ (slot < length (now table) / 6) × (other < length (now others) / 6) ⌝ }
-    ensures { λ r. ⌜ r ≡ (occupied 2 (slotWords 2 (now (table .entry)) slot) && occupied 2 (slotWords 2 (now (others .entry)) other)) ⌝ }
-{
-    if slot_empty(table, slot) {
-        return false;
-    }
-    let vacant = slot_empty(others, other);
-    !vacant
-}
-
-// Whether one id stands in both slots.
-pub fn same_id(table: &[u64], slot: usize, others: &[u64], other: usize) -> bool
-    requires { ⌜ (slot < length (now table) / 6) × (other < length (now others) / 6) ⌝ }
-    ensures { λ r. ⌜ r ≡ sameId 2 (slotWords 2 (now (table .entry)) slot) (slotWords 2 (now (others .entry)) other) ⌝ }
-{
-    if slot_id(table, slot) == slot_id(others, other) {
-        return both_occupied(table, slot, others, other);
-    }
-    false
-}
-
-// Whether the slots hold two rules of different ids.
-pub fn distinct_rules(table: &[u64], slot: usize, others: &[u64], other: usize) -> bool
-    requires { ⌜ (slot < length (now table) / 6) × (other < length (now others) / 6) ⌝ }
-    ensures { λ r. ⌜ r ≡ distinct 2 (slotWords 2 (now (table .entry)) slot) (slotWords 2 (now (others .entry)) other) ⌝ }
-{
-    if both_occupied(table, slot, others, other) {
-        return slot_id(table, slot) != slot_id(others, other);
-    }
-    false
-}
-
-// Whether the slots hold two rules of different ids that overlap.
-fn rules_overlap(table: &[u64], slot: usize, others: &[u64], other: usize) -> bool
-    requires { ⌜ (slot < length (now table) / 6) × (other < length (now others) / 6) ⌝ }
-    ensures { λ r. ⌜ r ≡ (distinct 2 (slotWords 2 (now (table .entry)) slot) (slotWords 2 (now (others .entry)) other) && overlapping 2 (slotWords 2 (now (table .entry)) slot) (slotWords 2 (now (others .entry)) other)) ⌝ }
-{
-    if distinct_rules(table, slot, others, other) {
-        return slots_overlap(table, slot, others, other);
-    }
-    false
-}
-
-// Whether a slot's standing before another is out of order. Priorities first: in a table in order most pairs are told by them.
-pub fn misordered_pair(table: &[u64], slot: usize, others: &[u64], other: usize) -> bool
-    requires { ⌜ (slot < length (now table) / 6) × (other < length (now others) / 6) ⌝ }
-    ensures { λ r. ⌜ r ≡ misordered 2 (slotWords 2 (now (table .entry)) slot) (slotWords 2 (now (others .entry)) other) ⌝ }
-{
-    if slot_word(table, slot, 5) <= slot_word(others, other, 5) {
-        return rules_overlap(table, slot, others, other);
-    }
-    false
-}
-
-// Whether two rules overlap at equal priority.
-pub fn tied_pair(table: &[u64], slot: usize, others: &[u64], other: usize) -> bool
-    requires { ⌜ (slot < length (now table) / 6) × (other < length (now others) / 6) ⌝ }
-    ensures { λ r. ⌜ r ≡ tied 2 (slotWords 2 (now (table .entry)) slot) (slotWords 2 (now (others .entry)) other) ⌝ }
-{
-    let overlap = slots_overlap(table, slot, others, other);
-    let equal = slot_word(table, slot, 5) == slot_word(others, other, 5);
-    if overlap & equal {
-        return distinct_rules(table, slot, others, other);
-    }
-    false
-}
-
-// Whether a rule precedes another: they overlap, and its priority is the higher one.
-pub fn precedes_pair(table: &[u64], slot: usize, others: &[u64], other: usize) -> bool
-    requires { ⌜ (slot < length (now table) / 6) × (other < length (now others) / 6) ⌝ }
-    ensures { λ r. ⌜ r ≡ precedes 2 (slotWords 2 (now (table .entry)) slot) (slotWords 2 (now (others .entry)) other) ⌝ }
-{
-    let overlap = slots_overlap(table, slot, others, other);
-    let higher = slot_word(others, other, 5) < slot_word(table, slot, 5);
-    if overlap & higher {
-        return distinct_rules(table, slot, others, other);
     }
     false
 }

@@ -1,9 +1,9 @@
 // One write of a plan: whether it fits the table, and the table with it made.
 // A write is a plan word: from × 65,536 + to.
+use pairs::same_id;
 use records::Rule;
 use slots::put_record;
 use slots::rules::record_of;
-use slots::same_id;
 use slots::slot_empty;
 use slots::slot_word;
 ghost use mathlib.Core.Path.{_≡_};

@@ -1,8 +1,8 @@
 // Check 3 over a column of ids: a table's row is read only where the column finds the slot's id twice.
 // A column of 32-bit words is compared several slots at a time; the records, six words apart, are not.
+use pairs::same_id;
 use records::Cause;
 use records::Check;
-use slots::same_id;
 use slots::slot_empty;
 use slots::slot_word;
 ghost use mathlib.Core.Path.{_≡_};

@@ -12,7 +12,7 @@ use lib.IntN.{ℤ, pos, negsuc}
 use lib.Signed.{leZ}
 use borrow.Author.Tests.{leb-true}
 use Rattle.io.specs.Counts.{clamped}
-use Rattle.script.specs.declared.reading.Place.{Place}
+use Rattle.turns.specs.declared.Place.{Place}
 use Rattle.transcripts.specs.Whole.{Kept, Called, Through}
 use Rattle.tcam_script.specs.declared.Went.{Went}
 

@@ -1,5 +1,5 @@
 // The script program of document 01: reads standard input block by block, and prints what each line is answered.
-// What a line does, prints and is refused for is the crate `script`; here bytes are only read and written.
+// What a line does, prints and is refused for is the crate `script`, taking lines out of blocks `turns`; here bytes are only read and written.
 ghost use mathlib.Core.Path.{_≡_};
 ghost use mathlib.Core.Bool.{true};
 ghost use mathlib.Core.List.{List};
@@ -7,9 +7,9 @@ ghost use Prim.Native.Nat.{ℕ, _≤_};
 ghost use lib.ListN.{length, replicate};
 ghost use Rattle.transcripts.specs.Whole.{Ended, Read, Stopped, keeping, opening};
 ghost use Rattle.tcam_script.specs.Reads.{Took, TookBlock, TookRead};
-use script::reading::Place;
-use script::reading::last_turn;
-use script::reading::take_turn;
+use turns::Place;
+use turns::last_turn;
+use turns::take_turn;
 
 // What reading came to so far: what is held, whether there may be more input, and whether all reads and writes went well.
 pub struct Went {

@@ -1,6 +1,6 @@
 -- Patterns of any number of words: match, overlap, value within mask. Document 01's sentences, and the tests that decide them.
 -- A value, a mask and a key are read word by word, word 0 the highest; w is the number of words.
-use mathlib.Core.Path.{_≡_, refl, sym, ap, _∙_}
+use mathlib.Core.Path.{_≡_, sym, _∙_}
 use mathlib.Core.Bool.{Bool, true, false, true≢false}
 use mathlib.Core.Logic.{_↔_, ⊎-elim}
 use Prim.Native.Nat.{ℕ, _^_, _<_}

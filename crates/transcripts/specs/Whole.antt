@@ -18,11 +18,11 @@ use Rattle.lines.specs.Held.{takenOf, standing}
 use Rattle.lines.specs.Blocks.{Reading, Outcome, whole, answered, started, taking, handedOut, turns, blocksRead, finished, outcome, blocks-as-whole}
 use Rattle.commands.specs.Laws.{command-short}
 use Rattle.printing.specs.Printing.{Shown}
-use Rattle.script.specs.declared.reading.Place.{Place}
-use Rattle.script.specs.declared.reading.Turn.{Turn}
+use Rattle.turns.specs.declared.Place.{Place}
+use Rattle.turns.specs.declared.Turn.{Turn}
 use Rattle.script.specs.Script.{commandOutcome, lineOutcome, tableIn}
-use Rattle.script.specs.Reading.{readingOf, turnOf, Turned}
-use Rattle.script.specs.ReadingLaws.{turned-table}
+use Rattle.turns.specs.Reading.{readingOf, turnOf, Turned}
+use Rattle.turns.specs.Laws.{turned-table}
 
 -- document 01: before a good T the table has no slots; lines are numbered from 1
 unfoldable pub scriptOutcome : List ℕ → Outcome (List ℕ)

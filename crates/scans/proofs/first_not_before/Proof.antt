@@ -1,7 +1,7 @@
 -- `scans::first_not_before` meets its contract.
 -- No slot from the first one up to the loop's is out of order with the slot: each was passed over or asked.
 use Prim.Native.Nat.{_-_}
-use mathlib.Core.Path.{sym, _∙_}
+use mathlib.Core.Path.{sym}
 use native.Mathlib.Omega.{arith}
 use denote.Ref.{now}
 use Rattle.search.specs.Search.{NoneFrom, none-from-start}

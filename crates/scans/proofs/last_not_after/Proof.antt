@@ -1,6 +1,6 @@
 -- `scans::last_not_after` meets its contract.
 -- No slot from the loop's on is out of order with the slot: each was passed over or asked.
-use mathlib.Core.Path.{sym, _∙_}
+use mathlib.Core.Path.{sym}
 use native.Mathlib.Omega.{arith}
 use denote.Ref.{now}
 use borrow.Author.Needs.{needs}

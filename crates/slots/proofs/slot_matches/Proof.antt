@@ -1,7 +1,7 @@
 -- `slots::slot_matches` meets its contract.
 -- A pattern that matches is a rule's where the word of id and action is not 0.
 use mathlib.Core.Path.{ap, _∙_}
-use mathlib.Core.Bool.{Bool, not}
+use mathlib.Core.Bool.{not}
 use Prim.Native.Nat.{ℕ}
 use lib.Dec.{eqb}
 use native.Mathlib.Omega.{arith}
