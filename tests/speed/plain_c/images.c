@@ -56,7 +56,7 @@ static void put_rules(const uint64_t *table, size_t slots, size_t rules, uint8_t
     size_t entry = 4, body = 4 + 10 * rules;
     for (size_t slot = 0; slot < slots; slot++) {
         const uint64_t *record = table + slot * WORDS;
-        if (is_empty(record))
+        if (id_of(record) == 0)
             continue;
         put_32(image + entry, id_of(record));
         put_16(image + entry + 4, slot);
@@ -76,7 +76,7 @@ uint32_t c_save(const uint64_t *table, size_t words, uint8_t *image, size_t imag
         return sound.number;
     }
     for (size_t slot = 0; slot < slots; slot++)
-        rules += !is_empty(table + slot * WORDS);
+        rules += id_of(table + slot * WORDS) != 0;
     if (image_bytes < 4 + 50 * rules) {
         *spot = (uint32_t)(4 + 50 * rules);
         return SHORT;

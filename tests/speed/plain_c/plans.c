@@ -71,14 +71,30 @@ static uint16_t least_between(const uint16_t *costs, size_t from, size_t to, siz
     return least;
 }
 
-/* The costs of all positions along one direction, the last position first. */
+/* The least of a window's costs; its first, which may just have been stored, is read by itself. */
+static uint16_t least_in_window(const uint16_t *costs, size_t from, size_t to, size_t top)
+{
+    if (from >= to)
+        return (uint16_t)top;
+    uint16_t rest = least_between(costs, from + 1, to, top);
+    return costs[from] < rest ? costs[from] : rest;
+}
+
+/* The costs of all positions along one direction, the last position first.
+   The least of all is kept, so that no window that runs to the last position is searched. */
 static void fill_costs(const uint64_t *table, size_t slots, bool up, uint16_t *costs)
 {
-    uint16_t ends[SLOTS_MOST];
+    uint16_t ends[SLOTS_MOST], least = (uint16_t)slots;
     fill_ends(table, slots, up, ends);
     for (size_t position = slots; position-- > 0;) {
         size_t end = ends[position];
-        costs[position] = end == 0 ? 0 : (uint16_t)(least_between(costs, position + 1, end, slots) + 1);
+        uint16_t cost = 0;
+        if (end == slots)
+            cost = (uint16_t)(least + 1);
+        else if (end != 0)
+            cost = (uint16_t)(least_in_window(costs, position + 1, end, slots) + 1);
+        costs[position] = cost;
+        least = cost < least ? cost : least;
     }
 }
 
@@ -126,7 +142,7 @@ static check check_rule(const uint64_t *table, size_t slots, const uint64_t *new
         if (tied(table + slot * WORDS, new))
             return fail(TIE, slot);
     for (size_t slot = 0; slot < slots; slot++)
-        if (is_empty(table + slot * WORDS))
+        if (id_of(table + slot * WORDS) == 0)
             return pass();
     return fail(FULL, 0);
 }

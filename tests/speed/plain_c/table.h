@@ -8,7 +8,8 @@
 #include <stdint.h>
 #include <string.h>
 
-enum { WORDS = 6, SLOTS_MOST = 1024, PRIORITY_MOST = 65535, PUT_IN = 65535, EMPTYING = 65534 };
+/* STRETCH: how many records check 4 asks one by one from an overlap on, priorities first, since others near it are likely to overlap. */
+enum { WORDS = 6, SLOTS_MOST = 1024, STRETCH = 16, PRIORITY_MOST = 65535, PUT_IN = 65535, EMPTYING = 65534 };
 
 enum { OK, SHAPE, RECORD, TWICE, ORDER, RULE, KNOWN, UNKNOWN, TIE, FULL, CROSSED, SHORT, WRITE, LINE, IMAGE };
 
@@ -66,13 +67,25 @@ static inline bool overlap(const uint64_t *first, const uint64_t *second)
 
 static inline bool distinct(const uint64_t *first, const uint64_t *second)
 {
-    return id_of(first) != id_of(second) && id_of(first) != 0 && id_of(second) != 0;
+    return id_of(first) != 0 && id_of(second) != 0 && id_of(first) != id_of(second);
 }
 
-/* Whether the first rule, standing before the second, is out of order. */
+/* Whether a rule that overlaps another stands in the first record; the other is a rule. */
+static inline bool meets(const uint64_t *first, const uint64_t *second)
+{
+    return overlap(first, second) && id_of(first) != 0;
+}
+
+/* Whether the first rule, standing before the second, is out of order; most pairs are told apart by their patterns. */
 static inline bool misordered(const uint64_t *first, const uint64_t *second)
 {
-    return overlap(first, second) && first[5] <= second[5] && distinct(first, second);
+    return overlap(first, second) && distinct(first, second) && first[5] <= second[5];
+}
+
+/* The same, where most pairs are told by their priorities. */
+static inline bool outranked(const uint64_t *first, const uint64_t *second)
+{
+    return first[5] <= second[5] && distinct(first, second) && overlap(first, second);
 }
 
 static inline bool tied(const uint64_t *first, const uint64_t *second)
@@ -126,17 +139,28 @@ static inline check check_twice(const uint64_t *table, size_t slots)
     return pass();
 }
 
+/* Past the fours of records, up to this one, that have no rule that overlaps it. */
+static inline const uint64_t *from_overlap(const uint64_t *from, const uint64_t *record)
+{
+    const uint64_t *earlier = from;
+    for (; earlier + 3 * WORDS < record; earlier += 4 * WORDS)
+        if (meets(earlier, record) || meets(earlier + WORDS, record) || meets(earlier + 2 * WORDS, record)
+            || meets(earlier + 3 * WORDS, record))
+            break;
+    return earlier;
+}
+
 static inline bool disorder_before(const uint64_t *table, size_t slot)
 {
     const uint64_t *record = table + slot * WORDS;
     const uint64_t *earlier = table;
-    for (; earlier + 3 * WORDS < record; earlier += 4 * WORDS)
-        if (misordered(earlier, record) || misordered(earlier + WORDS, record) || misordered(earlier + 2 * WORDS, record)
-            || misordered(earlier + 3 * WORDS, record))
-            return true;
-    for (; earlier < record; earlier += WORDS)
-        if (misordered(earlier, record))
-            return true;
+    while (earlier < record) {
+        earlier = from_overlap(earlier, record);
+        const uint64_t *end = record - earlier < STRETCH * WORDS ? record : earlier + STRETCH * WORDS;
+        for (; earlier < end; earlier += WORDS)
+            if (outranked(earlier, record))
+                return true;
+    }
     return false;
 }
 

@@ -1,8 +1,11 @@
 // Checks 1 to 4 of a table.
-// Check 3 runs over a column of ids without early exit, check 4 over the records, four a step.
+// Check 3 runs over a column of ids without early exit. Check 4 passes over records that don't overlap, four a step;
+// from an overlap on it asks a stretch of records one by one, priorities first, since others near it are likely to overlap too.
 
 use crate::answers::{refuse, Record, Refusal, ORDER, RECORD, SHAPE, SLOTS_MOST, TWICE};
-use crate::records::{id_of, is_fit, misordered};
+use crate::records::{id_of, is_fit, meets, outranked};
+
+const STRETCH: usize = 16;
 
 /// Check 1.
 pub fn records_of(table: &[u64]) -> Result<&[Record], Refusal> {
@@ -56,13 +59,28 @@ pub fn check_order(records: &[Record]) -> Result<(), Refusal> {
 }
 
 fn disorder_before(earlier: &[Record], record: &Record) -> bool {
-    let (fours, rest) = earlier.as_chunks::<4>();
-    for [first, second, third, fourth] in fours {
-        if misordered(first, record) || misordered(second, record) || misordered(third, record) || misordered(fourth, record) {
+    let mut left = earlier;
+    while !left.is_empty() {
+        left = from_overlap(left, record);
+        let (stretch, rest) = left.split_at(left.len().min(STRETCH));
+        if stretch.iter().any(|one| outranked(one, record)) {
             return true;
         }
+        left = rest;
     }
-    rest.iter().any(|one| misordered(one, record))
+    false
+}
+
+/// The records without the fours at the front that have no rule that overlaps this one.
+fn from_overlap<'a>(records: &'a [Record], record: &Record) -> &'a [Record] {
+    let mut left = records;
+    while let Some(([first, second, third, fourth], rest)) = left.split_first_chunk() {
+        if meets(first, record) || meets(second, record) || meets(third, record) || meets(fourth, record) {
+            break;
+        }
+        left = rest;
+    }
+    left
 }
 
 /// Checks 1 to 4.

@@ -3,14 +3,14 @@
 
 use crate::answers::{refuse, Record, Refusal, IMAGE, PRIORITY_MOST, SHORT, SLOTS_MOST};
 use crate::checks::{check_order, check_table, check_twice, records_of};
-use crate::records::{id_of, is_empty};
+use crate::records::id_of;
 
 type Entry = [u8; 10];
 type Body = [u8; 40];
 
 pub fn save(table: &[u64], image: &mut [u8]) -> Result<u32, Refusal> {
     let records = check_table(table)?;
-    let rules = records.iter().filter(|record| !is_empty(record)).count();
+    let rules = records.iter().filter(|record| id_of(record) != 0).count();
     let bytes = 4 + 50 * rules;
     if image.len() < bytes {
         return refuse(SHORT, bytes);
@@ -20,7 +20,7 @@ pub fn save(table: &[u64], image: &mut [u8]) -> Result<u32, Refusal> {
     let (contents, bodies) = image[4..bytes].split_at_mut(10 * rules);
     let entries = contents.as_chunks_mut::<10>().0.iter_mut();
     let bodies = bodies.as_chunks_mut::<40>().0.iter_mut();
-    let occupied = records.iter().enumerate().filter(|(_, record)| !is_empty(record));
+    let occupied = records.iter().enumerate().filter(|(_, record)| id_of(record) != 0);
     let mut offset = 4 + 10 * rules as u32;
     for ((slot, record), (entry, body)) in occupied.zip(entries.zip(bodies)) {
         entry[..4].copy_from_slice(&id_of(record).to_be_bytes());

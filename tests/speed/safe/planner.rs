@@ -67,17 +67,31 @@ fn least_of(costs: &[u16], top: usize) -> u16 {
     costs.iter().fold(top as u16, |least, &cost| least.min(cost))
 }
 
+/// The least of a window's costs; its first, which may just have been stored, is read by itself.
+fn least_in_window(window: &[u16], top: usize) -> u16 {
+    match window.split_first() {
+        None => top as u16,
+        Some((&first, rest)) => first.min(least_of(rest, top)),
+    }
+}
+
 /// The costs of all positions along one direction, the last position first.
+/// The least of all is kept, so that no window that runs to the last position is searched.
 pub fn costs_along(records: &[Record], up: bool) -> Column {
     let slots = records.len();
     let mut ends = [0; SLOTS_MOST];
     fill_ends(records, up, &mut ends);
     let mut costs = [0; SLOTS_MOST];
+    let mut least = slots as u16;
     for position in (0..slots).rev() {
         let end = usize::from(ends[position]);
-        if end != 0 {
-            costs[position] = least_of(&costs[position + 1..end], slots) + 1;
-        }
+        let cost = match end {
+            0 => 0,
+            _ if end == slots => least + 1,
+            _ => least_in_window(&costs[position + 1..end], slots) + 1,
+        };
+        costs[position] = cost;
+        least = least.min(cost);
     }
     costs
 }

@@ -4,7 +4,7 @@
 use crate::answers::{refuse, Record, Refusal, CROSSED, EMPTYING, FULL, KNOWN, RULE, SHORT, TIE, UNKNOWN};
 use crate::checks::check_table;
 use crate::planner::{choose, costs_along, write_plan};
-use crate::records::{id_of, is_empty, is_sound, precedes, tied};
+use crate::records::{id_of, is_sound, precedes, tied};
 
 pub fn plan_insert(table: &[u64], new: &Record, plan: &mut [u32]) -> Result<u32, Refusal> {
     let records = check_table(table)?;
@@ -32,7 +32,7 @@ fn check_new(records: &[Record], new: &Record) -> Result<(usize, usize), Refusal
     if let Some(slot) = records.iter().position(|record| tied(record, new)) {
         return refuse(TIE, slot);
     }
-    if !records.iter().any(is_empty) {
+    if !records.iter().any(|record| id_of(record) == 0) {
         return refuse(FULL, 0);
     }
     let after = records.iter().rposition(|record| precedes(record, new)).map_or(0, |slot| slot + 1);

@@ -37,12 +37,22 @@ pub fn overlap(first: &Record, second: &Record) -> bool {
 }
 
 fn distinct(first: &Record, second: &Record) -> bool {
-    id_of(first) != id_of(second) && id_of(first) != 0 && id_of(second) != 0
+    id_of(first) != 0 && id_of(second) != 0 && id_of(first) != id_of(second)
 }
 
-/// Whether the first rule, standing before the second, is out of order.
+/// Whether a rule that overlaps another stands in the first record; the other is a rule.
+pub fn meets(first: &Record, second: &Record) -> bool {
+    overlap(first, second) && id_of(first) != 0
+}
+
+/// Whether the first rule, standing before the second, is out of order; most pairs are told apart by their patterns.
 pub fn misordered(first: &Record, second: &Record) -> bool {
-    overlap(first, second) && first[5] <= second[5] && distinct(first, second)
+    overlap(first, second) && distinct(first, second) && first[5] <= second[5]
+}
+
+/// The same, where most pairs are told by their priorities.
+pub fn outranked(first: &Record, second: &Record) -> bool {
+    first[5] <= second[5] && distinct(first, second) && overlap(first, second)
 }
 
 pub fn tied(first: &Record, second: &Record) -> bool {

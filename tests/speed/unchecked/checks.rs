@@ -1,8 +1,11 @@
 // Checks 1 to 4 of a table.
-// Check 3 runs over a column of ids without early exit, check 4 over the records, four a step.
+// Check 3 runs over a column of ids without early exit. Check 4 passes over records that don't overlap, four a step;
+// from an overlap on it asks a stretch of records one by one, priorities first, since others near it are likely to overlap too.
 
 use crate::answers::{refuse, Record, Refusal, ORDER, RECORD, SHAPE, SLOTS_MOST, TWICE};
-use crate::records::{at, id_of, is_fit, misordered, put};
+use crate::records::{at, id_of, is_fit, meets, outranked, put};
+
+const STRETCH: usize = 16;
 
 /// Check 1: the table's words as records.
 pub fn records_of(table: &[u64]) -> Result<&[Record], Refusal> {
@@ -65,29 +68,37 @@ pub fn check_order(records: &[Record]) -> Result<(), Refusal> {
 }
 
 unsafe fn disorder_before(records: &[Record], slot: usize) -> bool {
-    let record = records.get_unchecked(slot);
-    if id_of(record) == 0 {
+    let record: *const Record = records.get_unchecked(slot);
+    if id_of(&*record) == 0 {
         return false;
     }
     let mut earlier = records.as_ptr();
-    let fours = earlier.add(slot & !3);
-    while earlier != fours {
-        if misordered(&*earlier, record)
-            || misordered(&*earlier.add(1), record)
-            || misordered(&*earlier.add(2), record)
-            || misordered(&*earlier.add(3), record)
-        {
-            return true;
-        }
-        earlier = earlier.add(4);
-    }
     while earlier != record {
-        if misordered(&*earlier, record) {
-            return true;
+        earlier = from_overlap(earlier, record);
+        let end = earlier.add(record.offset_from_unsigned(earlier).min(STRETCH));
+        while earlier != end {
+            if outranked(&*earlier, &*record) {
+                return true;
+            }
+            earlier = earlier.add(1);
         }
-        earlier = earlier.add(1);
     }
     false
+}
+
+/// Past the fours of records, up to this one, that have no rule that overlaps it.
+unsafe fn from_overlap(from: *const Record, record: *const Record) -> *const Record {
+    let mut earlier = from;
+    let fours = from.add(record.offset_from_unsigned(from) & !3);
+    while earlier != fours
+        && !meets(&*earlier, &*record)
+        && !meets(&*earlier.add(1), &*record)
+        && !meets(&*earlier.add(2), &*record)
+        && !meets(&*earlier.add(3), &*record)
+    {
+        earlier = earlier.add(4);
+    }
+    earlier
 }
 
 /// Checks 1 to 4.

@@ -3,7 +3,7 @@
 
 use crate::answers::{refuse, Record, Refusal, IMAGE, PRIORITY_MOST, SHORT, SLOTS_MOST};
 use crate::checks::{check_order, check_table, check_twice, records_of};
-use crate::records::{id_of, is_empty, put};
+use crate::records::{id_of, put};
 
 /// Stores a number's bytes at an offset that has room for them.
 unsafe fn store<const COUNT: usize>(image: &mut [u8], offset: usize, bytes: [u8; COUNT]) {
@@ -17,7 +17,7 @@ unsafe fn bytes_at<const COUNT: usize>(image: &[u8], offset: usize) -> [u8; COUN
 
 pub fn save(table: &[u64], image: &mut [u8]) -> Result<u32, Refusal> {
     let records = check_table(table)?;
-    let rules = records.iter().filter(|record| !is_empty(record)).count();
+    let rules = records.iter().filter(|record| id_of(record) != 0).count();
     let bytes = 4 + 50 * rules;
     if image.len() < bytes {
         return refuse(SHORT, bytes);
@@ -36,7 +36,7 @@ unsafe fn put_rules(records: &[Record], rules: usize, image: &mut [u8]) {
     let mut slot = 0;
     while slot < records.len() {
         let record = records.get_unchecked(slot);
-        if !is_empty(record) {
+        if id_of(record) != 0 {
             store(image, entry, id_of(record).to_be_bytes());
             store(image, entry + 4, (slot as u16).to_be_bytes());
             store(image, entry + 6, (body as u32).to_be_bytes());

@@ -102,7 +102,16 @@ unsafe fn least_between(costs: &Column, from: usize, to: usize, top: usize) -> u
     least
 }
 
+/// The least of a window's costs; its first, which may just have been stored, is read by itself.
+unsafe fn least_in_window(costs: &Column, from: usize, to: usize, top: usize) -> u16 {
+    if from >= to {
+        return top as u16;
+    }
+    at(costs, from).min(least_between(costs, from + 1, to, top))
+}
+
 /// The costs of all positions along one direction, the last position first.
+/// The least of all is kept, so that no window that runs to the last position is searched.
 ///
 /// # Safety
 /// There are 1 to 1,024 records.
@@ -110,11 +119,17 @@ pub unsafe fn fill_costs(records: &[Record], up: bool, ends: &mut Column, costs:
     let slots = records.len();
     fill_ends(records, up, ends);
     let mut position = slots;
+    let mut least = slots as u16;
     while position > 0 {
         position -= 1;
         let end = usize::from(at(ends, position));
-        let cost = if end == 0 { 0 } else { least_between(costs, position + 1, end, slots) + 1 };
+        let cost = match end {
+            0 => 0,
+            _ if end == slots => least + 1,
+            _ => least_in_window(costs, position + 1, end, slots) + 1,
+        };
         put(costs, position, cost);
+        least = least.min(cost);
     }
 }
 

@@ -4,7 +4,7 @@
 use crate::answers::{refuse, Record, Refusal, CROSSED, EMPTYING, FULL, KNOWN, RULE, SHORT, SLOTS_MOST, TIE, UNKNOWN};
 use crate::checks::check_table;
 use crate::planner::{choose, fill_costs, write_plan};
-use crate::records::{id_of, is_empty, is_sound, precedes, put, tied};
+use crate::records::{id_of, is_sound, precedes, put, tied};
 
 pub fn plan_insert(table: &[u64], new: &Record, plan: &mut [u32]) -> Result<u32, Refusal> {
     let records = check_table(table)?;
@@ -50,7 +50,7 @@ fn check_new(records: &[Record], new: &Record) -> Result<(usize, usize), Refusal
     if tie < slots {
         return refuse(TIE, tie);
     }
-    if first_slot(records, is_empty) == slots {
+    if first_slot(records, |record| id_of(record) == 0) == slots {
         return refuse(FULL, 0);
     }
     let mut after = slots;

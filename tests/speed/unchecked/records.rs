@@ -57,15 +57,27 @@ pub fn overlap(first: &Record, second: &Record) -> bool {
     (first[0] ^ second[0]) & first[2] & second[2] == 0 && (first[1] ^ second[1]) & first[3] & second[3] == 0
 }
 
+/// Whether a rule that overlaps another stands in the first record; the other is a rule.
 #[inline(always)]
-fn distinct(first: &Record, second: &Record) -> bool {
-    id_of(first) != id_of(second) && id_of(first) != 0 && id_of(second) != 0
+pub fn meets(first: &Record, second: &Record) -> bool {
+    overlap(first, second) && id_of(first) != 0
 }
 
-/// Whether the first rule, standing before the second, is out of order.
+#[inline(always)]
+fn distinct(first: &Record, second: &Record) -> bool {
+    id_of(first) != 0 && id_of(second) != 0 && id_of(first) != id_of(second)
+}
+
+/// Whether the first rule, standing before the second, is out of order; most pairs are told apart by their patterns.
 #[inline(always)]
 pub fn misordered(first: &Record, second: &Record) -> bool {
-    overlap(first, second) && first[5] <= second[5] && distinct(first, second)
+    overlap(first, second) && distinct(first, second) && first[5] <= second[5]
+}
+
+/// The same, where most pairs are told by their priorities.
+#[inline(always)]
+pub fn outranked(first: &Record, second: &Record) -> bool {
+    first[5] <= second[5] && distinct(first, second) && overlap(first, second)
 }
 
 #[inline(always)]
