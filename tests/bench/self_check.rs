@@ -37,6 +37,7 @@ pub fn run() {
             }
         }
     }
+    assert!(compared > 0 && crossed > 0, "no insert was compared, or none was crossed");
     println!("bench: self-check: {compared} inserts agree with the reference, {crossed} of them crossed");
 }
 

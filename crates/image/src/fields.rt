@@ -1,5 +1,5 @@
 // Fields of an image: numbers of so many bytes, big-endian, read and stored.
-// One reader and one writer for every size.
+// One reader and one writer for every size, and a reader of eight bytes, in halves.
 ghost use mathlib.Core.Path.{_≡_};
 ghost use Prim.Native.Nat.{_+_, _≤_};
 ghost use lib.ListN.{length};

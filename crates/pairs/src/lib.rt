@@ -114,7 +114,7 @@ fn rules_overlap(table: &[u64], slot: usize, others: &[u64], other: usize) -> bo
     if !both_hold_rules(table, slot, others, other) {
         return false;
     }
-    if slot_id(table, slot) == slot_id(others, other) {
+    if slot_id(others, other) == slot_id(table, slot) {
         return false;
     }
     slots_overlap(table, slot, others, other)

@@ -1,5 +1,5 @@
 // One slot of a table, read in the table itself: empty, sound, matching a key; and a rule's record.
-// A function on a slot asks that it exists; the table may hold anything.
+// A function on a slot asks that it exists, and `slot_matches` that check 2 passes; else the table may hold anything.
 pub mod rules;
 
 ghost use mathlib.Core.Path.{_≡_};

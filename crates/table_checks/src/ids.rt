@@ -1,4 +1,4 @@
-// Check 3 over a column of ids: a table's row is read only where the column finds the slot's id twice.
+// Check 3 over a column of ids: earlier slots' records are read only where the column finds the slot's id among theirs.
 // A column of 32-bit words is compared several slots at a time; the records, six words apart, are not.
 use pairs::same_id;
 use records::Cause;

@@ -24,7 +24,7 @@ slot-id-requires-2 c κs = search needs
 
 returns-2 : tie.Need-returns-2
 unfolding distinct
-returns-2 c = rw (ap₂ eqb (sym (c .before .before .slot-id .ensures)) (sym (c .before .slot-id2 .ensures)) ∙ eq-eqb _ _ (c .if2 .taken))
+returns-2 c = rw (ap₂ eqb (sym (c .before .slot-id2 .ensures)) (sym (c .before .before .slot-id .ensures)) ∙ eq-eqb _ _ (sym (c .if2 .taken)))
 
 slots-overlap-requires : tie.Need-slots-overlap-requires
 slots-overlap-requires c κs = search needs
@@ -34,7 +34,7 @@ unfolding distinct
 returns-3 c =
     rw (
       sym (c .before .before .before .before .before .both-hold-rules .ensures) ∙ not-false _ (c .before .before .before .before .if1 .left),
-      ap₂ eqb (sym (c .before .before .before .slot-id .ensures)) (sym (c .before .before .slot-id2 .ensures)) ∙ ne-eqb _ _ (c .before .if2 .left),
+      ap₂ eqb (sym (c .before .before .slot-id2 .ensures)) (sym (c .before .before .before .slot-id .ensures)) ∙ ne-eqb _ _ (λ e. c .before .if2 .left (sym e)),
     )
     (c .slots-overlap .ensures)
 

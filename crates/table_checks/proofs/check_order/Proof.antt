@@ -1,5 +1,5 @@
--- `table_checks::check_order`: no slot below the loop's is out of order with an earlier one.
--- Assumes nothing.
+-- `table_checks::check_order` meets its contract.
+-- No slot below the loop's is out of order with an earlier one.
 use Prim.Native.Nat.{_-_}
 use mathlib.Core.Path.{sym, _∙_}
 use native.Mathlib.Omega.{arith}

@@ -1,5 +1,5 @@
--- `table_checks::check_records`: no slot below the loop's is neither empty nor sound.
--- Assumes nothing.
+-- `table_checks::check_records` meets its contract.
+-- No slot below the loop's is neither empty nor sound.
 use Prim.Native.Nat.{_-_}
 use mathlib.Core.Path.{sym, _∙_}
 use native.Mathlib.Omega.{arith}

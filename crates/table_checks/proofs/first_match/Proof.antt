@@ -1,5 +1,5 @@
--- `table_checks::first_match`: no slot below the loop's matches.
--- Assumes nothing.
+-- `table_checks::first_match` meets its contract.
+-- No slot below the loop's matches.
 use Prim.Native.Nat.{_-_}
 use mathlib.Core.Path.{sym, _∙_}
 use native.Mathlib.Omega.{arith}

@@ -1,5 +1,5 @@
--- `table_checks::ids::id_before`: no slot below the loop's has the slot's id.
--- Assumes nothing.
+-- `table_checks::ids::id_before` meets its contract.
+-- No slot below the loop's has the slot's id.
 use Prim.Native.Nat.{_-_}
 use mathlib.Core.Path.{sym, _∙_}
 use native.Mathlib.Omega.{arith}

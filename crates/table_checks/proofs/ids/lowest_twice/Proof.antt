@@ -1,5 +1,5 @@
--- `table_checks::ids::lowest_twice`: no slot below the loop's has an id that an earlier one has.
--- Assumes nothing.
+-- `table_checks::ids::lowest_twice` meets its contract.
+-- No slot below the loop's has an id that an earlier one has.
 use Prim.Native.Nat.{_-_}
 use mathlib.Core.Path.{sym, _∙_}
 use native.Mathlib.Omega.{arith}
