@@ -5,14 +5,15 @@ use mathlib.Core.Bool.{Bool, true, false, not, _&&_}
 use mathlib.Core.Logic.{_⊎_}
 use mathlib.Core.Logic._⊎_.{inl, inr}
 use mathlib.Core.List.{List, [], _∷_}
-use Prim.Native.Nat.{ℕ, _*_, _<_}
-use lib.Dec.{eqb}
-use borrow.Author.Tests.{not-false}
-use Rattle.search.specs.Search.{all, decided, NoneFrom, NoneAbove}
-use Rattle.search.specs.Parts.{none-from-weaker, none-above-weaker}
+use Prim.Native.Nat.{ℕ, _+_, _-_, _*_, _<_}
+use native.Mathlib.Omega.{arith}
+use lib.Dec.{eqb, ltb}
+use borrow.Author.Tests.{not-false, ltb-true, lt-leb}
+use Rattle.search.specs.Search.{all, least, decided, and-left, and-right, NoneFrom, NoneAbove, none-from-start}
+use Rattle.search.specs.Parts.{none-from-weaker, none-above-weaker, none-from-four, least-open}
 use Rattle.ternary.specs.Pattern.{Words, overlaps}
-use Rattle.records.specs.Record.{word, slotWords, value, mask}
-use Rattle.records.specs.Order.{slots, overlapping, misordered, misordered-apart, misordered-empty}
+use Rattle.records.specs.Record.{word, slotWords, value, mask, rank}
+use Rattle.records.specs.Order.{slots, overlapping, misordered, misordered-higher, misordered-apart, misordered-empty}
 use Rattle.records.specs.Checks.{checkRecords}
 use Rattle.records.specs.Laws.{id-word}
 use Rattle.records.specs.declared.Check.the-variants.{Pass}
@@ -24,6 +25,29 @@ notBefore w t s i = misordered w (slotWords w t i) (slotWords w t s)
 -- slot i's standing after slot s is out of order
 abbrev pub notAfter : ℕ → List ℕ → ℕ → ℕ → Bool
 notAfter w t s i = misordered w (slotWords w t s) (slotWords w t i)
+
+-- slot i's priority is higher than r
+abbrev pub higher : ℕ → List ℕ → ℕ → ℕ → Bool
+higher w t r i = ltb r (rank w (slotWords w t i))
+
+pub higher-before : (w : ℕ) (t : List ℕ) (s r i : ℕ) → r ≡ rank w (slotWords w t s) → higher w t r i ≡ true → notBefore w t s i ≡ false
+higher-before w t s r i e h =
+    sym (misordered-higher w (slotWords w t i) (slotWords w t s) (lt-leb (rank w (slotWords w t i)) (rank w (slotWords w t s)) (omega (arith, ltb-true r (rank w (slotWords w t i)) h))))
+
+-- four slots of higher priority are four that may stand before
+pub four-higher : (w : ℕ) (t : List ℕ) (s r i : ℕ) → r ≡ rank w (slotWords w t s)
+    → higher w t r i && higher w t r (i + 1) && higher w t r (i + 2) && higher w t r (i + 3) ≡ true
+    → least (notBefore w t s) (i + 4 - i) i ≡ i + 4
+four-higher w t s r i e h =
+    let three = and-left (higher w t r i && higher w t r (i + 1) && higher w t r (i + 2)) (higher w t r (i + 3)) h in
+    let two = and-left (higher w t r i && higher w t r (i + 1)) (higher w t r (i + 2)) three in
+    let none = none-from-four (notBefore w t s) i (i + 4) i (none-from-start (notBefore w t s) i (i + 4) (omega arith)) (omega arith) (rw (
+      higher-before w t s r i e (and-left (higher w t r i) (higher w t r (i + 1)) two),
+      higher-before w t s r (i + 1) e (and-right (higher w t r i) (higher w t r (i + 1)) two),
+      higher-before w t s r (i + 2) e (and-right (higher w t r i && higher w t r (i + 1)) (higher w t r (i + 2)) three),
+      higher-before w t s r (i + 3) e (and-right (higher w t r i && higher w t r (i + 1) && higher w t r (i + 2)) (higher w t r (i + 3)) h),
+    )) in
+    least-open (notBefore w t s) i (i + 4) (i + 4) none (omega arith)
 
 -- the rule in slot i overlaps a pattern, and slot s's pattern: a slot with no word of id and action holds none
 abbrev pub meets : ℕ → List ℕ → Words → Words → ℕ → Bool

@@ -4,16 +4,16 @@ use pairs::misordered_pair;
 use pairs::pattern_overlaps;
 use slots::slot_word;
 ghost use mathlib.Core.Path.{_≡_};
-ghost use mathlib.Core.Bool.{_||_};
+ghost use mathlib.Core.Bool.{_||_, _&&_};
 ghost use mathlib.Core.List.{[], _∷_};
 ghost use Prim.Native.Nat.{_+_, _-_, _≤_, _<_, _/_, min};
 ghost use lib.ListN.{length};
 ghost use Rattle.search.specs.Search.{least, afterLast, NoneFrom, NoneAbove};
 ghost use Rattle.search.specs.Parts.{lastOf};
-ghost use Rattle.records.specs.Record.{word};
+ghost use Rattle.records.specs.Record.{word, slotWords};
 ghost use Rattle.records.specs.Checks.{checkRecords};
 ghost use Rattle.records.specs.declared.Check.the-variants.{Pass};
-ghost use Rattle.scans.specs.Scans.{notBefore, notAfter, meets, meetsSlot};
+ghost use Rattle.scans.specs.Scans.{notBefore, notAfter, higher, meets, meetsSlot};
 
 // Whether the rule in a slot overlaps a pattern whose words are at hand. A slot whose word of id and action is 0 holds none where check 2 passes.
 fn rule_overlaps(
@@ -100,8 +100,26 @@ fn skip_down(table: &[u64], slot: usize, end: usize) -> usize
     after
 }
 
-// Of the slots from `from` up to, not including, `to`, the first that may not stand before a slot, each slot asked.
-fn first_asked(table: &[u64], slot: usize, from: usize, to: usize) -> usize
+// Whether four slots' priorities are all higher than one at hand.
+fn all_higher(table: &[u64], from: usize, rank: u64) -> bool
+    requires { ⌜ from + 4 ≤ length (now table) / 6 ⌝ }
+    ensures { λ r. ⌜ r ≡ (higher 2 (now (table .entry)) rank from && higher 2 (now (table .entry)) rank (from + 1)
+        && higher 2 (now (table .entry)) rank (from + 2) && higher 2 (now (table .entry)) rank (from + 3)) ⌝ }
+{
+    if slot_word(table, from, 5) <= rank {
+        return false;
+    }
+    if slot_word(table, from + 1, 5) <= rank {
+        return false;
+    }
+    if slot_word(table, from + 2, 5) <= rank {
+        return false;
+    }
+    rank < slot_word(table, from + 3, 5)
+}
+
+// Of the slots from `from` up to, not including, `to`, the first that may not stand before a slot, one slot at a time.
+fn first_of_few(table: &[u64], slot: usize, from: usize, to: usize) -> usize
     requires { ⌜ (slot < length (now table) / 6) × (from ≤ to) × (to ≤ length (now table) / 6) ⌝ }
     requires { ⌜ checkRecords 2 (now table) ≡ Pass ⌝ }
     ensures { λ r. ⌜ r ≡ least (notBefore 2 (now (table .entry)) slot) (to - from) from ⌝ }
@@ -114,6 +132,38 @@ fn first_asked(table: &[u64], slot: usize, from: usize, to: usize) -> usize
         at += 1;
     }
     to
+}
+
+// The same of four slots, which are passed over where their priorities are higher than the slot's.
+fn first_of_four(table: &[u64], slot: usize, from: usize, rank: u64) -> usize
+    requires { ⌜ (slot < length (now table) / 6) × (from + 4 ≤ length (now table) / 6) ⌝ }
+    requires { ⌜ (checkRecords 2 (now table) ≡ Pass) × (rank ≡ slotWords 2 (now table) slot 5) ⌝ }
+    ensures { λ r. ⌜ r ≡ least (notBefore 2 (now (table .entry)) slot) (from + 4 - from) from ⌝ }
+{
+    if all_higher(table, from, rank) {
+        return from + 4;
+    }
+    first_of_few(table, slot, from, from + 4)
+}
+
+// The same of any number of slots, four at a time: in a table in order the priorities before a slot that overlap it are higher.
+fn first_asked(table: &[u64], slot: usize, from: usize, to: usize) -> usize
+    requires { ⌜ (slot < length (now table) / 6) × (from ≤ to) × (to ≤ length (now table) / 6) ⌝ }
+    requires { ⌜ checkRecords 2 (now table) ≡ Pass ⌝ }
+    ensures { λ r. ⌜ r ≡ least (notBefore 2 (now (table .entry)) slot) (to - from) from ⌝ }
+{
+    let rank = slot_word(table, slot, 5);
+    let mut at = from;
+    let mut fours = (to - from) / 4;
+    while 0 < fours {
+        let first = first_of_four(table, slot, at, rank);
+        if first < at + 4 {
+            return first;
+        }
+        at += 4;
+        fours -= 1;
+    }
+    first_of_few(table, slot, at, to)
 }
 
 // One past the last slot below `end`, not below `from`, that may not stand after a slot, each slot asked.

@@ -128,6 +128,17 @@ last-in-part p n i b m inv h f l =
     after-last-unique (after-last-law p n)
     (record { high = below .0; after = below .1; hit = λ j e. let at : j ≡ m - 1 = omega arith in ap p at ∙ law .hit l })
 
+-- the last part tells the whole
+pub least-rest : (p : ℕ → Bool) (from n i m : ℕ) → NoneFrom p from n i → m ≡ least p (n - i) i → least p (n - from) from ≡ m
+least-rest p from n i m inv f =
+    let law = subst (Least p i (i + (n - i))) (sym f) (least-law p (n - i) i) in
+    least-unique (least-law p (n - from) from)
+    (record { low = omega (arith, inv .0, law .low); high = omega (arith, inv .0, inv .1, law .high); before = λ k a b. pick k a b (decLt k i); hit = λ l. law .hit (omega (arith, inv .0, inv .1)) })
+  where
+    pick : (k : ℕ) → from ≤ k → k < m → Dec (k < i) → p k ≡ false
+    pick k a b (yes c) = inv .2 k a c
+    pick k a b (no c) = least-law p (n - i) i .before k (omega arith) (omega arith)
+
 -- four indices asked together, none of which passes
 or-left : (a b : Bool) → a || b ≡ false → a ≡ false
 or-left true b e = e

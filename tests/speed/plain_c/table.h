@@ -9,7 +9,7 @@
 #include <string.h>
 
 /* STRETCH: how many records check 4 asks one by one from an overlap on, priorities first, since others near it are likely to overlap. */
-enum { WORDS = 6, SLOTS_MOST = 1024, STRETCH = 16, PRIORITY_MOST = 65535, PUT_IN = 65535, EMPTYING = 65534 };
+enum { WORDS = 6, SLOTS_MOST = 1024, STRETCH = 64, PRIORITY_MOST = 65535, PUT_IN = 65535, EMPTYING = 65534 };
 
 enum { OK, SHAPE, RECORD, TWICE, ORDER, RULE, KNOWN, UNKNOWN, TIE, FULL, CROSSED, SHORT, WRITE, LINE, IMAGE };
 

@@ -5,7 +5,7 @@
 use crate::answers::{refuse, Record, Refusal, ORDER, RECORD, SHAPE, SLOTS_MOST, TWICE};
 use crate::records::{id_of, is_fit, meets, outranked};
 
-const STRETCH: usize = 16;
+const STRETCH: usize = 64;
 
 /// Check 1.
 pub fn records_of(table: &[u64]) -> Result<&[Record], Refusal> {

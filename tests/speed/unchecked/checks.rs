@@ -5,7 +5,7 @@
 use crate::answers::{refuse, Record, Refusal, ORDER, RECORD, SHAPE, SLOTS_MOST, TWICE};
 use crate::records::{at, id_of, is_fit, meets, outranked, put};
 
-const STRETCH: usize = 16;
+const STRETCH: usize = 64;
 
 /// Check 1: the table's words as records.
 pub fn records_of(table: &[u64]) -> Result<&[Record], Refusal> {
