@@ -3,16 +3,32 @@
 
 use support::random::Random;
 
+/// How large a script's tables, ids and patterns are, and how many lines it has at most.
+struct Scale {
+    slots: (usize, usize),
+    ids: usize,
+    bits: usize,
+    lines: usize,
+}
+
+/// Mostly small; one in forty fills tables of more slots than the library's searches pass over at a time.
+fn scale(random: &mut Random) -> Scale {
+    if random.one_in(40) {
+        return Scale { slots: (60, 300), ids: 400, bits: random.between(5, 10), lines: 700 };
+    }
+    Scale { slots: (1, 12), ids: 30, bits: random.between(1, 4), lines: 80 }
+}
+
 pub fn script(random: &mut Random) -> Vec<u8> {
     let mut script = Vec::new();
-    let bits = random.between(1, 4);
-    for place in 0..random.between(0, 80) {
+    let scale = scale(random);
+    for place in 0..random.between(0, scale.lines) {
         let mut line = match random.below(40) {
-            0 => table(random),
-            _ if place == 0 && !random.one_in(8) => table(random),
-            1..=22 => insert(random, bits),
-            23..=27 => format!("D {}", small_id(random)).into_bytes(),
-            _ => lookup(random, bits),
+            0 if scale.lines < 100 || random.one_in(20) => table(random, &scale),
+            _ if place == 0 && !random.one_in(8) => table(random, &scale),
+            1..=22 => insert(random, &scale),
+            23..=27 => format!("D {}", some_id(random, &scale)).into_bytes(),
+            _ => lookup(random, scale.bits),
         };
         if random.one_in(12) {
             damage(random, &mut line);
@@ -26,19 +42,19 @@ pub fn script(random: &mut Random) -> Vec<u8> {
     script
 }
 
-fn table(random: &mut Random) -> Vec<u8> {
+fn table(random: &mut Random, scale: &Scale) -> Vec<u8> {
     let slots = match random.below(10) {
         0 => random.pick(&[0, 1023, 1024, 1025, 4_294_967_295, 4_294_967_296, 9_999_999_999]),
-        _ => random.between(1, 12) as u64,
+        _ => random.between(scale.slots.0, scale.slots.1) as u64,
     };
     format!("T {slots}").into_bytes()
 }
 
-fn small_id(random: &mut Random) -> u64 {
+fn some_id(random: &mut Random, scale: &Scale) -> u64 {
     if random.one_in(40) {
         return random.pick(&[0, 4_294_967_295, 4_294_967_296]);
     }
-    random.between(1, 30) as u64
+    random.between(1, scale.ids) as u64
 }
 
 fn pattern(random: &mut Random, bits: usize) -> String {
@@ -46,10 +62,11 @@ fn pattern(random: &mut Random, bits: usize) -> String {
     (0..length).map(|_| random.pick(&['0', '1', '*', '*'])).collect()
 }
 
-fn insert(random: &mut Random, bits: usize) -> Vec<u8> {
-    let priority = if random.one_in(30) { random.pick(&[0, 65_535, 65_536, 4_294_967_295]) } else { random.below(30) as u64 };
+fn insert(random: &mut Random, scale: &Scale) -> Vec<u8> {
+    let priority =
+        if random.one_in(30) { random.pick(&[0, 65_535, 65_536, 4_294_967_295]) } else { random.below(scale.ids) as u64 };
     let action = if random.one_in(10) { random.word() & 0xffff_ffff } else { random.below(9) as u64 };
-    format!("I {} {priority} {} {action}", small_id(random), pattern(random, bits)).into_bytes()
+    format!("I {} {priority} {} {action}", some_id(random, scale), pattern(random, scale.bits)).into_bytes()
 }
 
 fn lookup(random: &mut Random, bits: usize) -> Vec<u8> {

@@ -10,7 +10,7 @@ use crate::SIZES;
 use std::collections::BTreeSet;
 use support::random::Random;
 
-const SMALL_SIZES: [usize; 8] = [1, 2, 3, 5, 8, 13, 21, 40];
+const SMALL_SIZES: [usize; 9] = [1, 2, 3, 5, 8, 13, 21, 40, 150];
 const EDITS: u64 = 1500;
 const SEED: u64 = 11;
 
