@@ -8,7 +8,7 @@
 #include <stdint.h>
 #include <string.h>
 
-/* STRETCH: how many records check 4 asks one by one from an overlap on, priorities first, since others near it are likely to overlap. */
+/* STRETCH: how many records check 4 asks from an overlap on, four a step by their priorities, since others near it are likely to overlap. */
 enum { WORDS = 6, SLOTS_MOST = 1024, STRETCH = 64, PRIORITY_MOST = 65535, PUT_IN = 65535, EMPTYING = 65534 };
 
 enum { OK, SHAPE, RECORD, TWICE, ORDER, RULE, KNOWN, UNKNOWN, TIE, FULL, CROSSED, SHORT, WRITE, LINE, IMAGE };
@@ -82,7 +82,13 @@ static inline bool misordered(const uint64_t *first, const uint64_t *second)
     return overlap(first, second) && distinct(first, second) && first[5] <= second[5];
 }
 
-/* The same, where most pairs are told by their priorities. */
+/* Whether the first record's priority is the higher one. */
+static inline bool outranks(const uint64_t *first, const uint64_t *second)
+{
+    return first[5] > second[5];
+}
+
+/* The same as `misordered`, where most pairs are told by their priorities. */
 static inline bool outranked(const uint64_t *first, const uint64_t *second)
 {
     return first[5] <= second[5] && distinct(first, second) && overlap(first, second);
@@ -150,6 +156,27 @@ static inline const uint64_t *from_overlap(const uint64_t *from, const uint64_t 
     return earlier;
 }
 
+static inline bool disorder_among(const uint64_t *from, const uint64_t *end, const uint64_t *record)
+{
+    for (const uint64_t *earlier = from; earlier < end; earlier += WORDS)
+        if (outranked(earlier, record))
+            return true;
+    return false;
+}
+
+/* Four records of higher priorities are passed over in one step. */
+static inline bool disorder_in(const uint64_t *from, const uint64_t *end, const uint64_t *record)
+{
+    const uint64_t *earlier = from;
+    for (; earlier + 3 * WORDS < end; earlier += 4 * WORDS) {
+        bool all_higher = outranks(earlier, record) && outranks(earlier + WORDS, record)
+                          && outranks(earlier + 2 * WORDS, record) && outranks(earlier + 3 * WORDS, record);
+        if (!all_higher && disorder_among(earlier, earlier + 4 * WORDS, record))
+            return true;
+    }
+    return disorder_among(earlier, end, record);
+}
+
 static inline bool disorder_before(const uint64_t *table, size_t slot)
 {
     const uint64_t *record = table + slot * WORDS;
@@ -157,9 +184,9 @@ static inline bool disorder_before(const uint64_t *table, size_t slot)
     while (earlier < record) {
         earlier = from_overlap(earlier, record);
         const uint64_t *end = record - earlier < STRETCH * WORDS ? record : earlier + STRETCH * WORDS;
-        for (; earlier < end; earlier += WORDS)
-            if (outranked(earlier, record))
-                return true;
+        if (disorder_in(earlier, end, record))
+            return true;
+        earlier = end;
     }
     return false;
 }

@@ -1,9 +1,9 @@
 // Checks 1 to 4 of a table.
 // Check 3 runs over a column of ids without early exit. Check 4 passes over records that don't overlap, four a step;
-// from an overlap on it asks a stretch of records one by one, priorities first, since others near it are likely to overlap too.
+// from an overlap on it asks a stretch of records, four a step by their priorities, since others near it are likely to overlap too.
 
 use crate::answers::{refuse, Record, Refusal, ORDER, RECORD, SHAPE, SLOTS_MOST, TWICE};
-use crate::records::{id_of, is_fit, meets, outranked};
+use crate::records::{id_of, is_fit, meets, outranked, outranks};
 
 const STRETCH: usize = 64;
 
@@ -63,12 +63,23 @@ fn disorder_before(earlier: &[Record], record: &Record) -> bool {
     while !left.is_empty() {
         left = from_overlap(left, record);
         let (stretch, rest) = left.split_at(left.len().min(STRETCH));
-        if stretch.iter().any(|one| outranked(one, record)) {
+        if disorder_in(stretch, record) {
             return true;
         }
         left = rest;
     }
     false
+}
+
+/// Four records of higher priorities are passed over in one step.
+fn disorder_in(stretch: &[Record], record: &Record) -> bool {
+    let (fours, rest) = stretch.as_chunks::<4>();
+    let disorder = |four: &[Record; 4]| {
+        let [first, second, third, fourth] = four;
+        let all_higher = outranks(first, record) && outranks(second, record) && outranks(third, record) && outranks(fourth, record);
+        !all_higher && four.iter().any(|one| outranked(one, record))
+    };
+    fours.iter().any(disorder) || rest.iter().any(|one| outranked(one, record))
 }
 
 /// The records without the fours at the front that have no rule that overlaps this one.
