@@ -1,26 +1,61 @@
 -- `slots::slot_unsound` meets its contract.
--- An unsound slot is tested for emptiness; a sound one is not.
-use mathlib.Core.Path.{ap}
-use mathlib.Core.Bool.{not}
+-- Without an id the slot is no sound rule; with one its word of id and action is not 0, and the slot not empty.
+use mathlib.Core.Path.{_≡_, sym, ap, _∙_}
+use mathlib.Core.Bool.{Bool, false, not, _&&_, and-true}
+use mathlib.Core.List.{List}
+use Prim.Native.Nat.{ℕ, _/_}
+use native.Mathlib.Omega.{arith}
+use lib.Dec.{eqb, leb}
 use borrow.Author.Needs.{needs}
-use Rattle.search.specs.Search.{and-more, and-stop}
+use borrow.Author.Tests.{eq-eqb, ne-eqb}
+use Rattle.search.specs.Search.{all-not}
+use Rattle.ternary.specs.Pattern.{Words, within}
+use Rattle.records.specs.Record.{slotWords, value, mask, rank, ident, empty, soundParts}
 use Rattle.records.specs.Checks.{unsoundAt}
 use Rattle.slots.proofs.slot_unsound.Statement.{statement}
 use Rattle.slots.proofs.slot_unsound.Tie as tie
 
-slot-sound-requires : tie.Need-slot-sound-requires
-slot-sound-requires c κs = search needs
+slot-id-requires : tie.Need-slot-id-requires
+slot-id-requires c κs = search needs
 
-slot-empty-requires : tie.Need-slot-empty-requires
-slot-empty-requires c κs = search needs
+slot-zero-requires : tie.Need-slot-zero-requires
+slot-zero-requires c κs = search needs
+
+slot-bounded-requires : tie.Need-slot-bounded-requires
+slot-bounded-requires c κs = search needs
 
 returns : tie.Need-returns
-unfolding unsoundAt
-returns c = and-more (ap not (c .before .before .slot-sound .ensures)) (c .before .if1 .taken) (ap not (c .slot-empty .ensures))
+unfolding unsoundAt soundParts
+returns c =
+    rw (ap (λ (id : ℕ). eqb id 0) (sym (c .before .before .slot-id .ensures)) ∙ eq-eqb _ 0 (c .before .if1 .taken))
+    (ap not (c .slot-zero .ensures))
+
+-- a record with an id is not empty
+with-id : (x : Words) (id : ℕ) → id ≡ ident 2 x → (id ≡ 0 → ⊥) → empty 2 x ≡ false
+unfolding empty
+with-id x id e present = all-not (λ (j : ℕ). eqb (x j) 0) 6 4 (omega arith) (ne-eqb (x 4) 0 (λ z. present (e ∙ ap (λ (y : ℕ). y / 4294967296) z)))
+
+-- what is left of the definition where the slot has an id
+unsound-with-id : (t : List ℕ) (i id : ℕ) (bounded : Bool)
+    → id ≡ ident 2 (slotWords 2 t i)
+    → (id ≡ 0 → ⊥)
+    → bounded ≡ (leb (rank 2 (slotWords 2 t i)) 65535 && within 2 (value (slotWords 2 t i)) (mask 2 (slotWords 2 t i)))
+    → not bounded ≡ unsoundAt 2 t i
+unfolding unsoundAt soundParts
+unsound-with-id t i id bounded e present b =
+    rw (ap (λ (k : ℕ). eqb k 0) (sym e) ∙ ne-eqb id 0 present, with-id (slotWords 2 t i) id e present, and-true) (ap not b)
 
 returns-2 : tie.Need-returns-2
-unfolding unsoundAt
-returns-2 c = and-stop _ (ap not (c .before .slot-sound .ensures)) (c .if1 .left)
+returns-2 c =
+    ap not (sym (c .if2 .taken))
+    ∙ unsound-with-id _ _ _ _ (c .before .before .before .slot-id .ensures) (c .before .before .if1 .left) (c .before .slot-bounded .ensures)
+
+returns-3 : tie.Need-returns-3
+returns-3 c =
+    ap not (sym (c .if2 .left))
+    ∙ unsound-with-id _ _ _ _ (c .before .before .before .slot-id .ensures) (c .before .before .if1 .left) (c .before .slot-bounded .ensures)
 
 pub slot-unsound-spec : {M : Type 1} → statement M
-slot-unsound-spec = tie.close (tie.spec slot-sound-requires slot-empty-requires returns returns-2)
+slot-unsound-spec =
+    tie.close
+    (tie.spec slot-id-requires slot-zero-requires returns slot-bounded-requires returns-2 returns-3)
