@@ -3,6 +3,7 @@
 use pairs::same_id;
 use records::Cause;
 use records::Check;
+use slots::rules::upper_half;
 use slots::slot_empty;
 use slots::slot_word;
 ghost use mathlib.Core.Path.{_≡_};
@@ -17,7 +18,7 @@ fn short_id(table: &[u64], slot: usize) -> u32
     requires { ⌜ slot < length (now table) / 6 ⌝ }
     ensures { λ r. ⌜ r ≡ ident 2 (slotWords 2 (now (table .entry)) slot) ⌝ }
 {
-    (slot_word(table, slot, 4) / 4294967296) as u32
+    upper_half(slot_word(table, slot, 4))
 }
 
 // The ids of all slots, into the front of a lent column.
