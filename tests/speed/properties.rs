@@ -48,6 +48,7 @@ pub fn hold(kind: Kind, slots: usize) -> bool {
         Kind::DenseDown | Kind::DenseUp => overlapping > 0.99 && counted.falling && 10 * counted.writes > 8 * slots,
         Kind::Prefixes => counted.overlapping > 0 && overlapping < 0.01 && apart > 0.99,
         Kind::Undecided => counted.overlapping == 0 && apart > 0.45 && apart < 0.55 && !counted.falling,
+        Kind::SecondWord => counted.overlapping == 0 && counted.apart_by_first_word == 0 && !counted.falling,
     };
     let rules = if kind == Kind::HalfEmpty { slots / 2 } else { slots - 1 };
     of_kind && counted.rules == rules && counted.writes > 0

@@ -21,12 +21,23 @@ pub enum Kind {
     Prefixes,
     /// The first word tells apart half of the pairs, at random, and the second word all.
     Undecided,
+    /// The first word tells no pair apart, the second word all.
+    SecondWord,
     /// Sparse rules in every second slot.
     HalfEmpty,
 }
 
-pub const KINDS: [Kind; 8] =
-    [Kind::Sparse, Kind::Dense, Kind::DenseDown, Kind::DenseUp, Kind::Sorted, Kind::Prefixes, Kind::Undecided, Kind::HalfEmpty];
+pub const KINDS: [Kind; 9] = [
+    Kind::Sparse,
+    Kind::Dense,
+    Kind::DenseDown,
+    Kind::DenseUp,
+    Kind::Sorted,
+    Kind::Prefixes,
+    Kind::Undecided,
+    Kind::SecondWord,
+    Kind::HalfEmpty,
+];
 
 impl Kind {
     pub fn name(self) -> &'static str {
@@ -38,6 +49,7 @@ impl Kind {
             Kind::Sorted => "sorted priorities",
             Kind::Prefixes => "prefixes",
             Kind::Undecided => "first word undecided",
+            Kind::SecondWord => "second word decides",
             Kind::HalfEmpty => "half-empty",
         }
     }
@@ -108,12 +120,14 @@ fn any_rule(kind: Kind, slot: usize, random: &mut Random) -> Rule {
             (random.wide(), u128::MAX << (128 - length), 100 * length as u64)
         }
         Kind::Undecided => (random.wide(), UNDECIDED_MASK, random.below(LEVELS) as u64),
+        Kind::SecondWord => (random.wide(), SECOND_WORD, random.below(LEVELS) as u64),
     };
     Rule { id: id_of_place(slot), priority, value: wanted & mask, mask, action: slot as u32 ^ 0x5a5a }
 }
 
 /// One bit of the first word, all of the second.
-const UNDECIDED_MASK: u128 = 1 << 127 | u64::MAX as u128;
+const UNDECIDED_MASK: u128 = 1 << 127 | SECOND_WORD;
+const SECOND_WORD: u128 = u64::MAX as u128;
 
 fn new_rule(kind: Kind, slots: usize, random: &mut Random) -> Rule {
     let id = id_of_place(slots + 7);
@@ -124,6 +138,7 @@ fn new_rule(kind: Kind, slots: usize, random: &mut Random) -> Rule {
         Kind::DenseUp => (0, DENSE_PRIORITY + 1 - 2 * slots as u64),
         Kind::Prefixes => (u128::MAX << (128 - 20), 2000),
         Kind::Undecided => (UNDECIDED_MASK, 30_001),
+        Kind::SecondWord => (SECOND_WORD, 30_001),
     };
     Rule { id, priority, value: random.wide() & mask, mask, action: 5 }
 }

@@ -43,10 +43,14 @@ impl Target {
     }
 }
 
+fn plans(call: Call) -> bool {
+    matches!(call, Call::PlanInsert | Call::PlanDelete)
+}
+
 pub fn all(counts: &Counts) -> Vec<Target> {
     let mut targets = Vec::new();
     for call in CALLS {
-        let most = if call == Call::PlanInsert { PLANNING_RATIO } else { CALL_RATIO };
+        let most = if plans(call) { PLANNING_RATIO } else { CALL_RATIO };
         for (other, name) in [(SAFE, "safe Rust"), (GCC, "gcc -O3")] {
             let title = format!("{} / {name}", call.name());
             targets.push(Target::new(title, most, |kind| ratio(counts, kind, call, other)));
@@ -57,8 +61,7 @@ pub fn all(counts: &Counts) -> Vec<Target> {
     let lookup = |kind| count(counts, LARGEST, kind, Call::Lookup, OURS) / LARGEST as f64;
     targets.push(Target::new("lookup, instructions a slot".to_string(), LOOKUP_A_SLOT, lookup));
     for call in CALLS {
-        let plans = matches!(call, Call::PlanInsert | Call::PlanDelete);
-        let most = if plans { PLANNING_GROWTH } else { CALL_GROWTH };
+        let most = if plans(call) { PLANNING_GROWTH } else { CALL_GROWTH };
         targets.push(Target::new(format!("{}, growth per doubling", call.name()), most, |kind| growth(counts, kind, call)));
     }
     targets

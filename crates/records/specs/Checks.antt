@@ -107,6 +107,10 @@ slotChecks w t = orElse (checkShape w t) (checkRecords w t)
 unfoldable pub tableChecks : ℕ → List ℕ → Check
 tableChecks w t = orElse (slotChecks w t) (orElse (checkTwice w t) (checkOrder w t))
 
+-- slot i matches a key
+abbrev pub matchesAt : ℕ → List ℕ → Words → ℕ → Bool
+matchesAt w t key i = slotMatches w key (slotWords w t i)
+
 -- the lowest-numbered slot that matches a key; the number of slots where none does
 unfoldable pub firstMatch : ℕ → List ℕ → Words → ℕ
-firstMatch w t key = least (λ (i : ℕ). slotMatches w key (slotWords w t i)) (slots w t) 0
+firstMatch w t key = least (matchesAt w t key) (slots w t) 0

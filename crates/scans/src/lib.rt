@@ -1,5 +1,5 @@
 // The nearest slot that is out of order with a slot: the searches of check 4 and of the windows.
-// Slots that do not overlap are passed over four at a time; the rest are asked one by one.
+// Slots that do not overlap are passed over four at a time; from an overlap on slots are asked for their priorities first.
 use pairs::misordered_pair;
 use pairs::pattern_overlaps;
 use slots::slot_word;
@@ -146,7 +146,7 @@ fn first_of_four(table: &[u64], slot: usize, from: usize, rank: u64) -> usize
     first_of_few(table, slot, from, from + 4)
 }
 
-// The same of any number of slots, four at a time: in a table in order the priorities before a slot that overlap it are higher.
+// The same of any number of slots, four at a time: in a table in order the rules before a slot that overlap it have higher priorities.
 fn first_asked(table: &[u64], slot: usize, from: usize, to: usize) -> usize
     requires { ⌜ (slot < length (now table) / 6) × (from ≤ to) × (to ≤ length (now table) / 6) ⌝ }
     requires { ⌜ checkRecords 2 (now table) ≡ Pass ⌝ }
@@ -182,7 +182,7 @@ fn last_asked(table: &[u64], slot: usize, from: usize, end: usize) -> usize
     from
 }
 
-// Where a rule overlaps, 64 slots from there on are asked one by one, since others near it are likely to.
+// Where a rule overlaps, 64 slots from there on are asked, since others near it are likely to overlap too.
 fn part_end(start: usize, to: usize) -> usize
     requires { ⌜ start ≤ to ⌝ }
     ensures { λ r. ⌜ r ≡ min (start + 64) to ⌝ }

@@ -11,12 +11,14 @@ use slots::slot_empty;
 use slots::slot_matches;
 use slots::slot_unsound;
 ghost use mathlib.Core.Path.{_≡_};
+ghost use mathlib.Core.Bool.{_||_};
 ghost use mathlib.Core.List.{[], _∷_};
-ghost use Prim.Native.Nat.{_≤_, _<_, _/_};
+ghost use Prim.Native.Nat.{_+_, _≤_, _<_, _/_};
 ghost use lib.ListN.{length};
+ghost use Rattle.search.specs.Search.{NoneFrom};
 ghost use Rattle.records.specs.Record.{word};
 ghost use Rattle.records.specs.declared.Check.the-variants.{Pass};
-ghost use Rattle.records.specs.Checks.{checkShape, checkRecords, checkTwice, checkOrder, slotChecks, tableChecks, disorderAt, firstMatch};
+ghost use Rattle.records.specs.Checks.{checkShape, checkRecords, checkTwice, checkOrder, slotChecks, tableChecks, disorderAt, matchesAt, firstMatch};
 
 // Check 1: the table's words are six for each of 1 to 1,024 slots.
 pub fn check_shape(table: &[u64]) -> Check
@@ -85,13 +87,51 @@ pub fn check_order(table: &[u64]) -> Check
     Check::Pass
 }
 
+// Whether one of four slots matches a key.
+fn one_matches(table: &[u64], from: usize, key_high: u64, key_low: u64) -> bool
+    requires { ⌜ from + 4 ≤ length (now table) / 6 ⌝ }
+    requires { ⌜ checkRecords 2 (now table) ≡ Pass ⌝ }
+    ensures { λ r. ⌜ r ≡ (matchesAt 2 (now (table .entry)) (word («key_high» ∷ «key_low» ∷ [])) from
+        || matchesAt 2 (now (table .entry)) (word («key_high» ∷ «key_low» ∷ [])) (from + 1)
+        || matchesAt 2 (now (table .entry)) (word («key_high» ∷ «key_low» ∷ [])) (from + 2)
+        || matchesAt 2 (now (table .entry)) (word («key_high» ∷ «key_low» ∷ [])) (from + 3)) ⌝ }
+{
+    if slot_matches(table, from, key_high, key_low) {
+        return true;
+    }
+    if slot_matches(table, from + 1, key_high, key_low) {
+        return true;
+    }
+    if slot_matches(table, from + 2, key_high, key_low) {
+        return true;
+    }
+    slot_matches(table, from + 3, key_high, key_low)
+}
+
+// A slot below which none matches a key: most slots do not, and four at a time are passed over sooner than one by one.
+fn skip_unmatched(table: &[u64], key_high: u64, key_low: u64) -> usize
+    requires { ⌜ checkRecords 2 (now table) ≡ Pass ⌝ }
+    ensures { λ r. ⌜ NoneFrom (matchesAt 2 (now (table .entry)) (word («key_high» ∷ «key_low» ∷ []))) 0 (length (now (table .entry)) / 6) r ⌝ }
+{
+    let mut at = 0;
+    let mut fours = table.len() / 6 / 4;
+    while 0 < fours {
+        if one_matches(table, at, key_high, key_low) {
+            return at;
+        }
+        at += 4;
+        fours -= 1;
+    }
+    at
+}
+
 // The lowest-numbered slot that matches a key, or the number of slots where none does.
 pub fn first_match(table: &[u64], key_high: u64, key_low: u64) -> usize
     requires { ⌜ checkRecords 2 (now table) ≡ Pass ⌝ }
     ensures { λ r. ⌜ r ≡ firstMatch 2 (now (table .entry)) (word («key_high» ∷ «key_low» ∷ [])) ⌝ }
 {
     let slots = table.len() / 6;
-    let mut slot = 0;
+    let mut slot = skip_unmatched(table, key_high, key_low);
     while slot < slots {
         if slot_matches(table, slot, key_high, key_low) {
             return slot;

@@ -83,13 +83,13 @@ static inline bool misordered(const uint64_t *first, const uint64_t *second)
 }
 
 /* Whether the first record's priority is the higher one. */
-static inline bool outranks(const uint64_t *first, const uint64_t *second)
+static inline bool is_higher(const uint64_t *first, const uint64_t *second)
 {
     return first[5] > second[5];
 }
 
 /* The same as `misordered`, where most pairs are told by their priorities. */
-static inline bool outranked(const uint64_t *first, const uint64_t *second)
+static inline bool misordered_by_priority(const uint64_t *first, const uint64_t *second)
 {
     return first[5] <= second[5] && distinct(first, second) && overlap(first, second);
 }
@@ -159,7 +159,7 @@ static inline const uint64_t *from_overlap(const uint64_t *from, const uint64_t 
 static inline bool disorder_among(const uint64_t *from, const uint64_t *end, const uint64_t *record)
 {
     for (const uint64_t *earlier = from; earlier < end; earlier += WORDS)
-        if (outranked(earlier, record))
+        if (misordered_by_priority(earlier, record))
             return true;
     return false;
 }
@@ -169,8 +169,8 @@ static inline bool disorder_in(const uint64_t *from, const uint64_t *end, const 
 {
     const uint64_t *earlier = from;
     for (; earlier + 3 * WORDS < end; earlier += 4 * WORDS) {
-        bool all_higher = outranks(earlier, record) && outranks(earlier + WORDS, record)
-                          && outranks(earlier + 2 * WORDS, record) && outranks(earlier + 3 * WORDS, record);
+        bool all_higher = is_higher(earlier, record) && is_higher(earlier + WORDS, record)
+                          && is_higher(earlier + 2 * WORDS, record) && is_higher(earlier + 3 * WORDS, record);
         if (!all_higher && disorder_among(earlier, earlier + 4 * WORDS, record))
             return true;
     }

@@ -3,7 +3,7 @@
 // from an overlap on it asks a stretch of records, four a step by their priorities, since others near it are likely to overlap too.
 
 use crate::answers::{refuse, Record, Refusal, ORDER, RECORD, SHAPE, SLOTS_MOST, TWICE};
-use crate::records::{id_of, is_fit, meets, outranked, outranks};
+use crate::records::{id_of, is_fit, is_higher, meets, misordered_by_priority};
 
 const STRETCH: usize = 64;
 
@@ -76,10 +76,11 @@ fn disorder_in(stretch: &[Record], record: &Record) -> bool {
     let (fours, rest) = stretch.as_chunks::<4>();
     let disorder = |four: &[Record; 4]| {
         let [first, second, third, fourth] = four;
-        let all_higher = outranks(first, record) && outranks(second, record) && outranks(third, record) && outranks(fourth, record);
-        !all_higher && four.iter().any(|one| outranked(one, record))
+        let all_higher =
+            is_higher(first, record) && is_higher(second, record) && is_higher(third, record) && is_higher(fourth, record);
+        !all_higher && four.iter().any(|one| misordered_by_priority(one, record))
     };
-    fours.iter().any(disorder) || rest.iter().any(|one| outranked(one, record))
+    fours.iter().any(disorder) || rest.iter().any(|one| misordered_by_priority(one, record))
 }
 
 /// The records without the fours at the front that have no rule that overlaps this one.

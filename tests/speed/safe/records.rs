@@ -51,12 +51,12 @@ pub fn misordered(first: &Record, second: &Record) -> bool {
 }
 
 /// Whether the first record's priority is the higher one.
-pub fn outranks(first: &Record, second: &Record) -> bool {
+pub fn is_higher(first: &Record, second: &Record) -> bool {
     first[5] > second[5]
 }
 
 /// The same as `misordered`, where most pairs are told by their priorities.
-pub fn outranked(first: &Record, second: &Record) -> bool {
+pub fn misordered_by_priority(first: &Record, second: &Record) -> bool {
     first[5] <= second[5] && distinct(first, second) && overlap(first, second)
 }
 

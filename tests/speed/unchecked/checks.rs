@@ -3,7 +3,7 @@
 // from an overlap on it asks a stretch of records, four a step by their priorities, since others near it are likely to overlap too.
 
 use crate::answers::{refuse, Record, Refusal, ORDER, RECORD, SHAPE, SLOTS_MOST, TWICE};
-use crate::records::{at, id_of, is_fit, meets, outranked, outranks, put};
+use crate::records::{at, id_of, is_fit, is_higher, meets, misordered_by_priority, put};
 
 const STRETCH: usize = 64;
 
@@ -89,10 +89,10 @@ unsafe fn disorder_in(from: *const Record, end: *const Record, record: *const Re
     let mut earlier = from;
     let fours = from.add(end.offset_from_unsigned(from) & !3);
     while earlier != fours {
-        let all_higher = outranks(&*earlier, &*record)
-            && outranks(&*earlier.add(1), &*record)
-            && outranks(&*earlier.add(2), &*record)
-            && outranks(&*earlier.add(3), &*record);
+        let all_higher = is_higher(&*earlier, &*record)
+            && is_higher(&*earlier.add(1), &*record)
+            && is_higher(&*earlier.add(2), &*record)
+            && is_higher(&*earlier.add(3), &*record);
         if !all_higher && disorder_among(earlier, earlier.add(4), record) {
             return true;
         }
@@ -104,7 +104,7 @@ unsafe fn disorder_in(from: *const Record, end: *const Record, record: *const Re
 unsafe fn disorder_among(from: *const Record, end: *const Record, record: *const Record) -> bool {
     let mut earlier = from;
     while earlier != end {
-        if outranked(&*earlier, &*record) {
+        if misordered_by_priority(&*earlier, &*record) {
             return true;
         }
         earlier = earlier.add(1);

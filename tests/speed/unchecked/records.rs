@@ -76,13 +76,13 @@ pub fn misordered(first: &Record, second: &Record) -> bool {
 
 /// Whether the first record's priority is the higher one.
 #[inline(always)]
-pub fn outranks(first: &Record, second: &Record) -> bool {
+pub fn is_higher(first: &Record, second: &Record) -> bool {
     first[5] > second[5]
 }
 
 /// The same as `misordered`, where most pairs are told by their priorities.
 #[inline(always)]
-pub fn outranked(first: &Record, second: &Record) -> bool {
+pub fn misordered_by_priority(first: &Record, second: &Record) -> bool {
     first[5] <= second[5] && distinct(first, second) && overlap(first, second)
 }
 
