@@ -2,4 +2,3 @@
 // Definitions of the answers, the table and the writes done are those of `carrying`.
 pub mod step;
 pub mod whole;
-pub mod writes;

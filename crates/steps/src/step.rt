@@ -1,7 +1,5 @@
 // The step: one write of a plan, where the checks pass and the plan is not finished.
 // A step that declines or is finished changes nothing.
-use crate::writes::word_fits;
-use crate::writes::write_word;
 use carrying::StepAnswer;
 use carrying::StepInfo;
 use records::Cause;
@@ -9,6 +7,8 @@ use records::Check;
 use records::Rule;
 use slots::rules::rule_sound;
 use table_checks::check_slots;
+use writes::word_fits;
+use writes::write_word;
 ghost use mathlib.Core.Path.{_≡_};
 ghost use lib.ListN.{length};
 ghost use Rattle.carrying.specs.Carrying.{stepTold, progressChecks, writeChecks, stepAnswer, stepTable};

@@ -1,9 +1,9 @@
--- `steps::writes::held_at` meets its contract.
+-- `writes::held_at` meets its contract.
 -- The ids are compared whatever the other slot is.
 use Rattle.records.specs.Writes.{heldAt}
 use borrow.Author.Needs.{needs}
-use Rattle.steps.proofs.writes.held_at.Statement.{statement}
-use Rattle.steps.proofs.writes.held_at.Tie as tie
+use Rattle.writes.proofs.held_at.Statement.{statement}
+use Rattle.writes.proofs.held_at.Tie as tie
 
 same-id-requires : tie.Need-same-id-requires
 same-id-requires c κs = search needs

@@ -1,9 +1,9 @@
--- `steps::writes::rule_in` meets its contract.
+-- `writes::rule_in` meets its contract.
 -- The slot is asked for only where it exists.
 use borrow.Author.Needs.{needs}
 use borrow.Author.Tests.{lt-ltb, le-ltb}
-use Rattle.steps.proofs.writes.rule_in.Statement.{statement}
-use Rattle.steps.proofs.writes.rule_in.Tie as tie
+use Rattle.writes.proofs.rule_in.Statement.{statement}
+use Rattle.writes.proofs.rule_in.Tie as tie
 
 slot-empty-requires : tie.Need-slot-empty-requires
 slot-empty-requires c κs = search needs

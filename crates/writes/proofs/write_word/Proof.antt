@@ -1,4 +1,4 @@
--- `steps::writes::write_word` meets its contract.
+-- `writes::write_word` meets its contract.
 -- The slots of a write that fits exist, and the record stored is the one that the word names.
 use mathlib.Core.Path.{refl, _∙_}
 use Prim.Native.Nat.{ℕ}
@@ -8,8 +8,8 @@ use Rattle.records.specs.Record.{slotWords}
 use Rattle.records.specs.Rules.{record-length, length-listed}
 use Rattle.carrying.specs.Steps.{stored, put-made, clear-made, copy-made, put-below, clear-below, copy-below}
 use borrow.Author.Needs.{needs}
-use Rattle.steps.proofs.writes.write_word.Statement.{statement}
-use Rattle.steps.proofs.writes.write_word.Tie as tie
+use Rattle.writes.proofs.write_word.Statement.{statement}
+use Rattle.writes.proofs.write_word.Tie as tie
 
 cast-from : tie.Need-cast-from
 cast-from c = search needs

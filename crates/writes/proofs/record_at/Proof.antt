@@ -1,9 +1,9 @@
--- `steps::writes::record_at` meets its contract.
+-- `writes::record_at` meets its contract.
 -- Each of the six words is the slot's.
 use Rattle.records.specs.Record.{listed}
 use borrow.Author.Needs.{needs}
-use Rattle.steps.proofs.writes.record_at.Statement.{statement}
-use Rattle.steps.proofs.writes.record_at.Tie as tie
+use Rattle.writes.proofs.record_at.Statement.{statement}
+use Rattle.writes.proofs.record_at.Tie as tie
 
 slot-word-requires : tie.Need-slot-word-requires
 slot-word-requires c κs = search needs

@@ -81,7 +81,7 @@ fn copy_fits(table: &[u64], from: usize, to: usize) -> bool
 }
 
 // Whether the write of a plan word fits.
-pub(crate) fn word_fits(table: &[u64], word: u32) -> bool
+pub fn word_fits(table: &[u64], word: u32) -> bool
     ensures { λ r. ⌜ r ≡ fitsWord 2 (now (table .entry)) word ⌝ }
 {
     let from = (word / 65536) as usize;
@@ -111,7 +111,7 @@ fn record_at(table: &[u64], slot: usize) -> [u64; 6]
 }
 
 // Makes the write of a plan word that fits.
-pub(crate) fn write_word(table: &mut [u64], rule: Rule, word: u32)
+pub fn write_word(table: &mut [u64], rule: Rule, word: u32)
     requires { ⌜ fitsWord 2 (now table) word ≡ true ⌝ }
     ensures { λ _. ⌜ now (table .exit) ≡ applyWord 2 (now (table .entry)) rule word ⌝ }
 {

@@ -1,9 +1,9 @@
--- `steps::writes::put_fits` meets its contract.
+-- `writes::put_fits` meets its contract.
 -- The slot is asked for only where it exists.
 use borrow.Author.Needs.{needs}
 use borrow.Author.Tests.{lt-ltb, le-ltb}
-use Rattle.steps.proofs.writes.put_fits.Statement.{statement}
-use Rattle.steps.proofs.writes.put_fits.Tie as tie
+use Rattle.writes.proofs.put_fits.Statement.{statement}
+use Rattle.writes.proofs.put_fits.Tie as tie
 
 slot-free-requires : tie.Need-slot-free-requires
 slot-free-requires c κs = search needs

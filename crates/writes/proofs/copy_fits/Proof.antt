@@ -1,10 +1,10 @@
--- `steps::writes::copy_fits` meets its contract.
+-- `writes::copy_fits` meets its contract.
 -- The slot copied to is asked for only where the other tests hold.
 use Rattle.carrying.specs.Steps.{copy-passed, copy-stopped}
 use denote.Ref.{now}
 use borrow.Author.Needs.{needs}
-use Rattle.steps.proofs.writes.copy_fits.Statement.{statement}
-use Rattle.steps.proofs.writes.copy_fits.Tie as tie
+use Rattle.writes.proofs.copy_fits.Statement.{statement}
+use Rattle.writes.proofs.copy_fits.Tie as tie
 
 rule-in-requires : tie.Need-rule-in-requires
 rule-in-requires c κs = search needs

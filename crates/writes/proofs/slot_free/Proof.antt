@@ -1,10 +1,10 @@
--- `steps::writes::slot_free` meets its contract.
+-- `writes::slot_free` meets its contract.
 -- The other slots are asked for only where the slot is occupied.
 use mathlib.Core.Path.{sym, _∙_}
 use borrow.Author.Needs.{needs}
 use Rattle.carrying.specs.Steps.{free-empty, free-occupied}
-use Rattle.steps.proofs.writes.slot_free.Statement.{statement}
-use Rattle.steps.proofs.writes.slot_free.Tie as tie
+use Rattle.writes.proofs.slot_free.Statement.{statement}
+use Rattle.writes.proofs.slot_free.Tie as tie
 
 slot-empty-requires : tie.Need-slot-empty-requires
 slot-empty-requires c κs = search needs

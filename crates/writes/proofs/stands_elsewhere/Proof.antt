@@ -1,12 +1,12 @@
--- `steps::writes::stands_elsewhere` meets its contract.
+-- `writes::stands_elsewhere` meets its contract.
 -- No slot below the loop's, but for the slot itself, has the slot's id.
 use Prim.Native.Nat.{_-_}
 use mathlib.Core.Path.{sym, _∙_}
 use native.Mathlib.Omega.{arith}
 use Rattle.search.specs.Search.{NoneBelow, none-start, none-more, any-some, any-none}
 use Rattle.records.specs.Writes.{heldAt, standsElsewhere}
-use Rattle.steps.proofs.writes.stands_elsewhere.Statement.{statement}
-use Rattle.steps.proofs.writes.stands_elsewhere.Tie as tie
+use Rattle.writes.proofs.stands_elsewhere.Statement.{statement}
+use Rattle.writes.proofs.stands_elsewhere.Tie as tie
 
 abbrev Inv-loop : tie.InvT-loop
 Inv-loop table slot slots other₀ other = NoneBelow (heldAt 2 table slot) slots other

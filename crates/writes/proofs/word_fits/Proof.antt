@@ -1,11 +1,11 @@
--- `steps::writes::word_fits` meets its contract.
+-- `writes::word_fits` meets its contract.
 -- Each kind of word has its test.
 use mathlib.Core.Path.{_∙_}
 use Rattle.carrying.specs.Steps.{put-fits, clear-fits, copy-fits}
 use denote.Ref.{now}
 use borrow.Author.Needs.{needs}
-use Rattle.steps.proofs.writes.word_fits.Statement.{statement}
-use Rattle.steps.proofs.writes.word_fits.Tie as tie
+use Rattle.writes.proofs.word_fits.Statement.{statement}
+use Rattle.writes.proofs.word_fits.Tie as tie
 
 cast-from : tie.Need-cast-from
 cast-from c = search needs
