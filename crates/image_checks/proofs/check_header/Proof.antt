@@ -1,4 +1,4 @@
--- `loads::check_header` meets its contract.
+-- `image_checks::check_header` meets its contract.
 -- Each return is a field that is wrong, or both right.
 use mathlib.Core.Path.{sym, ap, ap₂, _∙_}
 use mathlib.Core.Bool.{Bool, _&&_}
@@ -14,8 +14,8 @@ use Rattle.image.specs.Checks.{field, checkHeader}
 use Rattle.image.specs.Format.{rulesIn, imageBytes}
 use Rattle.image.specs.CheckLaws.{field-wrong, field-right, field-last, field-last-wrong}
 use borrow.Author.Needs.{needs}
-use Rattle.loads.proofs.check_header.Statement.{statement}
-use Rattle.loads.proofs.check_header.Tie as tie
+use Rattle.image_checks.proofs.check_header.Statement.{statement}
+use Rattle.image_checks.proofs.check_header.Tie as tie
 
 returns : tie.Need-returns
 unfolding checkHeader

@@ -1,4 +1,4 @@
--- `loads::check_body` meets its contract.
+-- `image_checks::check_body` meets its contract.
 -- The words read are the record's, handed on as parts.
 use mathlib.Core.Path.{sym, ap, _∙_}
 use mathlib.Core.List.{List}
@@ -9,8 +9,8 @@ use Rattle.records.specs.Record.{word, soundParts, sound}
 use Rattle.image.specs.Checks.{checkBody}
 use Rattle.image.specs.CheckLaws.{field-last, field-last-wrong}
 use borrow.Author.Needs.{needs}
-use Rattle.loads.proofs.check_body.Statement.{statement}
-use Rattle.loads.proofs.check_body.Tie as tie
+use Rattle.image_checks.proofs.check_body.Statement.{statement}
+use Rattle.image_checks.proofs.check_body.Tie as tie
 
 record-at-requires : tie.Need-record-at-requires
 record-at-requires c κs = search needs

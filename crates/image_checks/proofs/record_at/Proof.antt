@@ -1,4 +1,4 @@
--- `loads::record_at` meets its contract.
+-- `image_checks::record_at` meets its contract.
 -- Each word is the number read at its place.
 use Prim.Native.Nat.{_+_, _-_, _*_}
 use native.Mathlib.Omega.{arith}
@@ -7,8 +7,8 @@ use native.Mathlib.Nat.{add-zero}
 use Rattle.records.specs.Record.{listed}
 use Rattle.image.specs.Format.{recordAt}
 use borrow.Author.Needs.{needs}
-use Rattle.loads.proofs.record_at.Statement.{statement}
-use Rattle.loads.proofs.record_at.Tie as tie
+use Rattle.image_checks.proofs.record_at.Statement.{statement}
+use Rattle.image_checks.proofs.record_at.Tie as tie
 
 mul-body : tie.Need-mul-body
 mul-body c = search needs

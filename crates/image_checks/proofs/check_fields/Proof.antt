@@ -1,11 +1,11 @@
--- `loads::check_fields` meets its contract.
+-- `image_checks::check_fields` meets its contract.
 -- The image is looked at where the table has a shape.
 use mathlib.Core.Path.{sym, _∙_}
 use native.Mathlib.Omega.{arith}
 use Rattle.records.specs.Laws.{failed, passed, shape-length}
 use borrow.Author.Needs.{needs}
-use Rattle.loads.proofs.check_fields.Statement.{statement}
-use Rattle.loads.proofs.check_fields.Tie as tie
+use Rattle.image_checks.proofs.check_fields.Statement.{statement}
+use Rattle.image_checks.proofs.check_fields.Tie as tie
 
 check-shape-requires : tie.Need-check-shape-requires
 check-shape-requires c κs = search needs

@@ -1,4 +1,4 @@
--- `loads::check_entry` meets its contract.
+-- `image_checks::check_entry` meets its contract.
 -- Each return is the first field that is wrong, or all three are right.
 use mathlib.Core.Path.{sym, ap, _∙_}
 use mathlib.Core.Bool.{Bool, not, _&&_}
@@ -8,8 +8,8 @@ use borrow.Author.Tests.{eq-eqb, ne-eqb, not-true, not-false}
 use Rattle.image.specs.Checks.{checkEntry}
 use Rattle.image.specs.CheckLaws.{field-wrong, field-right, field-last, field-last-wrong}
 use borrow.Author.Needs.{needs}
-use Rattle.loads.proofs.check_entry.Statement.{statement}
-use Rattle.loads.proofs.check_entry.Tie as tie
+use Rattle.image_checks.proofs.check_entry.Statement.{statement}
+use Rattle.image_checks.proofs.check_entry.Tie as tie
 
 mul-at : tie.Need-mul-at
 mul-at c = search needs

@@ -1,4 +1,4 @@
--- `loads::lowest_slot` meets its contract.
+-- `image_checks::lowest_slot` meets its contract.
 -- One above the slot of the entry before.
 use mathlib.Core.Path.{_≡_, ap}
 use Prim.Native.Nat.{suc, _+_, _-_, _*_}
@@ -6,8 +6,8 @@ use native.Mathlib.Omega.{arith}
 use Rattle.image.specs.ByteLaws.{number-small}
 use Rattle.image.specs.Checks.{lowestSlot}
 use borrow.Author.Needs.{needs}
-use Rattle.loads.proofs.lowest_slot.Statement.{statement}
-use Rattle.loads.proofs.lowest_slot.Tie as tie
+use Rattle.image_checks.proofs.lowest_slot.Statement.{statement}
+use Rattle.image_checks.proofs.lowest_slot.Tie as tie
 
 returns : tie.Need-returns
 returns c = search needs

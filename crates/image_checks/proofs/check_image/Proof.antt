@@ -1,4 +1,4 @@
--- `loads::check_image` meets its contract.
+-- `image_checks::check_image` meets its contract.
 -- Each check is made where those before it pass.
 use mathlib.Core.Path.{sym, ap, _∙_}
 use Prim.Native.Nat.{ℕ}
@@ -7,8 +7,8 @@ use Rattle.records.specs.Laws.{failed, passed}
 use Rattle.image.specs.Checks.{checkContents, checkBodies, imageChecks}
 use Rattle.image.specs.CheckLaws.{header-law}
 use borrow.Author.Needs.{needs}
-use Rattle.loads.proofs.check_image.Statement.{statement}
-use Rattle.loads.proofs.check_image.Tie as tie
+use Rattle.image_checks.proofs.check_image.Statement.{statement}
+use Rattle.image_checks.proofs.check_image.Tie as tie
 
 check-header-requires : tie.Need-check-header-requires
 check-header-requires c κs = search needs
