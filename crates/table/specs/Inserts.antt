@@ -28,7 +28,7 @@ use Rattle.records.specs.declared.Cause.the-variants.{Short}
 use Rattle.records.specs.declared.Check.the-variants.{Pass}
 use Rattle.table.specs.Insertable.{Insertable, insertable-law, rule-words, uncrossed-numbers}
 use Rattle.plans.specs.Plans.{planAnswer, planBuffer, plan-short, plan-written}
-use Rattle.neighbours.specs.Windows.{endAt}
+use Rattle.windows.specs.Windows.{endAt}
 use Rattle.table.specs.Joined.{Costed, ends-listed, ends-down as ends-down-law, ends-up as ends-up-law}
 use Rattle.neighbours.specs.Neighbours.{afterA, slotB, ruleWords, insertChecks}
 

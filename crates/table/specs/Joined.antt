@@ -20,7 +20,7 @@ use Rattle.records.specs.Record.{slotWords, empty, listed}
 use Rattle.records.specs.Rules.{length-listed, word-listed}
 use Rattle.records.specs.Order.{slots}
 use Rattle.records.specs.Entries.{vacant, entries, entryOccupied, entryMisordered, entries-length, occupied-at, misordered-at}
-use Rattle.neighbours.specs.Windows.{misplacedAt, windowEndAt, endAt}
+use Rattle.windows.specs.Windows.{misplacedAt, windowEndAt, endAt}
 
 -- along one direction: a list of entries that has, at each position, the entry of the slot that the table's numbers speak of
 along : (w : ℕ) (t : List ℕ) (up : Bool) (u : List (List ℕ)) (misplaced : List ℕ → List ℕ → Bool) (slotOf : ℕ → ℕ)

@@ -3,7 +3,6 @@
 use neighbours::checks::after_a;
 use neighbours::checks::check_insert;
 use neighbours::checks::slot_b;
-use neighbours::windows::fill_ends;
 use planner::Choice;
 use planner::Range;
 use planner::choose;
@@ -15,6 +14,7 @@ use records::Cause;
 use records::Check;
 use records::Rule;
 use slots::rules::record_of;
+use windows::fill_ends;
 ghost use mathlib.Core.Path.{_≡_};
 ghost use mathlib.Core.Bool.{true, false, cond};
 ghost use Prim.Native.Nat.{_+_, _-_, _≤_, _<_, _/_};

@@ -7,7 +7,7 @@ use native.Mathlib.Omega.{arith}
 use lib.ListN.{length, getD, drop}
 use denote.Ref.{now}
 use borrow.Author.Needs.{needs}
-use Rattle.neighbours.specs.Windows.{endAt, end-high}
+use Rattle.windows.specs.Windows.{endAt, end-high}
 use Rattle.table.specs.Joined.{numbers-front, costed}
 use Rattle.table.proofs.inserts.costs_along.Statement.{statement}
 use Rattle.table.proofs.inserts.costs_along.Tie as tie

@@ -1,11 +1,11 @@
--- `neighbours::windows::end_down` meets its contract.
+-- `windows::end_down` meets its contract.
 -- The nearest slot that may not stand before the position's, or the last slot.
 use native.Mathlib.Omega.{arith}
 use denote.Ref.{now}
-use Rattle.neighbours.specs.Windows.{window-down}
+use Rattle.windows.specs.Windows.{window-down}
 use borrow.Author.Needs.{needs}
-use Rattle.neighbours.proofs.windows.end_down.Statement.{statement}
-use Rattle.neighbours.proofs.windows.end_down.Tie as tie
+use Rattle.windows.proofs.end_down.Statement.{statement}
+use Rattle.windows.proofs.end_down.Tie as tie
 
 add-first-not-before : tie.Need-add-first-not-before
 add-first-not-before c = search needs

@@ -1,12 +1,12 @@
--- `neighbours::windows::window_end` meets its contract.
+-- `windows::window_end` meets its contract.
 -- Each direction has its own search.
 use mathlib.Core.Path.{sym, ap, _∙_}
 use mathlib.Core.Bool.{Bool}
 use denote.Ref.{now}
-use Rattle.neighbours.specs.Windows.{windowEndAt}
+use Rattle.windows.specs.Windows.{windowEndAt}
 use borrow.Author.Needs.{needs}
-use Rattle.neighbours.proofs.windows.window_end.Statement.{statement}
-use Rattle.neighbours.proofs.windows.window_end.Tie as tie
+use Rattle.windows.proofs.window_end.Statement.{statement}
+use Rattle.windows.proofs.window_end.Tie as tie
 
 end-up-requires : tie.Need-end-up-requires
 end-up-requires c κs = search needs

@@ -1,12 +1,12 @@
--- `neighbours::windows::end_up` meets its contract.
+-- `windows::end_up` meets its contract.
 -- The nearest slot that may not stand after the position's, or the first slot.
 use mathlib.Core.Path.{refl}
 use native.Mathlib.Omega.{arith}
 use denote.Ref.{now}
-use Rattle.neighbours.specs.Windows.{window-up, up-high}
+use Rattle.windows.specs.Windows.{window-up, up-high}
 use borrow.Author.Needs.{needs}
-use Rattle.neighbours.proofs.windows.end_up.Statement.{statement}
-use Rattle.neighbours.proofs.windows.end_up.Tie as tie
+use Rattle.windows.proofs.end_up.Statement.{statement}
+use Rattle.windows.proofs.end_up.Tie as tie
 
 sub-slot : tie.Need-sub-slot
 sub-slot c = search needs

@@ -1,4 +1,4 @@
--- `neighbours::windows::end_at` meets its contract.
+-- `windows::end_at` meets its contract.
 -- The slot at the position exists; an empty one has no window.
 use mathlib.Core.Path.{sym, ap, _∙_}
 use Prim.Native.Nat.{ℕ, _/_}
@@ -8,9 +8,9 @@ use denote.Ref.{now}
 use borrow.Author.Needs.{needs}
 use Rattle.records.specs.Record.{slotWords, empty}
 use Rattle.planner.specs.Emit.{slot-below}
-use Rattle.neighbours.specs.Windows.{end-empty, end-window, window-high}
-use Rattle.neighbours.proofs.windows.end_at.Statement.{statement}
-use Rattle.neighbours.proofs.windows.end_at.Tie as tie
+use Rattle.windows.specs.Windows.{end-empty, end-window, window-high}
+use Rattle.windows.proofs.end_at.Statement.{statement}
+use Rattle.windows.proofs.end_at.Tie as tie
 
 slot-at-requires : tie.Need-slot-at-requires
 slot-at-requires c κs = search needs

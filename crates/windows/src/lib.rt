@@ -12,7 +12,7 @@ ghost use lib.ListN.{length, drop};
 ghost use Rattle.records.specs.Record.{listed};
 ghost use Rattle.records.specs.Checks.{checkRecords};
 ghost use Rattle.records.specs.declared.Check.the-variants.{Pass};
-ghost use Rattle.neighbours.specs.Windows.{windowEndAt, endAt};
+ghost use Rattle.windows.specs.Windows.{windowEndAt, endAt};
 
 // One past the last position of a window going down: positions are slots.
 fn end_down(table: &[u64], position: usize) -> usize

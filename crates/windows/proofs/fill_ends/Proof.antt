@@ -1,4 +1,4 @@
--- `neighbours::windows::fill_ends` meets its contract.
+-- `windows::fill_ends` meets its contract.
 -- The positions below the loop's have their numbers, and the rest of the array is as it was.
 use mathlib.Core.Path.{_≡_, refl, ap, ap₂, _∙_}
 use mathlib.Core.List.{List, _++_}
@@ -8,9 +8,9 @@ use borrow.Author.Needs.{needs}
 use lib.ListN.{length, drop, set, length-set}
 use denote.Ref.{now}
 use Rattle.records.specs.Record.{listed}
-use Rattle.neighbours.specs.Windows.{endAt, fill-next}
-use Rattle.neighbours.proofs.windows.fill_ends.Statement.{statement}
-use Rattle.neighbours.proofs.windows.fill_ends.Tie as tie
+use Rattle.windows.specs.Windows.{endAt, fill-next}
+use Rattle.windows.proofs.fill_ends.Statement.{statement}
+use Rattle.windows.proofs.fill_ends.Tie as tie
 
 abbrev Inv-loop : tie.InvT-loop
 Inv-loop table up ends₀ slots position₀ ends position =
