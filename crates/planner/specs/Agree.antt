@@ -18,6 +18,8 @@ use Rattle.layout.specs.Plan.{Range as LayoutRange, Choice as LayoutChoice}
 use Rattle.layout.specs.Plan.{downCost, upCost, downChain, upChain, bestDown, bestUp, slotDown, slotUp}
 use Rattle.layout.specs.Plan.{choose, writes}
 use Rattle.layout.specs.Choose.{choose-down, choose-up}
+use Rattle.costs.specs.Costs.{SolvedFrom}
+use Rattle.costs.specs.Ends.{Ends, costs-settled}
 use Rattle.planner.specs.Emit.{slotAt, Stays, emitted}
 use Rattle.planner.specs.Choice.{bestBelow, bestAbove, choiceOf, planWords, preferred-down, preferred-up, best-at}
 use Rattle.planner.specs.Mirrored.{minimum-mirror, highest-mirror}
@@ -139,3 +141,15 @@ module _ {S : Type 0} (empty : S) (occupied : S → Bool) (misordered : S → S 
                   emits empty occupied (swapped misordered) (reverse t) n (length-reverse t) up up-costs _ _ (omega (arith, e)) at (above-slot above h)
                   (ap (upChain empty occupied misordered t) (sym (above-slot above h)) ∙ up-chain _ (at .0));
             }
+
+module _ {S : Type 0} (empty : S) (occupied : S → Bool) (misordered : S → S → Bool) (t : List S) where
+  -- costs computed from the ends of a layout's windows, over as many slots as the layout has, choose as the layout does
+  pub numbers-law : (n : ℕ) → length t ≡ n → (ends-down ends-up : List ℕ) (down up : ℕ → ℕ) → Ends empty occupied misordered t ends-down
+      → Ends empty occupied (swapped misordered) (reverse t) ends-up → SolvedFrom ends-down n 0 down → SolvedFrom ends-up n 0 up → (below above : Range)
+      → Agrees n down up (choiceOf down up n below above) (choose empty occupied misordered t (rangeOf below) (rangeOf above))
+  unfolding downCost
+  numbers-law n size ends-down ends-up down up e f g h below above =
+      let back : length (reverse t) ≡ length t = length-reverse t in
+      let up-costs : (p : ℕ) → p < length t → up p ≡ slotCost empty occupied (swapped misordered) (length t) (reverse t) p =
+      λ p b. rw back at (costs-settled empty occupied (swapped misordered) (reverse t) ends-up up f (rw (back, size) h) p (omega arith)) in
+      rw (← size) (choice-law empty occupied misordered t down up (costs-settled empty occupied misordered t ends-down down e (rw size g)) up-costs below above)

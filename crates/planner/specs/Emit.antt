@@ -13,7 +13,7 @@ use Rattle.search.specs.Search.{least}
 use Rattle.layout.specs.Mirror.{mirror}
 use Rattle.layout.specs.Write.{copy, writeWord}
 use Rattle.layout.specs.Chain.{firstOfCost}
-use Rattle.planner.specs.Costs.{costOf}
+use Rattle.costs.specs.Costs.{costOf}
 
 -- the slot at a position
 abbrev pub slotAt : ℕ → Bool → ℕ → ℕ

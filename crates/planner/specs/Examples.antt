@@ -1,4 +1,4 @@
--- Tables of document 01, evaluated on their numbers: the equation of costs at each position, and the plan's words.
+-- Tables of document 01, evaluated on their costs: the plan's words.
 -- Each is checked by computation alone.
 use mathlib.Core.Path.{_≡_, refl}
 use mathlib.Core.Bool.{cond}
@@ -7,7 +7,7 @@ use Prim.Native.Nat.{ℕ}
 use Rattle.search.specs.Search.{least}
 use Rattle.layout.specs.Minimum.{minimum, lowest}
 use Rattle.layout.specs.Write.{copy, put, writeWord}
-use Rattle.planner.specs.Costs.{costOf, positionCost}
+use Rattle.costs.specs.Costs.{costOf}
 use Rattle.planner.specs.Emit.{emitted}
 use Rattle.planner.specs.Choice.{preferred, choiceOf, planWords}
 use Rattle.planner.specs.declared.Range.{Range}
@@ -19,28 +19,12 @@ planOf down up slots below above =
     planWords (cond (choice .up) (costOf up) (costOf down)) slots choice
 
 -- slots 0 a, 1 other, 2 c, 3 d, 4 empty; c depends on a, d on c; new rule before a: 1→4, 0→1, new→0
-five-down : map (positionCost (3 ∷ 5 ∷ 4 ∷ 5 ∷ 0 ∷ []) 5 (costOf (2 ∷ 1 ∷ 2 ∷ 1 ∷ 0 ∷ []))) (0 ∷ 1 ∷ 2 ∷ 3 ∷ 4 ∷ []) ≡ 2 ∷ 1 ∷ 2 ∷ 1 ∷ 0 ∷ []
-unfolding positionCost minimum
-five-down = refl
-
-five-up : map (positionCost (0 ∷ 3 ∷ 5 ∷ 5 ∷ 5 ∷ []) 5 (costOf (0 ∷ 6 ∷ 6 ∷ 6 ∷ 6 ∷ []))) (0 ∷ 1 ∷ 2 ∷ 3 ∷ 4 ∷ []) ≡ 0 ∷ 6 ∷ 6 ∷ 6 ∷ 6 ∷ []
-unfolding positionCost minimum
-five-up = refl
-
 five-plan : planOf (2 ∷ 1 ∷ 2 ∷ 1 ∷ 0 ∷ []) (0 ∷ 6 ∷ 6 ∷ 6 ∷ 6 ∷ []) 5 (record { from = 0; to = 1 }) (record { from = 0; to = 0 })
     ≡ map writeWord (copy 1 4 ∷ copy 0 1 ∷ put 0 ∷ [])
 unfolding least minimum lowest preferred emitted planWords planOf
 five-plan = refl
 
 -- 0 empty, 1 a, 2 b, b depends on a; new rule between: 1→0, new→1
-between-down : map (positionCost (0 ∷ 3 ∷ 3 ∷ []) 3 (costOf (0 ∷ 4 ∷ 4 ∷ []))) (0 ∷ 1 ∷ 2 ∷ []) ≡ 0 ∷ 4 ∷ 4 ∷ []
-unfolding positionCost minimum
-between-down = refl
-
-between-up : map (positionCost (2 ∷ 3 ∷ 0 ∷ []) 3 (costOf (2 ∷ 1 ∷ 0 ∷ []))) (0 ∷ 1 ∷ 2 ∷ []) ≡ 2 ∷ 1 ∷ 0 ∷ []
-unfolding positionCost minimum
-between-up = refl
-
 between-plan : planOf (0 ∷ 4 ∷ 4 ∷ []) (2 ∷ 1 ∷ 0 ∷ []) 3 (record { from = 2; to = 3 }) (record { from = 1; to = 2 })
     ≡ map writeWord (copy 1 0 ∷ put 1 ∷ [])
 unfolding least minimum lowest preferred emitted planWords planOf

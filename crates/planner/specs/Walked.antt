@@ -1,28 +1,18 @@
--- One direction along positions: numbers computed from the ends of a layout's windows are its costs, and the walk by costs is its chain.
+-- One direction along positions: the walk by a layout's costs is its chain.
 -- Going up the layout is the reversed one and the relation swapped.
-use mathlib.Core.Path.{_≡_, refl, sym, ap, _∙_}
-use mathlib.Core.Bool.{Bool, true, false, cond}
-use mathlib.Core.Logic.{_⊎_}
-use mathlib.Core.Logic._⊎_.{inl, inr}
+use mathlib.Core.Path.{_≡_, refl, sym, _∙_}
+use mathlib.Core.Bool.{Bool}
 use mathlib.Core.List.{List, [], _∷_, map, map-append}
-use Prim.Native.Nat.{ℕ, zero, suc, _-_, _<_}
+use Prim.Native.Nat.{ℕ, zero, suc, _<_}
 use native.Mathlib.Omega.{arith}
-use lib.ListN.{length, getD}
-use Rattle.search.specs.Search.{decided}
+use lib.ListN.{length}
 use Rattle.layout.specs.Order.{Higher}
-use Rattle.layout.specs.Minimum.{minimum}
-use Rattle.layout.specs.Cost.{InWindow, windowEnd, window-end-low}
+use Rattle.layout.specs.Cost.{InWindow}
 use Rattle.layout.specs.Chain.{Walk, steps, firstOfCost, first-of-cost, first-of-cost-cong, walk-steps}
 use Rattle.layout.specs.Write.{moves, copy, writeWord}
 use Rattle.layout.specs.Plan.{downCost, downChain}
-use Rattle.layout.specs.CostLaws.{down-costs, down-walk, down-cost-only}
-use Rattle.planner.specs.Costs.{SolvedFrom, cost-vacant, cost-occupied}
+use Rattle.layout.specs.CostLaws.{down-costs, down-walk}
 use Rattle.planner.specs.Emit.{slotAt, Stays, emitted}
-
--- the ends of a layout's windows, 0 where a position is empty
-abbrev pub Ends : {S : Type 0} → S → (S → Bool) → (S → S → Bool) → List S → List ℕ → Type 0
-Ends empty occupied misplaced t ends =
-    (p : ℕ) → p < length t → getD ends p 0 ≡ cond (occupied (getD t p empty)) (windowEnd empty misplaced t p) 0
 
 -- the words of a walk are those of its moves, from slot to slot
 pub emitted-moves : (c : ℕ → ℕ) (slots : ℕ) (up : Bool) (s k : ℕ)
@@ -36,22 +26,6 @@ emitted-moves c slots up s (suc k) =
     (copy (slotAt slots up s) (slotAt slots up j) ∷ [])))
 
 module _ {S : Type 0} (empty : S) (occupied : S → Bool) (misplaced : S → S → Bool) (t : List S) where
-  -- numbers that satisfy the equation of costs, over those ends, are the layout's costs
-  pub costs-settled : (ends : List ℕ) (c : ℕ → ℕ) → Ends empty occupied misplaced t ends → SolvedFrom ends (length t) 0 c
-      → (p : ℕ) → p < length t → c p ≡ downCost empty occupied misplaced t p
-  costs-settled ends c e f = down-cost-only empty occupied misplaced t c (λ i b. at i b (decided (occupied (getD t i empty))))
-    where
-      least-in : ℕ → ℕ → ℕ
-      least-in i w = suc (minimum c (length t) (w - suc i) (suc i))
-
-      at : (i : ℕ) → i < length t → (occupied (getD t i empty) ≡ true) ⊎ (occupied (getD t i empty) ≡ false)
-          → c i ≡ cond (occupied (getD t i empty)) (suc (minimum c (length t) (windowEnd empty misplaced t i - suc i) (suc i))) 0
-      at i b (inl o) =
-          let w : getD ends i 0 ≡ windowEnd empty misplaced t i = rw o at (e i b) in
-          rw o (f i (omega arith) b
-          ∙ (cost-occupied ends (length t) c i (λ z. omega (arith, window-end-low empty misplaced t i b)) ∙ ap (least-in i) w))
-      at i b (inr o) = rw o (f i (omega arith) b ∙ cost-vacant ends (length t) c i (rw o at (e i b)))
-
   module _ (c : ℕ → ℕ) (costs : (p : ℕ) → p < length t → c p ≡ downCost empty occupied misplaced t p) where
     -- the first position after s of the cost that is left is where the tie rule goes
     next-position : (s j k : ℕ) → s < length t → InWindow empty Higher misplaced t s j → downCost empty occupied misplaced t j ≡ k

@@ -1,14 +1,15 @@
-// From numbers to a plan: costs of positions from the ends of their windows, the choice of direction and position, the chain's words.
+// From costs to a plan: the choice of direction and position, and the chain's words.
 // Everything runs in one direction along positions; position p is slot p going down and the slot as far from the last one going up.
+use costs::least_between;
+use costs::lesser;
 ghost use mathlib.Core.Path.{_≡_};
 ghost use mathlib.Core.List.{_++_};
-ghost use Prim.Native.Nat.{ℕ, suc, _+_, _-_, _≤_, _<_, min};
+ghost use Prim.Native.Nat.{ℕ, suc, _-_, _≤_, _<_};
 ghost use lib.Dec.{eqb};
 ghost use lib.ListN.{length, drop};
 ghost use Rattle.search.specs.Search.{least};
-ghost use Rattle.layout.specs.Minimum.{minimum};
 ghost use Rattle.layout.specs.Write.{copy, writeWord};
-ghost use Rattle.planner.specs.Costs.{costOf, positionCost, Sized, Filled};
+ghost use Rattle.costs.specs.Costs.{costOf};
 ghost use Rattle.planner.specs.Emit.{slotAt, Walkable, emitted};
 ghost use Rattle.planner.specs.Choice.{bestOf, preferred, choiceOf, planWords};
 
@@ -31,35 +32,7 @@ pub struct Choice {
     pub position: usize,
 }
 
-fn lesser_cost(a: u16, b: u16) -> u16
-    ensures { λ r. ⌜ r ≡ min a b ⌝ }
-{
-    if a < b { a } else { b }
-}
-
-fn lesser(a: usize, b: usize) -> usize
-    ensures { λ r. ⌜ r ≡ min a b ⌝ }
-{
-    if a < b { a } else { b }
-}
-
-// The least of `top` and the costs of the positions from `from` up to, not including, `to`.
-// The minimum is kept in 16 bits, so that several costs are compared at a time.
-pub fn least_between(costs: &[u16], from: usize, to: usize, top: usize) -> usize
-    requires { ⌜ to ≤ length (now costs) ⌝ }
-    requires { ⌜ top < 65536 ⌝ }
-    ensures { λ r. ⌜ r ≡ minimum (costOf (now (costs .entry))) top (to - from) from ⌝ }
-{
-    let mut at = from;
-    let mut least = top as u16;
-    while at < to {
-        least = lesser_cost(least, costs[at]);
-        at += 1;
-    }
-    least as usize
-}
-
-// The first of those positions that has this cost, or the position where the search ends.
+// The first position from `from` up to, not including, `to` that has this cost, or the position where the search ends.
 pub fn first_of_cost(costs: &[u16], from: usize, to: usize, cost: usize) -> usize
     requires { ⌜ to ≤ length (now costs) ⌝ }
     ensures { λ r. ⌜ r ≡ least (λ (j : ℕ). eqb (costOf (now (costs .entry)) j) cost) (to - from) from ⌝ }
@@ -72,55 +45,6 @@ pub fn first_of_cost(costs: &[u16], from: usize, to: usize, cost: usize) -> usiz
         at += 1;
     }
     at
-}
-
-// The result of `least_between`, for a window whose first cost may just have been stored: that one is read by itself, since a read of
-// several costs at a time would wait for the store.
-fn least_in_window(costs: &[u16], from: usize, to: usize, top: usize) -> usize
-    requires { ⌜ to ≤ length (now costs) ⌝ }
-    requires { ⌜ top < 65536 ⌝ }
-    ensures { λ r. ⌜ r ≡ minimum (costOf (now (costs .entry))) top (to - from) from ⌝ }
-{
-    if to <= from {
-        return top;
-    }
-    let first = costs[from] as usize;
-    let rest = least_between(costs, from + 1, to, top);
-    lesser(first, rest)
-}
-
-// The cost of one position, from those after it, of which `beyond` is the least of all.
-fn position_cost(ends: &[u16], costs: &[u16], slots: usize, position: usize, beyond: u16) -> u16
-    requires { ⌜ Sized (now ends) (now costs) slots ⌝ }
-    requires { ⌜ position < slots ⌝ }
-    requires { ⌜ beyond ≡ minimum (costOf (now costs)) slots (slots - (position + 1)) (position + 1) ⌝ }
-    ensures { λ r. ⌜ r ≡ positionCost (now (ends .entry)) slots (costOf (now (costs .entry))) position ⌝ }
-{
-    let end = ends[position] as usize;
-    if end == 0 {
-        return 0;
-    }
-    if end == slots {
-        return beyond + 1;
-    }
-    let least = least_in_window(costs, position + 1, end, slots);
-    (least + 1) as u16
-}
-
-// The cost of every position, the last one first, since each rests on those after it.
-// The least of all is kept, so that no window that runs to the last position is searched.
-pub fn fill_costs(ends: &[u16], costs: &mut [u16], slots: usize)
-    requires { ⌜ Sized (now ends) (now costs) slots ⌝ }
-    ensures { λ _. ⌜ Filled (now (ends .entry)) slots (now (costs .entry)) (now (costs .exit)) ⌝ }
-{
-    let mut position = slots;
-    let mut least = slots as u16;
-    while 0 < position {
-        position -= 1;
-        let cost = position_cost(ends, costs, slots, position, least);
-        costs[position] = cost;
-        least = lesser_cost(least, cost);
-    }
 }
 
 // The slot at a position.

@@ -5,6 +5,7 @@ use mathlib.Core.Bool.{Bool, true, false, cond, _||_, true≢false}
 use mathlib.Core.Logic.{_⊎_}
 use mathlib.Core.Logic._⊎_.{inl, inr}
 use Prim.Native.Nat.{ℕ, zero, suc, _+_, _-_, _≤_, _<_}
+use native.Mathlib.Numerals.{add-one}
 use native.Mathlib.Omega.{arith}
 use native.Mathlib.Decide.{ℕ-discrete, decLt}
 use lib.Dec.{ltb}
@@ -81,6 +82,19 @@ pub least-open : (p : ℕ → Bool) (from n i : ℕ) → NoneFrom p from n i →
 least-open p from n i inv h =
     least-unique (least-law p (n - from) from)
     (record { low = omega (arith, inv .0, inv .1); high = omega (arith, inv .0, inv .1); before = λ j l r. inv .2 j l (omega (arith, inv .1)); hit = λ l. absurd (omega (arith, inv .0, inv .1)) })
+
+-- a search counted up: the test holds at this index, fails at it, or no index is left
+pub least-at-start : (p : ℕ → Bool) (to i : ℕ) → i < to → p i ≡ true → least p (to - i) i ≡ i
+unfolding least
+least-at-start p to i h t = let e : to - i ≡ suc (to - suc i) = omega arith in rw (e, t)
+
+pub least-further : (p : ℕ → Bool) (to i : ℕ) → i < to → p i ≡ false → least p (to - i) i ≡ least p (to - (i + 1)) (i + 1)
+unfolding least
+least-further p to i h t = let e : to - i ≡ suc (to - suc i) = omega arith in rw (e, t, add-one)
+
+pub least-over : (p : ℕ → Bool) (to i : ℕ) → to ≤ i → least p (to - i) i ≡ i
+unfolding least
+least-over p to i h = let e : to - i ≡ 0 = omega arith in rw e
 
 -- where a test holds nowhere, one that it follows from does not either
 pub none-from-weaker : (p q : ℕ → Bool) (from n i : ℕ) → ((k : ℕ) → k < n → q k ≡ false → p k ≡ false) → NoneFrom q from n i → NoneFrom p from n i

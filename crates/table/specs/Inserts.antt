@@ -10,11 +10,10 @@ use Rattle.search.specs.Search.{least, afterLast}
 use Rattle.ternary.specs.Pattern.{Words}
 use Rattle.layout.specs.Plan.{Choice, Range as LayoutRange, afterPreceding, firstDependant, rangeDown, rangeUp, choose, insertChoice}
 use Rattle.planner.specs.Emit.{Stays}
-use Rattle.planner.specs.Costs.{costOf, SolvedFrom}
+use Rattle.costs.specs.Costs.{costOf, SolvedFrom}
 use Rattle.planner.specs.Choice.{choiceOf, planWords as numberWords, plan-words-length}
 use Rattle.planner.specs.declared.Choice.{Choice as NumberChoice}
-use Rattle.planner.specs.Agree.{Agrees, Emits, plan-law}
-use Rattle.planner.specs.Ends.{numbers-law}
+use Rattle.planner.specs.Agree.{Agrees, Emits, plan-law, numbers-law}
 use Rattle.layout.specs.Insert.{LeastPlan}
 use Rattle.records.specs.Record.{slotWords, recordOf, recordWords, listed}
 use Rattle.records.specs.Order.{slots, precedes}

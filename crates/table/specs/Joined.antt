@@ -14,8 +14,8 @@ use Rattle.layout.specs.Cost.{windowEnd}
 use Rattle.layout.specs.Mirror.{mirror, getD-reverse}
 use Rattle.layout.specs.InPlace.{window-end-by}
 use Rattle.layout.specs.Minimum.{minimum}
-use Rattle.planner.specs.Costs.{costOf, positionCost, SolvedFrom}
-use Rattle.planner.specs.Walked.{Ends}
+use Rattle.costs.specs.Costs.{costOf, positionCost, SolvedFrom}
+use Rattle.costs.specs.Ends.{Ends}
 use Rattle.records.specs.Record.{slotWords, empty, listed}
 use Rattle.records.specs.Rules.{length-listed, word-listed}
 use Rattle.records.specs.Order.{slots}

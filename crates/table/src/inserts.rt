@@ -1,12 +1,12 @@
 // Planning an insert: costs in both directions, the choice between them, and the words of its chain.
 // The table is never changed, and a call that declines leaves the plan buffer as it was.
+use costs::fill_costs;
 use neighbours::checks::after_a;
 use neighbours::checks::check_insert;
 use neighbours::checks::slot_b;
 use planner::Choice;
 use planner::Range;
 use planner::choose;
-use planner::fill_costs;
 use planner::write_plan;
 use plans::PlanAnswer;
 use plans::PlanInfo;
@@ -19,7 +19,7 @@ ghost use mathlib.Core.Path.{_≡_};
 ghost use mathlib.Core.Bool.{true, false, cond};
 ghost use Prim.Native.Nat.{_+_, _-_, _≤_, _<_, _/_};
 ghost use lib.ListN.{length};
-ghost use Rattle.planner.specs.Costs.{costOf};
+ghost use Rattle.costs.specs.Costs.{costOf};
 ghost use Rattle.planner.specs.Emit.{Stays};
 ghost use Rattle.planner.specs.Choice.{choiceOf, planWords};
 ghost use Rattle.records.specs.Record.{slotWords};

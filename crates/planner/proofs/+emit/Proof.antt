@@ -4,7 +4,7 @@ use mathlib.Core.Path.{_≡_}
 use lib.ListN.{length-set}
 use native.Mathlib.Omega.{arith}
 use Rattle.layout.specs.Chain.{firstOfCost}
-use Rattle.planner.specs.Costs.{costOf}
+use Rattle.costs.specs.Costs.{costOf}
 use Rattle.planner.specs.Emit.{emitted, emitted-stored, first-after, stays-here, stays-next}
 use Prim.Native.Nat.{ℕ, _-_, _<_}
 use borrow.Fn.Kinds.{In}

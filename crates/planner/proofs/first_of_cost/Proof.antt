@@ -6,7 +6,8 @@ use native.Mathlib.Omega.{arith}
 use lib.Dec.{eqb}
 use borrow.Author.Tests.{eq-eqb, ne-eqb}
 use Rattle.search.specs.Search.{least}
-use Rattle.planner.specs.Costs.{costOf, least-here, least-further, least-over}
+use Rattle.search.specs.Parts.{least-at-start, least-further, least-over}
+use Rattle.costs.specs.Costs.{costOf}
 use Rattle.planner.proofs.first_of_cost.Statement.{statement}
 use Rattle.planner.proofs.first_of_cost.Tie as tie
 
@@ -29,7 +30,7 @@ cast-if1 : tie.Need-cast-if1 Inv-loop μ-loop
 cast-if1 c = omega (arith, c .shared-slice-known .given (c .before .before .loop .at))
 
 returns : tie.Need-returns Inv-loop μ-loop
-returns c = sym (least-here _ _ _ (omega arith) (eq-eqb _ _ (c .if1 .taken))) ∙ c .before .before .before .loop .inv
+returns c = sym (least-at-start _ _ _ (omega arith) (eq-eqb _ _ (c .if1 .taken))) ∙ c .before .before .before .loop .inv
 
 add-at : tie.Need-add-at Inv-loop μ-loop
 add-at c = omega arith

@@ -7,7 +7,7 @@ use native.Mathlib.Omega.{arith}
 use lib.ListN.{length}
 use denote.Ref.{now}
 use borrow.Author.Needs.{needs}
-use Rattle.planner.specs.Costs.{costOf}
+use Rattle.costs.specs.Costs.{costOf}
 use Rattle.planner.specs.Choice.{choiceOf}
 use Rattle.records.specs.Record.{slotWords}
 use Rattle.records.specs.Rules.{record-length}

@@ -8,7 +8,7 @@ use native.Mathlib.Omega.{arith}
 use lib.ListN.{drop}
 use denote.Ref.{now}
 use borrow.Author.Needs.{needs}
-use Rattle.planner.specs.Costs.{costOf}
+use Rattle.costs.specs.Costs.{costOf}
 use Rattle.planner.specs.Emit.{Stays}
 use Rattle.planner.specs.Choice.{planWords}
 use Rattle.table.specs.Inserts.{write-short, write-done}

@@ -1,7 +1,7 @@
 -- Costs of positions in one direction, from the ends of their windows alone.
 -- A position's window starts right after it; its end is one past the window's last position, and 0 says that the position is empty.
 use mathlib.Core.Path.{_≡_, sym, ap, ap₂, _∙_}
-use mathlib.Core.Bool.{Bool, true, false, cond}
+use mathlib.Core.Bool.{cond}
 use mathlib.Core.List.{List}
 use Prim.Native.Nat.{ℕ, suc, _+_, _-_, _≤_, _<_, min}
 use native.Mathlib.Numerals.{add-one}
@@ -11,7 +11,6 @@ use lib.Dec.{eqb}
 use lib.ListN.{length, getD, drop, set}
 use lib.Seq.{getD-set-same, getD-set-other}
 use borrow.Author.Tests.{eq-eqb, ne-eqb}
-use Rattle.search.specs.Search.{least}
 use Rattle.layout.specs.Minimum.{minimum, minimum-law, minimum-cong}
 
 -- the cost of a position in a list of costs
@@ -97,16 +96,3 @@ minimum-stored costs slots i v z h l =
     let kept = minimum-cong {c = costOf (set costs (i - 1) v)} {d = costOf costs} slots (slots - i) i (λ j a b. getD-set-other costs (i - 1) j v 0 (λ q. omega arith)) in
     (rw s at (minimum-further (costOf (set costs (i - 1) v)) slots slots (i - 1) (omega arith)))
     ∙ ap₂ min (getD-set-same costs (i - 1) v 0 (omega arith)) kept
-
--- a search counted up: the test holds at this index, fails at it, or no index is left
-pub least-here : (p : ℕ → Bool) (to i : ℕ) → i < to → p i ≡ true → least p (to - i) i ≡ i
-unfolding least
-least-here p to i h t = let e : to - i ≡ suc (to - suc i) = omega arith in rw (e, t)
-
-pub least-further : (p : ℕ → Bool) (to i : ℕ) → i < to → p i ≡ false → least p (to - i) i ≡ least p (to - (i + 1)) (i + 1)
-unfolding least
-least-further p to i h t = let e : to - i ≡ suc (to - suc i) = omega arith in rw (e, t, add-one)
-
-pub least-over : (p : ℕ → Bool) (to i : ℕ) → to ≤ i → least p (to - i) i ≡ i
-unfolding least
-least-over p to i h = let e : to - i ≡ 0 = omega arith in rw e

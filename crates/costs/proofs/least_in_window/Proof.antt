@@ -1,11 +1,11 @@
--- `planner::least_in_window` meets its contract.
+-- `costs::least_in_window` meets its contract.
 -- A window with no position has the minimum `top`; else it is the lesser of the first cost and the minimum of the others.
 use mathlib.Core.Path.{sym}
 use native.Mathlib.Omega.{arith}
 use borrow.Author.Needs.{needs}
-use Rattle.planner.specs.Costs.{costOf, minimum-further, minimum-over}
-use Rattle.planner.proofs.least_in_window.Statement.{statement}
-use Rattle.planner.proofs.least_in_window.Tie as tie
+use Rattle.costs.specs.Costs.{costOf, minimum-further, minimum-over}
+use Rattle.costs.proofs.least_in_window.Statement.{statement}
+use Rattle.costs.proofs.least_in_window.Tie as tie
 
 returns : tie.Need-returns
 returns c = sym (minimum-over _ _ _ _ (c .if1 .taken))

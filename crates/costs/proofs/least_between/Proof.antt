@@ -1,13 +1,13 @@
--- `planner::least_between` meets its contract.
+-- `costs::least_between` meets its contract.
 -- The lesser of what the loop has found and the minimum of the positions from its own on is the whole minimum.
 use mathlib.Core.Path.{_≡_}
 use Prim.Native.Nat.{_-_, _≤_, min}
 use borrow.Author.Needs.{needs}
 use native.Mathlib.Omega.{arith}
 use Rattle.layout.specs.Minimum.{minimum, minimum-law}
-use Rattle.planner.specs.Costs.{costOf, minimum-further, minimum-over}
-use Rattle.planner.proofs.least_between.Statement.{statement}
-use Rattle.planner.proofs.least_between.Tie as tie
+use Rattle.costs.specs.Costs.{costOf, minimum-further, minimum-over}
+use Rattle.costs.proofs.least_between.Statement.{statement}
+use Rattle.costs.proofs.least_between.Tie as tie
 
 abbrev Inv-loop : tie.InvT-loop
 Inv-loop costs from to top at₀ least₀ at least =

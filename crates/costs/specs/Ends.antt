@@ -1,25 +1,44 @@
--- From the ends of a layout's windows, in both directions, to the layout's choice: the law that a planning call cites.
+-- The ends of a layout's windows, in both directions: numbers that satisfy the equation of costs over them are the layout's costs.
 -- Going up the ends are stated by slot, as a table is searched.
-use mathlib.Core.Path.{_≡_}
+use mathlib.Core.Path.{_≡_, ap, _∙_}
 use mathlib.Core.Bool.{Bool, true, false, cond}
 use mathlib.Core.Logic.{_↔_, _⊎_}
 use mathlib.Core.Logic._⊎_.{inl, inr}
 use mathlib.Core.List.{List, reverse}
-use Prim.Native.Nat.{ℕ, _-_, _≤_, _<_}
+use Prim.Native.Nat.{ℕ, suc, _-_, _≤_, _<_}
 use native.Mathlib.Omega.{arith}
 use native.Mathlib.Decide.{decLt}
 use lib.ListN.{length, getD, length-reverse}
 use Rattle.search.specs.Search.{decided}
 use Rattle.layout.specs.Order.{swapped}
-use Rattle.layout.specs.Cost.{windowEnd, window-end, window-end-low, window-end-high, slotCost}
+use Rattle.layout.specs.Minimum.{minimum}
+use Rattle.layout.specs.Cost.{windowEnd, window-end, window-end-low, window-end-high}
 use Rattle.layout.specs.Mirror.{mirror, mirror-twice, getD-reverse, window-mirrored}
-use Rattle.layout.specs.CostLaws.{window-start, window-start-high}
-use Rattle.layout.specs.Plan.{windowStart, downCost, choose}
-use Rattle.planner.specs.Costs.{SolvedFrom}
-use Rattle.planner.specs.Choice.{choiceOf}
-use Rattle.planner.specs.Walked.{Ends, costs-settled}
-use Rattle.planner.specs.Agree.{Agrees, rangeOf, choice-law}
-use Rattle.planner.specs.declared.Range.{Range}
+use Rattle.layout.specs.CostLaws.{down-cost-only, window-start, window-start-high}
+use Rattle.layout.specs.Plan.{windowStart, downCost}
+use Rattle.costs.specs.Costs.{SolvedFrom, cost-vacant, cost-occupied}
+
+-- the ends of a layout's windows, 0 where a position is empty
+abbrev pub Ends : {S : Type 0} → S → (S → Bool) → (S → S → Bool) → List S → List ℕ → Type 0
+Ends empty occupied misplaced t ends =
+    (p : ℕ) → p < length t → getD ends p 0 ≡ cond (occupied (getD t p empty)) (windowEnd empty misplaced t p) 0
+
+module _ {S : Type 0} (empty : S) (occupied : S → Bool) (misplaced : S → S → Bool) (t : List S) where
+  -- numbers that satisfy the equation of costs, over those ends, are the layout's costs
+  pub costs-settled : (ends : List ℕ) (c : ℕ → ℕ) → Ends empty occupied misplaced t ends → SolvedFrom ends (length t) 0 c
+      → (p : ℕ) → p < length t → c p ≡ downCost empty occupied misplaced t p
+  costs-settled ends c e f = down-cost-only empty occupied misplaced t c (λ i b. at i b (decided (occupied (getD t i empty))))
+    where
+      least-in : ℕ → ℕ → ℕ
+      least-in i w = suc (minimum c (length t) (w - suc i) (suc i))
+
+      at : (i : ℕ) → i < length t → (occupied (getD t i empty) ≡ true) ⊎ (occupied (getD t i empty) ≡ false)
+          → c i ≡ cond (occupied (getD t i empty)) (suc (minimum c (length t) (windowEnd empty misplaced t i - suc i) (suc i))) 0
+      at i b (inl o) =
+          let w : getD ends i 0 ≡ windowEnd empty misplaced t i = rw o at (e i b) in
+          rw o (f i (omega arith) b
+          ∙ (cost-occupied ends (length t) c i (λ z. omega (arith, window-end-low empty misplaced t i b)) ∙ ap (least-in i) w))
+      at i b (inr o) = rw o (f i (omega arith) b ∙ cost-vacant ends (length t) c i (rw o at (e i b)))
 
 module _ {S : Type 0} (empty : S) (occupied : S → Bool) (misordered : S → S → Bool) (t : List S) where
   -- no window reaches past the last position
@@ -79,14 +98,3 @@ module _ {S : Type 0} (empty : S) (occupied : S → Bool) (misordered : S → S 
   ends-reversed ends e p b =
       let h : p < length t = omega (arith, length-reverse t) in
       rw (getD-reverse t empty p h, end-reversed p h) (e p h)
-
-  -- costs computed from those ends, over as many slots as the layout has, choose as the layout does
-  pub numbers-law : (n : ℕ) → length t ≡ n → (ends-down ends-up : List ℕ) (down up : ℕ → ℕ) → Ends empty occupied misordered t ends-down
-      → Ends empty occupied (swapped misordered) (reverse t) ends-up → SolvedFrom ends-down n 0 down → SolvedFrom ends-up n 0 up → (below above : Range)
-      → Agrees n down up (choiceOf down up n below above) (choose empty occupied misordered t (rangeOf below) (rangeOf above))
-  unfolding downCost
-  numbers-law n size ends-down ends-up down up e f g h below above =
-      let back : length (reverse t) ≡ length t = length-reverse t in
-      let up-costs : (p : ℕ) → p < length t → up p ≡ slotCost empty occupied (swapped misordered) (length t) (reverse t) p =
-      λ p b. rw back at (costs-settled empty occupied (swapped misordered) (reverse t) ends-up up f (rw (back, size) h) p (omega arith)) in
-      rw (← size) (choice-law empty occupied misordered t down up (costs-settled empty occupied misordered t ends-down down e (rw size g)) up-costs below above)

@@ -1,11 +1,11 @@
--- `planner::position_cost` meets its contract.
+-- `costs::position_cost` meets its contract.
 -- An end of 0 says that the position is empty; else the cost is one more than the least in its window, and fits 16 bits since that is at most the slots.
 use mathlib.Core.Path.{sym}
 use native.Mathlib.Omega.{arith}
 use borrow.Author.Needs.{needs}
-use Rattle.planner.specs.Costs.{cost-vacant, cost-found, cost-to-last, minimum-high}
-use Rattle.planner.proofs.position_cost.Statement.{statement}
-use Rattle.planner.proofs.position_cost.Tie as tie
+use Rattle.costs.specs.Costs.{cost-vacant, cost-found, cost-to-last, minimum-high}
+use Rattle.costs.proofs.position_cost.Statement.{statement}
+use Rattle.costs.proofs.position_cost.Tie as tie
 
 mul-end : tie.Need-mul-end
 mul-end c = search needs

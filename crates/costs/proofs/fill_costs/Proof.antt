@@ -1,4 +1,4 @@
--- `planner::fill_costs` meets its contract.
+-- `costs::fill_costs` meets its contract.
 -- From the loop's position on the equation of costs holds, and a store before that position leaves it so; the least cost from there on is at hand.
 use mathlib.Core.Path.{_≡_, refl, sym, _∙_}
 use Prim.Native.Nat.{_+_, _-_, _≤_}
@@ -7,9 +7,9 @@ use borrow.Author.Needs.{needs}
 use lib.ListN.{length, drop, length-set}
 use lib.Seq.{drop-set-lt}
 use Rattle.layout.specs.Minimum.{minimum}
-use Rattle.planner.specs.Costs.{costOf, SolvedFrom, solved-more, minimum-over, minimum-stored}
-use Rattle.planner.proofs.fill_costs.Statement.{statement}
-use Rattle.planner.proofs.fill_costs.Tie as tie
+use Rattle.costs.specs.Costs.{costOf, SolvedFrom, solved-more, minimum-over, minimum-stored}
+use Rattle.costs.proofs.fill_costs.Statement.{statement}
+use Rattle.costs.proofs.fill_costs.Tie as tie
 
 abbrev Inv-loop : tie.InvT-loop
 Inv-loop ends costs₀ slots position₀ least₀ costs position least =
