@@ -1,66 +1,28 @@
 -- Document 01, "The script program": what a line does to the table, and the bytes that it prints, for every line.
 -- The table is the list of its words; before a good T it has none.
 use mathlib.Core.Path.{_≡_}
-use mathlib.Core.Bool.{Bool, true, false, cond, _&&_}
-use mathlib.Core.List.{List, [], _∷_, _++_}
-use Prim.Native.Nat.{ℕ, _*_, _≤_}
-use lib.Dec.{eqb, leb}
-use lib.ListN.{length, getD, take, drop, replicate}
+use mathlib.Core.Bool.{true, false, cond, _&&_}
+use mathlib.Core.List.{List, _++_}
+use Prim.Native.Nat.{ℕ, _*_}
+use lib.Dec.{leb}
+use lib.ListN.{length, take, drop}
 use Rattle.records.specs.Record.{word}
-use Rattle.records.specs.Checks.{Told, causeNumber}
-use Rattle.records.specs.Writes.{applyWords}
-use Rattle.records.specs.declared.Rule.{Rule}
+use Rattle.records.specs.Checks.{causeNumber}
 use Rattle.records.specs.declared.Cause.the-variants.{Shape, Line}
-use Rattle.records.specs.declared.Check.{Check}
-use Rattle.records.specs.declared.Check.the-variants.{Pass, Fail}
-use Rattle.neighbours.specs.Neighbours.{insertChecks}
 use Rattle.lookups.specs.Lookup.{lookupAnswer}
-use Rattle.table.specs.Inserts.{insertWords}
-use Rattle.plans.specs.Deletes.{deleteChecks, deleteWords}
-use Rattle.carrying.specs.Calls.{afterCalls}
 use Rattle.histories.specs.Histories.{emptyTable}
 use Rattle.lines.specs.Blocks.{Outcome}
 use Rattle.commands.specs.Commands.{commandOf, ruleOf, keyOf}
 use Rattle.commands.specs.declared.Command.{Command}
 use Rattle.commands.specs.declared.Command.the-variants.{Table, Insert, Delete, Lookup, Malformed}
-use Rattle.printing.specs.Lines.{printed}
-use Rattle.answers.specs.Answers.{tableBytes, planBytes, missBytes, refusalBytes}
 use Rattle.printing.specs.Printing.{Shown}
+use Rattle.answers.specs.Answers.{tableBytes}
+use Rattle.operations.specs.Outcomes.{outcome, refused, lookupBytes, insertOutcome, deleteOutcome}
 use Rattle.script.specs.declared.Ran.{Ran}
-
--- a table afterwards, and the bytes printed
-abbrev pub outcome : List ℕ → List ℕ → Outcome (List ℕ)
-outcome table bytes = record { table = table; printed = bytes }
-
--- `R number spot`, and the table as it was
-abbrev pub refused : List ℕ → ℕ → ℕ → Outcome (List ℕ)
-refused t number spot = outcome t (refusalBytes number spot)
 
 -- `T slots` makes an empty table
 unfoldable pub tableOutcome : List ℕ → ℕ → Outcome (List ℕ)
 tableOutcome t slots = cond (leb 1 slots && leb slots 1024) (outcome (emptyTable 2 slots) (tableBytes slots)) (refused t (causeNumber Shape) 0)
-
--- a change with its checks: the plan's words, printed, and the table with all its writes made
-abbrev pub changeOutcome : List ℕ → Check → List ℕ → List ℕ → Outcome (List ℕ)
-changeOutcome t Pass words after = outcome after (planBytes words)
-changeOutcome t (Fail cause spot) words after = refused t (causeNumber cause) spot
-
--- `I id priority pattern action` inserts and carries out
-unfoldable pub insertOutcome : List ℕ → Rule → Outcome (List ℕ)
-insertOutcome t rule = changeOutcome t (insertChecks 2 t rule) (insertWords 2 t rule) (applyWords 2 t rule (insertWords 2 t rule))
-
--- `D id`; its one write puts no rule in
-abbrev pub noRule : Rule
-noRule = record { id = 0; priority = 0; value = 0 ∷ 0 ∷ []; mask = 0 ∷ 0 ∷ []; action = 0 }
-
-unfoldable pub deleteOutcome : List ℕ → ℕ → Outcome (List ℕ)
-deleteOutcome t id = changeOutcome t (deleteChecks 2 t id) (deleteWords 2 t id) (applyWords 2 t noRule (deleteWords 2 t id))
-
--- `A slot id action`, or `M` for a miss, or `R number spot`
-abbrev pub lookupBytes : Told → List ℕ
-lookupBytes told =
-    cond (eqb (told .number) 0) (cond (eqb (length (told .values)) 0) missBytes (printed 65 (told .values)))
-    (refusalBytes (told .number) (getD (told .values) 0 0))
 
 -- `L key`
 abbrev pub lookupOutcome : List ℕ → List ℕ → Outcome (List ℕ)
@@ -88,18 +50,3 @@ pub record Left (told : Outcome (List ℕ)) (ran : Ran) (memory memory′ out ou
   pub slots : ran .slots * 6 ≡ length (told .table)
   pub table : memory′ ≡ told .table ++ drop (length (told .table)) memory
   pub shown : Shown out (told .printed) (ran .length) out′
-
--- What a call that changes the table in place leaves.
-pub record Changed (told : Outcome (List ℕ)) (count : ℕ) (table′ out out′ : List ℕ) : Type 0 where
-  pub table : table′ ≡ told .table
-  pub shown : Shown out (told .printed) count out′
-
--- a planning call's answer, carried out in full and printed: by its number and values
-unfoldable pub planOutcome : Told → List ℕ → List ℕ → Rule → Outcome (List ℕ)
-planOutcome told t plan rule =
-    let count = getD (told .values) 0 0 in
-    cond (eqb (told .number) 0) (outcome (afterCalls 2 t plan rule count count .table) (planBytes (take count plan))) (refused t (told .number) count)
-
--- the words that a planning call counted are in the buffer
-abbrev pub Within : Told → ℕ → Type 0
-Within told room = told .number ≡ 0 → getD (told .values) 0 0 ≤ room

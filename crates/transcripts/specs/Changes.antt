@@ -41,7 +41,8 @@ use Rattle.commands.specs.declared.Command.{Command}
 use Rattle.commands.specs.declared.Command.the-variants.{Table, Insert, Delete, Lookup, Malformed}
 use Rattle.printing.specs.Lines.{printed}
 use Rattle.answers.specs.Answers.{tableBytes, printedWrites, planBytes, hitBytes, missBytes, refusalBytes}
-use Rattle.script.specs.Script.{refused, changeOutcome, lookupBytes, tableOutcome, insertOutcome, deleteOutcome, commandOutcome, lineOutcome, noRule}
+use Rattle.operations.specs.Outcomes.{refused, changeOutcome, lookupBytes, insertOutcome, deleteOutcome, noRule}
+use Rattle.script.specs.Script.{tableOutcome, commandOutcome, lineOutcome}
 
 -- an insert that a line tells has an action of 32 bits
 abbrev Small : Command → Type 0

@@ -26,7 +26,8 @@ use Rattle.lines.specs.Blocks.{answered}
 use Rattle.fields.specs.Fields.{isNumber, binary, symbolWord}
 use Rattle.commands.specs.Commands.{letterOf, tableCommand, insertCommand, deleteCommand, lookupCommand, shortCommand, longCommand, commandOf}
 use Rattle.answers.specs.Answers.{printedWrites, planBytes}
-use Rattle.script.specs.Script.{tableOutcome, insertOutcome, deleteOutcome}
+use Rattle.operations.specs.Outcomes.{insertOutcome, deleteOutcome}
+use Rattle.script.specs.Script.{tableOutcome}
 use Rattle.transcripts.specs.Whole.{scriptOutcome}
 
 -- T 6, I 1 30 11* 7, ..., L 1000, each with its newline

@@ -8,8 +8,10 @@ use Rattle.records.specs.Record.{word}
 use Rattle.records.specs.declared.Rule.{Rule}
 use Rattle.lookups.specs.Lookup.{lookupAnswer}
 use Rattle.table.specs.Inserts.{insertAnswer}
-use Rattle.script.specs.Told.{changeTold, lookedTold, commandTold}
-use Rattle.script.specs.Script.{insertOutcome, lookupOutcome, commandOutcome, tableIn}
+use Rattle.operations.specs.Told.{changeTold, lookedTold}
+use Rattle.operations.specs.Outcomes.{insertOutcome}
+use Rattle.script.specs.Told.{commandTold}
+use Rattle.script.specs.Script.{lookupOutcome, commandOutcome, tableIn}
 use Rattle.script.specs.Laws.{left-is, left-malformed}
 use borrow.Author.Needs.{needs}
 use Rattle.script.proofs.run_command.Statement.{statement}

@@ -1,12 +1,12 @@
--- `script::print_lookup` meets its contract.
+-- `operations::print_lookup` meets its contract.
 -- Each answer is printed as its case says.
 use mathlib.Core.Path.{sym, ap, _∙_}
 use Rattle.lookups.specs.Lookup.{lookupTold}
-use Rattle.script.specs.Script.{lookupBytes}
-use Rattle.script.specs.Laws.{shown-is, bytes-refused}
+use Rattle.operations.specs.Outcomes.{lookupBytes}
+use Rattle.operations.specs.Laws.{shown-is, bytes-refused}
 use borrow.Author.Needs.{needs}
-use Rattle.script.proofs.print_lookup.Statement.{statement}
-use Rattle.script.proofs.print_lookup.Tie as tie
+use Rattle.operations.proofs.print_lookup.Statement.{statement}
+use Rattle.operations.proofs.print_lookup.Tie as tie
 
 enum-known-answer : tie.Need-enum-known-answer
 enum-known-answer c = search needs

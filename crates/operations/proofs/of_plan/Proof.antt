@@ -1,12 +1,12 @@
--- `script::of_plan` meets its contract.
+-- `operations::of_plan` meets its contract.
 -- Number and values stay.
 use mathlib.Core.Path.{sym, ap, _∙_}
 use Rattle.plans.specs.declared.PlanAnswer.{PlanAnswer}
 use Rattle.plans.specs.Plans.{planTold}
-use Rattle.script.specs.Told.{changeTold, change-refused}
+use Rattle.operations.specs.Told.{changeTold, change-refused}
 use borrow.Author.Needs.{needs}
-use Rattle.script.proofs.of_plan.Statement.{statement}
-use Rattle.script.proofs.of_plan.Tie as tie
+use Rattle.operations.proofs.of_plan.Statement.{statement}
+use Rattle.operations.proofs.of_plan.Tie as tie
 
 enum-known-answer : tie.Need-enum-known-answer
 enum-known-answer c = search needs

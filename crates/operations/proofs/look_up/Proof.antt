@@ -1,12 +1,12 @@
--- `script::look_up` meets its contract.
+-- `operations::look_up` meets its contract.
 -- The answer is the lookup's, and is printed.
 use mathlib.Core.Path.{ap, _∙_}
-use Rattle.script.specs.Script.{lookupBytes}
-use Rattle.script.specs.Laws.{shown-is}
-use Rattle.script.specs.Told.{lookedTold}
+use Rattle.operations.specs.Outcomes.{lookupBytes}
+use Rattle.operations.specs.Laws.{shown-is}
+use Rattle.operations.specs.Told.{lookedTold}
 use borrow.Author.Needs.{needs}
-use Rattle.script.proofs.look_up.Statement.{statement}
-use Rattle.script.proofs.look_up.Tie as tie
+use Rattle.operations.proofs.look_up.Statement.{statement}
+use Rattle.operations.proofs.look_up.Tie as tie
 
 lookup-requires : tie.Need-lookup-requires
 lookup-requires c κs = search needs

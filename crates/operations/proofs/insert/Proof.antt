@@ -1,14 +1,14 @@
--- `script::insert` meets its contract.
+-- `operations::insert` meets its contract.
 -- The plan is carried out and printed, and the answer is the planning call's.
 use mathlib.Core.Path.{ap, _∙_}
 use native.Mathlib.Omega.{arith}
 use denote.Ref.{now}
 use Rattle.table.specs.Inserts.{insertAnswer}
-use Rattle.script.specs.Laws.{insert-is, changed-is}
-use Rattle.script.specs.Told.{changeTold}
+use Rattle.operations.specs.Laws.{insert-is, changed-is}
+use Rattle.operations.specs.Told.{changeTold}
 use borrow.Author.Needs.{needs}
-use Rattle.script.proofs.insert.Statement.{statement}
-use Rattle.script.proofs.insert.Tie as tie
+use Rattle.operations.proofs.insert.Statement.{statement}
+use Rattle.operations.proofs.insert.Tie as tie
 
 plan-insert-requires : tie.Need-plan-insert-requires
 plan-insert-requires c κs = search needs

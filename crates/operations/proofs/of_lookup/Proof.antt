@@ -1,12 +1,12 @@
--- `script::of_lookup` meets its contract.
+-- `operations::of_lookup` meets its contract.
 -- Number and values stay.
 use mathlib.Core.Path.{sym, ap, _∙_}
 use Rattle.lookups.specs.declared.LookupAnswer.{LookupAnswer}
 use Rattle.lookups.specs.Lookup.{lookupTold}
-use Rattle.script.specs.Told.{lookedTold, looked-refused}
+use Rattle.operations.specs.Told.{lookedTold, looked-refused}
 use borrow.Author.Needs.{needs}
-use Rattle.script.proofs.of_lookup.Statement.{statement}
-use Rattle.script.proofs.of_lookup.Tie as tie
+use Rattle.operations.proofs.of_lookup.Statement.{statement}
+use Rattle.operations.proofs.of_lookup.Tie as tie
 
 enum-known-answer : tie.Need-enum-known-answer
 enum-known-answer c = search needs

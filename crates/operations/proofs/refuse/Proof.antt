@@ -1,12 +1,12 @@
--- `script::refuse` meets its contract.
+-- `operations::refuse` meets its contract.
 -- The number printed is the cause's.
 use mathlib.Core.Path.{ap}
 use Prim.Native.Nat.{ℕ}
 use Rattle.answers.specs.Answers.{refusalBytes}
-use Rattle.script.specs.Laws.{shown-is}
+use Rattle.operations.specs.Laws.{shown-is}
 use borrow.Author.Needs.{needs}
-use Rattle.script.proofs.refuse.Statement.{statement}
-use Rattle.script.proofs.refuse.Tie as tie
+use Rattle.operations.proofs.refuse.Statement.{statement}
+use Rattle.operations.proofs.refuse.Tie as tie
 
 cause-number-requires : tie.Need-cause-number-requires
 cause-number-requires c κs = search needs

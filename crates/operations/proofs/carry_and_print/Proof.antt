@@ -1,16 +1,16 @@
--- `script::carry_and_print` meets its contract.
+-- `operations::carry_and_print` meets its contract.
 -- Both cases of the answer: the plan carried out and printed, or the refusal.
 use mathlib.Core.Path.{refl, sym, ap, subst}
 use lib.ListN.{length}
 use lib.Seq.{length-take-le}
 use Rattle.records.specs.Checks.{Told}
-use Rattle.script.specs.Script.{Within}
+use Rattle.operations.specs.Outcomes.{Within}
 use denote.Ref.{now}
 use Rattle.plans.specs.Plans.{planTold}
-use Rattle.script.specs.Laws.{changed-planned, changed-refused}
+use Rattle.operations.specs.Laws.{changed-planned, changed-refused}
 use borrow.Author.Needs.{needs}
-use Rattle.script.proofs.carry_and_print.Statement.{statement}
-use Rattle.script.proofs.carry_and_print.Tie as tie
+use Rattle.operations.proofs.carry_and_print.Statement.{statement}
+use Rattle.operations.proofs.carry_and_print.Tie as tie
 
 enum-known-answer : tie.Need-enum-known-answer
 enum-known-answer c = search needs

@@ -1,14 +1,14 @@
--- `script::delete` meets its contract.
+-- `operations::delete` meets its contract.
 -- The plan is carried out and printed, and the answer is the planning call's.
 use mathlib.Core.Path.{ap, _∙_}
 use native.Mathlib.Omega.{arith}
 use denote.Ref.{now}
 use Rattle.plans.specs.Deletes.{deleteAnswer}
-use Rattle.script.specs.Laws.{delete-is, changed-is}
-use Rattle.script.specs.Told.{changeTold}
+use Rattle.operations.specs.Laws.{delete-is, changed-is}
+use Rattle.operations.specs.Told.{changeTold}
 use borrow.Author.Needs.{needs}
-use Rattle.script.proofs.delete.Statement.{statement}
-use Rattle.script.proofs.delete.Tie as tie
+use Rattle.operations.proofs.delete.Statement.{statement}
+use Rattle.operations.proofs.delete.Tie as tie
 
 plan-delete-requires : tie.Need-plan-delete-requires
 plan-delete-requires c κs = search needs
