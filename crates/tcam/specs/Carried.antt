@@ -1,38 +1,13 @@
 -- A plan carried out through a lent progress record: the result of the call, and what it leaves.
 -- The answer, the table and the writes done are the step's, at two words of value.
-use mathlib.Core.Path.{_≡_, refl, sym, ap, ap₂, _∙_}
-use mathlib.Core.Bool.{true, false, cond, true≢false}
+use mathlib.Core.Path.{_≡_, ap₂, _∙_}
 use mathlib.Core.List.{List}
-use Prim.Native.Nat.{ℕ, zero, suc, _+_, _*_, _/_, _%_, _≤_, _<_}
-use native.Mathlib.Omega.{arith}
-use lib.Dec.{eqb}
-use lib.ListN.{length, getD}
-use Rattle.records.specs.Checks.{Told, causeNumber, refusal}
-use Rattle.records.specs.Laws.{cause-not-zero, cause-number-once}
-use Rattle.records.specs.declared.Cause.{Cause}
-use Rattle.records.specs.declared.Cause.the-variants.{Shape, Record, Twice, Order, Rule as RuleCause, Known, Unknown, Tie, Full, Crossed, Short, Write, Line, Image}
+use Prim.Native.Nat.{ℕ, suc}
 use Rattle.records.specs.declared.Rule.{Rule}
-use Rattle.carrying.specs.Carrying.{stepTold, stepAnswer, stepTable, stepDone}
-use Rattle.carrying.specs.Steps.{doneTold, done-told}
+use Rattle.carrying.specs.Carrying.{stepAnswer, stepTable, stepDone}
 use Rattle.carrying.specs.Calls.{afterCalls, callAnswer}
-use Rattle.carrying.specs.declared.StepInfo.{StepInfo}
-use Rattle.carrying.specs.declared.StepAnswer.{StepAnswer}
-use Rattle.carrying.specs.declared.StepAnswer.the-variants.{Wrote, Finished, Refused}
-use Rattle.tcam.specs.declared.carry.Carried.{Carried}
+use Rattle.marshalling.specs.Carried.{carryResult}
 use Rattle.tcam.specs.declared.carry.Progress.{Progress}
-
--- the number that tells a step's answer: 0 where a write is done, 2^32 − 1 for "finished", the success without values, and for a refusal
--- its number + its spot × 2^32; so that the lower half alone tells the three apart
-abbrev pub carryResult : Told → ℕ
-carryResult told =
-    cond (eqb (told .number) 0) (cond (eqb (length (told .values)) 0) 4294967295 0) (told .number + getD (told .values) 0 0 * 4294967296)
-
--- the writes done after a step, and its answer as a number
-abbrev pub carriedStep : List ℕ → List ℕ → Rule → ℕ → ℕ → Carried
-carriedStep t plan rule done total = record {
-  done = stepDone 2 t plan rule done total;
-  result = carryResult (stepAnswer 2 t plan rule done total);
-}
 
 -- What carrying out leaves: its result, the table and the progress record, before and after.
 pub record CarryLeft (t plan : List ℕ) (rule : Rule) (progress : Progress) (result : ℕ) (after : List ℕ) (progress′ : Progress) : Type 0 where
@@ -40,99 +15,6 @@ pub record CarryLeft (t plan : List ℕ) (rule : Rule) (progress : Progress) (re
   pub table : after ≡ stepTable 2 t plan rule (progress .done) (progress .total)
   pub advanced : progress′ .done ≡ stepDone 2 t plan rule (progress .done) (progress .total)
   pub in-all : progress′ .total ≡ progress .total
-
--- each case of an answer has its number
-pub carry-wrote : (info : StepInfo) → carryResult (stepTold (Wrote info)) ≡ 0
-carry-wrote info = refl
-
-pub carry-finished : carryResult (stepTold Finished) ≡ 4294967295
-carry-finished = refl
-
-pub carry-refused : (cause : Cause) (spot : ℕ) → carryResult (stepTold (Refused cause spot)) ≡ causeNumber cause + spot * 4294967296
-carry-refused cause spot = rw (cause-not-zero cause)
-
-cause-small : (cause : Cause) → causeNumber cause ≤ 14
-cause-small Shape = omega arith
-cause-small Record = omega arith
-cause-small Twice = omega arith
-cause-small Order = omega arith
-cause-small RuleCause = omega arith
-cause-small Known = omega arith
-cause-small Unknown = omega arith
-cause-small Tie = omega arith
-cause-small Full = omega arith
-cause-small Crossed = omega arith
-cause-small Short = omega arith
-cause-small Write = omega arith
-cause-small Line = omega arith
-cause-small Image = omega arith
-
--- a refusal's number and spot are the halves of it
-pub carry-halves : (cause : Cause) (spot : ℕ) → spot < 4294967296
-    → (carryResult (stepTold (Refused cause spot)) % 4294967296 ≡ causeNumber cause) × (carryResult (stepTold (Refused cause spot)) / 4294967296 ≡ spot)
-carry-halves cause spot f =
-    let e = carry-refused cause spot in
-    let low = cause-small cause in
-    (omega (arith, e, low), omega (arith, e, low))
-
--- a spot is a number of 32 bits
-abbrev pub SpotFits : StepAnswer → Type 0
-SpotFits (Wrote info) = Unit {0}
-SpotFits Finished = Unit {0}
-SpotFits (Refused cause spot) = spot < 4294967296
-
--- two answers are the same case, with the same cause and spot
-abbrev pub SameCase : StepAnswer → StepAnswer → Type 0
-SameCase (Wrote info) (Wrote other) = Unit {0}
-SameCase (Wrote info) Finished = ⊥
-SameCase (Wrote info) (Refused cause spot) = ⊥
-SameCase Finished (Wrote other) = ⊥
-SameCase Finished Finished = Unit {0}
-SameCase Finished (Refused cause spot) = ⊥
-SameCase (Refused cause spot) (Wrote other) = ⊥
-SameCase (Refused cause spot) Finished = ⊥
-SameCase (Refused cause spot) (Refused other place) = (cause ≡ other) × (spot ≡ place)
-
--- a cause's number is neither 0 nor as large as that of "finished"
-cause-some : (cause : Cause) → 0 < causeNumber cause
-cause-some cause = by (causeNumber cause) (cause-not-zero cause)
-  where
-    by : (n : ℕ) → eqb n 0 ≡ false → 0 < n
-    by zero e = absurd (true≢false e)
-    by (suc n) e = omega arith
-
--- answers with one number are the same case
-pub carry-result-once : (a b : StepAnswer) → SpotFits a → SpotFits b → carryResult (stepTold a) ≡ carryResult (stepTold b) → SameCase a b
-carry-result-once (Wrote info) (Wrote other) f g e = tt
-carry-result-once (Wrote info) Finished f g e = omega (arith, e)
-carry-result-once (Wrote info) (Refused cause spot) f g e = omega (arith, e ∙ carry-refused cause spot, cause-some cause, cause-small cause)
-carry-result-once Finished (Wrote other) f g e = omega (arith, e)
-carry-result-once Finished Finished f g e = tt
-carry-result-once Finished (Refused cause spot) f g e = omega (arith, e ∙ carry-refused cause spot, cause-some cause, cause-small cause)
-carry-result-once (Refused cause spot) (Wrote other) f g e = omega (arith, sym e ∙ carry-refused cause spot, cause-some cause, cause-small cause)
-carry-result-once (Refused cause spot) Finished f g e = omega (arith, sym e ∙ carry-refused cause spot, cause-some cause, cause-small cause)
-carry-result-once (Refused cause spot) (Refused other place) f g e =
-    let same = sym (carry-refused cause spot) ∙ (e ∙ carry-refused other place) in
-    (cause-number-once cause other (omega (arith, same, cause-small cause, cause-small other)), omega (arith, same, cause-small cause, cause-small other))
-
--- the writes done after an answer, and the number that tells it
-abbrev pub carriedTold : Told → ℕ → Carried
-carriedTold told before = record { done = doneTold told before; result = carryResult told }
-
-pub carried-refused : (cause : Cause) (spot done : ℕ) {n : ℕ} → n ≡ causeNumber cause
-    → _≡_ {A = Carried} (record { done = done; result = n + spot * 4294967296 }) (carriedTold (refusal cause spot) done)
-carried-refused cause spot done e = rw (e, cause-not-zero cause)
-
--- what is told of a step, with the rule given, is what the call tells
-pub carry-ends : (t plan : List ℕ) {rule given : Rule} (done total : ℕ) {told : Told} {after : List ℕ} {carried : Carried} → rule ≡ given
-    → told ≡ stepAnswer 2 t plan rule done total → after ≡ stepTable 2 t plan rule done total → carried ≡ carriedTold told done
-    → (carried ≡ carriedStep t plan given done total) × (after ≡ stepTable 2 t plan given done total)
-carry-ends t plan {rule} done total same e f m =
-    let d = ap (λ (x : Told). doneTold x done) e ∙ done-told 2 t plan rule done total in
-    let n = ap carryResult e in (
-      m ∙ ((λ i. record { done = d i; result = n i }) ∙ ap (λ (r : Rule). carriedStep t plan r done total) same),
-      f ∙ ap (λ (r : Rule). stepTable 2 t plan r done total) same,
-    )
 
 -- calls one after the other: on the state after so many calls of a plan the call tells the answer, and leaves the state after one more
 pub carry-call : (t plan : List ℕ) (rule : Rule) (total calls result : ℕ) (after : List ℕ) (progress progress′ : Progress)

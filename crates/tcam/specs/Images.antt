@@ -9,7 +9,8 @@ use Rattle.image.specs.Format.{imageBytes, ruleCount}
 use Rattle.image.specs.Answers.{saveAnswer, saveBuffer, loadAnswer, loadTable}
 use Rattle.image.specs.Reading.{Words64}
 use Rattle.image.specs.RoundTrip.{save-number, narrow-two, saved-loads}
-use Rattle.tcam.specs.Cells.{dataCell, spotCell, PlanLeft}
+use Rattle.marshalling.specs.Cells.{dataCell, spotCell}
+use Rattle.tcam.specs.Cells.{PlanLeft}
 
 -- a save: its number, the image buffer, the cell for the bytes and the cell for a refusal's spot
 abbrev pub SaveLeft : List ℕ → ℕ → List ℕ → List ℕ → ℕ → ℕ → ℕ → ℕ → Type 0

@@ -5,14 +5,14 @@ pub mod images;
 
 ghost use mathlib.Core.Path.{_≡_};
 ghost use Rattle.lookups.specs.Lookup.{partStart, partLength};
-ghost use Rattle.plans.specs.Plans.{planTold};
-ghost use Rattle.tcam.specs.Cells.{keyAnswer, dataCell, spotCell, ruleFrom, InsertLeft, DeleteLeft};
+ghost use Rattle.marshalling.specs.Cells.{dataCell, spotCell, ruleFrom};
+ghost use Rattle.tcam.specs.Cells.{keyAnswer, InsertLeft, DeleteLeft};
 use lookups::LookupAnswer;
 use lookups::lookup::lookup;
 use lookups::lookup::slot_record;
-use plans::PlanAnswer;
+use marshalling::rule_from;
+use marshalling::spread;
 use plans::deletes::plan_delete;
-use records::Rule;
 use records::cause_number;
 use table::inserts::plan_insert;
 
@@ -66,45 +66,6 @@ pub extern "C" fn tcam_slot_record(table: &[u64], slot: u32, first: &mut u32) ->
     }
     *first = slot * 6;
     6
-}
-
-// A rule from the numbers that cross.
-pub(crate) fn rule_from(
-    id: u32,
-    priority: u32,
-    value_high: u64,
-    value_low: u64,
-    mask_high: u64,
-    mask_low: u64,
-    action: u32,
-) -> Rule
-    ensures { λ r. ⌜ r ≡ ruleFrom id priority «value_high» «value_low» «mask_high» «mask_low» action ⌝ }
-{
-    Rule {
-        id,
-        priority,
-        value: [value_high, value_low],
-        mask: [mask_high, mask_low],
-        action,
-    }
-}
-
-// A planning call's answer, spread over its number and the lent cells.
-fn spread(answer: PlanAnswer, count: &mut u32, spot: &mut u32) -> u32
-    ensures { λ r. ⌜ r ≡ planTold answer .number ⌝ }
-    ensures { λ _. ⌜ now (count .exit) ≡ dataCell (planTold answer) 0 (now (count .entry)) ⌝ }
-    ensures { λ _. ⌜ now (spot .exit) ≡ spotCell (planTold answer) (now (spot .entry)) ⌝ }
-{
-    match answer {
-        PlanAnswer::Planned(info) => {
-            *count = info.count;
-            0
-        }
-        PlanAnswer::Refused(cause, at) => {
-            *spot = at;
-            cause_number(cause)
-        }
-    }
 }
 
 // The shortest plan of an insert, into the lent buffer: its count, or a refusal.

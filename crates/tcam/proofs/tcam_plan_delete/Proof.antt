@@ -4,7 +4,7 @@ use mathlib.Core.Path.{ap, _∙_}
 use denote.Ref.{now}
 use borrow.Author.Needs.{needs}
 use Rattle.records.specs.Checks.{Told}
-use Rattle.tcam.specs.Cells.{dataCell, spotCell}
+use Rattle.marshalling.specs.Cells.{dataCell, spotCell}
 use Rattle.tcam.proofs.tcam_plan_delete.Statement.{statement}
 use Rattle.tcam.proofs.tcam_plan_delete.Tie as tie
 

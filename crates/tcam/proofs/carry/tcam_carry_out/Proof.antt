@@ -42,18 +42,19 @@ use denote.Triple.Walked.{says, Stays, stay-ref, stay-none, stay-none-slice, gav
 use denote.Exit.{yes}
 use Rattle.carrying.specs.Carrying.{stepTable}
 use Rattle.records.specs.declared.Rule.{Rule}
-use Rattle.tcam.specs.Cells.{ruleFrom}
-use Rattle.tcam.specs.Carried.{carriedStep, CarryLeft}
+use Rattle.marshalling.specs.Cells.{ruleFrom}
+use Rattle.marshalling.specs.Carried.{carriedStep}
+use Rattle.marshalling.specs.declared.Carried.{Carried}
+use Rattle.marshalling.proofs.Carried as S
+use Rattle.marshalling.proofs.Carried.Laws as S′
+use Rattle.marshalling.proofs.carry as callee
+use Rattle.marshalling.proofs.carry.Symbol as callee-def
+use Rattle.marshalling.proofs.carry.Symbol.{name as #carry}
+use Rattle.marshalling.proofs.carry.Met as callee-thm
+use Rattle.tcam.specs.Carried.{CarryLeft}
 use Rattle.tcam.specs.declared.carry.Progress.{Progress}
-use Rattle.tcam.specs.declared.carry.Carried.{Carried}
-use Rattle.tcam.proofs.carry.Carried as S
-use Rattle.tcam.proofs.carry.Carried.Laws as S′
 use Rattle.tcam.proofs.carry.Progress as T
 use Rattle.tcam.proofs.carry.Progress.Laws as T′
-use Rattle.tcam.proofs.carry.carry as callee
-use Rattle.tcam.proofs.carry.carry.Symbol as callee-def
-use Rattle.tcam.proofs.carry.carry.Symbol.{name as #carry}
-use Rattle.tcam.proofs.carry.carry.Met as callee-thm
 use Rattle.tcam.proofs.carry.tcam_carry_out.Key.{name as #tcam-carry-out}
 use Rattle.tcam.proofs.carry.tcam_carry_out as f
 use Rattle.tcam.proofs.carry.tcam_carry_out.Statement as stated
@@ -272,4 +273,4 @@ tcam-carry-out-spec 𝓤 H 𝓜 𝓖 𝓡 =
     entered 𝓤 H (tripleOf 𝓤 H (𝓖 .A) f.signature (f.spec 𝓤 H (𝓖 .A) (𝓜 .mem) (𝓡 .run)))
     (tables 𝓤 H 𝓜 𝓡 code.env .C) (tables 𝓤 H 𝓜 𝓡 code.env .Λ) #tcam-carry-out code.function (code.unfolded 𝓤 H 𝓜 𝓡)
     (carry-out-meets 𝓤 H (𝓖 .A) (givenOf 𝓤 H 𝓜 𝓖) (𝓜 .mem) (𝓡 .run) (tablesOf 𝓤 H 𝓜 (tables 𝓤 H 𝓜 𝓡 code.env))
-    (cited 𝓤 H (Carry 𝓤 H (𝓖 .A) (𝓜 .mem) (𝓡 .run)) 𝓜 𝓡 code.env #carry callee-def.routine code.calls-tcam·carry·carry (callee-thm.met 𝓤 H 𝓜 𝓖 𝓡)))
+    (cited 𝓤 H (Carry 𝓤 H (𝓖 .A) (𝓜 .mem) (𝓡 .run)) 𝓜 𝓡 code.env #carry callee-def.routine code.calls-marshalling·carry (callee-thm.met 𝓤 H 𝓜 𝓖 𝓡)))

@@ -4,7 +4,7 @@ use mathlib.Core.Path.{sym, ap, _∙_}
 use denote.Ref.{now}
 use Rattle.records.specs.Checks.{Told}
 use Rattle.image.specs.Answers.{loadTold}
-use Rattle.tcam.specs.Cells.{spotCell, refusal-put}
+use Rattle.marshalling.specs.Cells.{spotCell, refusal-put}
 use borrow.Author.Needs.{needs}
 use Rattle.tcam.proofs.images.tcam_load.Statement.{statement}
 use Rattle.tcam.proofs.images.tcam_load.Tie as tie

@@ -4,7 +4,7 @@ use mathlib.Core.Path.{sym, ap, _∙_}
 use denote.Ref.{now}
 use Rattle.records.specs.Checks.{Told}
 use Rattle.image.specs.Answers.{saveTold}
-use Rattle.tcam.specs.Cells.{dataCell, spotCell, refusal-kept, refusal-put}
+use Rattle.marshalling.specs.Cells.{dataCell, spotCell, refusal-kept, refusal-put}
 use borrow.Author.Needs.{needs}
 use Rattle.tcam.proofs.images.tcam_save.Statement.{statement}
 use Rattle.tcam.proofs.images.tcam_save.Tie as tie

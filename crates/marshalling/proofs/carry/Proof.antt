@@ -1,12 +1,12 @@
--- `tcam::carry::carry` meets its contract.
+-- `marshalling::carry` meets its contract.
 -- Each case of the step's answer has its number and its writes done.
 use mathlib.Core.Path.{refl, sym, ap, _∙_}
 use denote.Ref.{now}
 use borrow.Author.Needs.{needs}
 use Rattle.carrying.specs.Carrying.{stepTold}
-use Rattle.tcam.specs.Carried.{carried-refused, carry-ends}
-use Rattle.tcam.proofs.carry.carry.Statement.{statement}
-use Rattle.tcam.proofs.carry.carry.Tie as tie
+use Rattle.marshalling.specs.Carried.{carried-refused, carry-ends}
+use Rattle.marshalling.proofs.carry.Statement.{statement}
+use Rattle.marshalling.proofs.carry.Tie as tie
 
 rule-from-requires : tie.Need-rule-from-requires
 rule-from-requires c κs = search needs

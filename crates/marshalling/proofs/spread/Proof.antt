@@ -1,13 +1,13 @@
--- `tcam::spread` meets its contract.
+-- `marshalling::spread` meets its contract.
 -- Each case of the answer has its number and its cells.
 use mathlib.Core.Path.{sym, ap, _∙_}
 use denote.Ref.{now}
 use borrow.Author.Needs.{needs}
 use Rattle.records.specs.Checks.{Told}
 use Rattle.plans.specs.Plans.{planTold}
-use Rattle.tcam.specs.Cells.{dataCell, spotCell, refusal-kept, refusal-put}
-use Rattle.tcam.proofs.spread.Statement.{statement}
-use Rattle.tcam.proofs.spread.Tie as tie
+use Rattle.marshalling.specs.Cells.{dataCell, spotCell, refusal-kept, refusal-put}
+use Rattle.marshalling.proofs.spread.Statement.{statement}
+use Rattle.marshalling.proofs.spread.Tie as tie
 
 enum-known-answer : tie.Need-enum-known-answer
 enum-known-answer c = search needs
