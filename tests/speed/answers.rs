@@ -1,24 +1,10 @@
-// What the two Rust versions share: refusals, rules, the progress record, and the form in which their calls cross to C.
+// What the Rust versions share: refusals, rules, the progress record, and the form in which their calls cross to C.
 // `export_calls` turns lent pointers into slices and answers into numbers and cells; all else is the versions' own.
 
-pub const SLOTS_MOST: usize = 1024;
-pub const PRIORITY_MOST: u64 = 65_535;
-pub const PUT_IN: u32 = 65_535;
-pub const EMPTYING: u32 = 65_534;
-
-pub const SHAPE: u32 = 1;
-pub const RECORD: u32 = 2;
-pub const TWICE: u32 = 3;
-pub const ORDER: u32 = 4;
-pub const RULE: u32 = 5;
-pub const KNOWN: u32 = 6;
-pub const UNKNOWN: u32 = 7;
-pub const TIE: u32 = 8;
-pub const FULL: u32 = 9;
-pub const CROSSED: u32 = 10;
-pub const SHORT: u32 = 11;
-pub const WRITE: u32 = 12;
-pub const IMAGE: u32 = 14;
+pub use reference::plan::{EMPTYING, PUT_IN};
+pub use reference::table::{
+    CROSSED, FULL, IMAGE, KNOWN, ORDER, PRIORITY_MOST, RECORD, RULE, SHAPE, SHORT, SLOTS_MOST, TIE, TWICE, UNKNOWN, WRITE,
+};
 
 /// A number and a spot.
 pub struct Refusal {

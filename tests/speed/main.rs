@@ -1,6 +1,9 @@
 // The speed comparison: this library beside tests/reference, safe Rust, unchecked Rust and C, all on the same tables.
 // Flags: --self-check, --times [--rounds N], --instructions [--every-table]; --calls is what --instructions runs under callgrind.
 
+// the numbers of refusals are for the versions that make the checks themselves
+#[allow(dead_code, unused_imports)]
+mod answers;
 mod cases;
 mod edits;
 mod inputs;
