@@ -2,14 +2,31 @@
 // The paper's addresses run from the losing end to the winning one, so its one way is up here, toward lower slots.
 
 use crate::memory::{Chain, Memory, NoPlan};
+use crate::workload::Free;
 use reference::table::Rule;
 
-/// Up is the way of the paper's text, with the free space at the winning end; down is its mirror, for free space at the losing
-/// end ("top or bottom, depending on the arrangement", section V-A).
+/// Up is the way of the paper's text, with the free space at the winning end; down is its mirror, for free space at the
+/// losing end ("top or bottom, depending on the arrangement", section V-A).
 #[derive(Clone, Copy, Debug, PartialEq, Eq)]
 pub enum Way {
     Up,
     Down,
+}
+
+impl Way {
+    pub fn toward(free: Free) -> Way {
+        match free {
+            Free::First => Way::Up,
+            Free::Last => Way::Down,
+        }
+    }
+
+    pub fn turned(self) -> Way {
+        match self {
+            Way::Up => Way::Down,
+            Way::Down => Way::Up,
+        }
+    }
 }
 
 /// The metric M: the number of rules on the path from a slot's rule that always goes on to the nearest rule it depends
@@ -34,6 +51,13 @@ impl Metric<'_> {
         self.known[slot] = Some(metric);
         metric
     }
+
+    /// The candidate of least metric, by "M(k) <= h" (lines 5 to 9) the last of equals, which several empty ones are too.
+    /// An empty one is looked for first since its metric is 0 and a rule's at least 1: then no path need be followed.
+    fn last_of_least(&mut self, candidates: &[usize]) -> Option<usize> {
+        let empty = candidates.iter().rev().find(|&&slot| self.memory.slots[slot].is_none());
+        empty.copied().or_else(|| candidates.iter().rev().copied().min_by_key(|&slot| self.of(slot)))
+    }
 }
 
 impl Memory {
@@ -54,10 +78,9 @@ impl Memory {
 }
 
 /// Candidates for the new rule are the slots past f_a's up to and with f_b's, for a displaced rule those past its own
-/// up to and with that of the nearest rule it depends on, or to the memory's end if there is none. Of them the one of
-/// least metric is taken, by "M(k) <= h" the last of equals; a chain ends where an empty slot is a candidate.
-/// The paper doesn't say which of several empty candidates is taken: here the nearest, which keeps its layout (rules together,
-/// free space at one end), on which its propositions 1 and 2 rest.
+/// up to and with that of the nearest rule it depends on, or to the memory's end if there is none.
+/// The chain ends where an empty slot is taken, as in figure 3 and proof 2; by line 10 alone it would end at a rule that
+/// depends on none, and lose that rule.
 pub fn greedy(memory: &Memory, new: &Rule, way: Way) -> Result<Chain, NoPlan> {
     let (a, b) = (memory.highest_preceding(new), memory.lowest_dependant(new));
     if let (Some(a), Some(b)) = (a, b) {
@@ -73,13 +96,11 @@ pub fn greedy(memory: &Memory, new: &Rule, way: Way) -> Result<Chain, NoPlan> {
     let mut candidates = memory.beyond(start, limit, way);
     let mut chain = Vec::new();
     loop {
-        if let Some(&empty) = candidates.iter().find(|&&slot| memory.slots[slot].is_none()) {
-            chain.push(empty);
+        let slot = metric.last_of_least(&candidates).ok_or(NoPlan::NoRoom)?;
+        chain.push(slot);
+        if memory.slots[slot].is_none() {
             return Ok(chain);
         }
-        let Some(least) = candidates.iter().map(|&slot| metric.of(slot)).min() else { return Err(NoPlan::NoRoom) };
-        let slot = *candidates.iter().rev().find(|&&slot| metric.of(slot) == least).expect("one of them is the least");
-        chain.push(slot);
         candidates = memory.beyond(Some(slot), memory.nearest(slot, way), way);
     }
 }

@@ -5,15 +5,17 @@ mod fast_rule;
 mod memory;
 mod planners;
 mod plot;
+mod restated;
 mod rule_sets;
 mod rule_tris;
 mod self_check;
+mod tables;
 mod workload;
 
 use crate::memory::{Memory, NoPlan};
 use crate::planners::{Planner, PLANNERS};
 use crate::rule_sets::{RuleSet, RULE_SETS};
-use crate::workload::{Free, Operations, Outcome, Size, Workload};
+use crate::workload::{Free, Operations, Outcome, Size, Workload, OPERATIONS};
 use reference::table::Rule;
 
 const SLOTS: usize = 1024;
@@ -52,26 +54,16 @@ fn main() {
     }
     let inserts = number_flag("--inserts", INSERTS as u64) as usize;
     let seed = number_flag("--seed", SEED);
-    println!("Writes per insert, {SLOTS} slots, seed {seed}: mean, 99th percentile, worst. Each planner on its own memory.");
-    print_heads("mean  p99 worst");
+    println!("Writes per insert, {SLOTS} slots, seed {seed}: the same operations for each planner, on a memory of its own.");
     let mut compared = Compared::default();
     let mut rows = Vec::new();
     for kind in kinds() {
         let outcomes = PLANNERS.into_iter().map(|planner| measure(kind, planner, inserts, seed, &mut compared)).collect();
-        let row = Row { kind, outcomes };
-        print_row(&row, |outcome| format!("{:.2} {:>4} {:>5}", outcome.mean(), outcome.percentile_99(), outcome.worst()));
-        rows.push(row);
+        rows.push(Row { kind, outcomes });
     }
-    println!(
-        "\nOurs is least on each table it is given (in document 01's class), not over a run: layouts part as a run goes on."
-    );
-    println!("Of the inserts these were not planned, and are not in the numbers above: crossed, and no room the one way.");
-    print_heads("of  cross  room");
-    for row in &rows {
-        print_row(row, |outcome| {
-            format!("{} {:>6} {:>5}", outcome.writes.len() + outcome.crossed + outcome.no_room, outcome.crossed, outcome.no_room)
-        });
-    }
+    tables::print_writes(&rows);
+    tables::print_counts(&rows);
+    tables::print_lower_means(&rows);
     compared.print();
     if let Some(path) = flag("--plot") {
         std::fs::write(&path, plot::drawing(&rows)).unwrap_or_else(|error| panic!("{path}: {error}"));
@@ -81,7 +73,7 @@ fn main() {
 
 fn kinds() -> Vec<Kind> {
     let mut kinds = Vec::new();
-    for operations in [Operations::DeleteInsert, Operations::InsertOnly] {
+    for operations in OPERATIONS {
         for free in [Free::First, Free::Last] {
             for set in RULE_SETS {
                 kinds.extend(LOADS.map(|load| Kind { set, load, operations, free }));
@@ -89,28 +81,6 @@ fn kinds() -> Vec<Kind> {
         }
     }
     kinds
-}
-
-fn print_heads(parts: &str) {
-    print!("{:<38}", "");
-    PLANNERS.iter().for_each(|planner| print!(" {:>18}", planner.name()));
-    print!("\n{:<11} {:<4} {:<14} {:<6}", "rules", "load", "operations", "free");
-    PLANNERS.iter().for_each(|_| print!(" {parts:>18}"));
-    println!();
-}
-
-fn print_row(row: &Row, cell: impl Fn(&Outcome) -> String) {
-    let operations = match row.kind.operations {
-        Operations::DeleteInsert => "delete, insert",
-        Operations::InsertOnly => "insert only",
-    };
-    let free = match row.kind.free {
-        Free::First => "first",
-        Free::Last => "last",
-    };
-    print!("{:<11} 0.{} {operations:<14} {free:<6}", row.kind.set.name(), row.kind.load);
-    row.outcomes.iter().for_each(|outcome| print!(" {:>18}", cell(outcome)));
-    println!();
 }
 
 /// Delete one, insert one: one long run. Insert only: from the load until the memory is full, as often as it takes.
@@ -155,13 +125,13 @@ impl Compared {
         self.plans += 1;
         self.rule_tris_same += usize::from(rule_tris.len() == chain.len());
         self.rule_tris_same_chain += usize::from(rule_tris == chain);
-        let greedy = fast_rule.map_or(usize::MAX, |greedy| greedy.len());
+        let greedy = fast_rule.expect("the empty slot lies in one of the two ways").len();
         self.fast_rule_more += usize::from(greedy > chain.len());
         assert!(rule_tris.len() >= chain.len() && greedy >= chain.len(), "their plans are in document 01's class");
     }
 
     fn print(&self) {
-        println!("\nEach of our {} plans, made again by the others on our table, the very same one:", self.plans);
+        println!("\nEach of our {} plans, made again by the others on the same table:", self.plans);
         println!("  RuleTris: as many writes in {}, the same chain in {}", self.rule_tris_same, self.rule_tris_same_chain);
         println!("  FastRule two-way: more writes in {}, fewer in none", self.fast_rule_more);
     }

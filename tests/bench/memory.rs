@@ -21,17 +21,14 @@ pub struct Memory {
     pub slots: Vec<Option<Rule>>,
     /// The same as words, for the library.
     pub words: Vec<u64>,
-    pub count: usize,
 }
 
 impl Memory {
     pub fn new(slots: usize) -> Memory {
-        Memory { slots: vec![None; slots], words: vec![0; slots * RECORD_WORDS], count: 0 }
+        Memory { slots: vec![None; slots], words: vec![0; slots * RECORD_WORDS] }
     }
 
     pub fn set(&mut self, slot: usize, entry: Option<Rule>) {
-        self.count += usize::from(entry.is_some());
-        self.count -= usize::from(self.slots[slot].is_some());
         self.slots[slot] = entry;
         let record = entry.map_or([0; RECORD_WORDS], |rule| rule.record());
         self.words[slot * RECORD_WORDS..(slot + 1) * RECORD_WORDS].copy_from_slice(&record);
@@ -48,9 +45,13 @@ impl Memory {
         self.set(chain[0], Some(*new));
     }
 
-    pub fn delete(&mut self, id: u32) {
-        let slot = self.slots.iter().position(|entry| entry.is_some_and(|rule| rule.id == id)).expect("the rule is there");
+    /// The slot that is emptied, and its rule.
+    pub fn delete(&mut self, id: u32) -> (usize, Rule) {
+        let is_there = |slot: &usize| self.slots[*slot].is_some_and(|rule| rule.id == id);
+        let slot = (0..self.slots.len()).find(is_there).expect("the rule is there");
+        let rule = self.slots[slot].expect("it was found");
         self.set(slot, None);
+        (slot, rule)
     }
 
     /// A of document 01: the highest slot of a rule that precedes the new one.

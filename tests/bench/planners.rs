@@ -30,13 +30,13 @@ impl Planner {
         }
     }
 
-    /// `free` says to which end the free space is, for a planner that moves rules one way only.
+    /// `free` says at which end the free space was, which is FastRule's one way.
     pub fn plan(self, memory: &Memory, new: &Rule, free: Free) -> Result<Chain, NoPlan> {
         match self {
             Planner::Ours => plan_by_library(memory, new),
             Planner::RuleTris => shortest_moving_chain(memory, new),
-            Planner::FastRuleTwoWay => greedy_two_way(memory, new),
-            Planner::FastRuleOneWay => greedy(memory, new, if free == Free::First { Way::Up } else { Way::Down }),
+            Planner::FastRuleTwoWay => greedy_two_way(memory, new, Way::toward(free)),
+            Planner::FastRuleOneWay => greedy(memory, new, Way::toward(free)),
             Planner::PriorityOrder => Ok(shift_by_priority(memory, new)),
         }
     }
@@ -50,10 +50,10 @@ fn plan_by_library(memory: &Memory, new: &Rule) -> Result<Chain, NoPlan> {
     }
 }
 
-/// Not in document 001: its greedy in both directions, the shorter chain taken, the published direction if equal.
-fn greedy_two_way(memory: &Memory, new: &Rule) -> Result<Chain, NoPlan> {
-    match (greedy(memory, new, Way::Up), greedy(memory, new, Way::Down)) {
-        (Ok(up), Ok(down)) => Ok(if down.len() < up.len() { down } else { up }),
+/// Not in document 001: its greedy in both directions, the shorter chain taken, that of the one way if equal.
+fn greedy_two_way(memory: &Memory, new: &Rule, one_way: Way) -> Result<Chain, NoPlan> {
+    match (greedy(memory, new, one_way), greedy(memory, new, one_way.turned())) {
+        (Ok(published), Ok(other)) => Ok(if other.len() < published.len() { other } else { published }),
         (Ok(chain), Err(_)) | (Err(_), Ok(chain)) => Ok(chain),
         (Err(no_plan), Err(_)) => Err(no_plan),
     }

@@ -40,7 +40,7 @@ pub fn drawing(rows: &[Row]) -> String {
         LEFT,
         26.0,
         "start",
-        "Writes per insert, 1,024 slots, delete one and insert one: mean (bar), 99th percentile (line), worst (dot)",
+        "Writes per planned insert, 1,024 slots, delete one and insert one: mean (bar), 99th percentile (line), worst (dot)",
     );
     for (place, planner) in PLANNERS.into_iter().enumerate() {
         let x = LEFT + 176.0 * place as f64;

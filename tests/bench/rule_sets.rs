@@ -54,12 +54,13 @@ pub fn make_rules(set: RuleSet, count: usize, random: &mut Random) -> Vec<Rule> 
         priority,
         value: patterns[place].0,
         mask: patterns[place].1,
-        action: random_action(place),
+        action: action_of_place(place),
     };
     priorities.into_iter().enumerate().map(rule).collect()
 }
 
-fn random_action(place: usize) -> u32 {
+/// Actions play no part in a plan: a few different ones, in turn.
+fn action_of_place(place: usize) -> u32 {
     place as u32 % 7
 }
 

@@ -1,5 +1,5 @@
 // Workloads: a first set of rules, then deletes and inserts; and how a planner runs one on its own memory.
-// Every planner starts from the same layout and is given the same operations in the same order.
+// Every planner starts from the same layout and is given the same operations, which the seed alone decides.
 
 use crate::memory::{Memory, NoPlan};
 use crate::planners::Planner;
@@ -22,8 +22,9 @@ pub struct Workload {
     /// Rules at the start; the rest are inserted in turn.
     first: usize,
     rules: Vec<Rule>,
-    /// For each insert the number that chooses the rule to delete before it, if there are deletes.
-    deletes: Option<Vec<u64>>,
+    /// For each insert the member of the set whose rule it replaces, if there are deletes: a number below `first`, the
+    /// same whatever a planner declined before.
+    replaced: Option<Vec<usize>>,
 }
 
 #[derive(Clone, Copy, Debug, PartialEq, Eq)]
@@ -32,6 +33,8 @@ pub enum Operations {
     DeleteInsert,
     InsertOnly,
 }
+
+pub const OPERATIONS: [Operations; 2] = [Operations::DeleteInsert, Operations::InsertOnly];
 
 #[derive(Clone, Copy)]
 pub struct Size {
@@ -50,10 +53,22 @@ pub struct Outcome {
 }
 
 impl Outcome {
+    fn count(&mut self, planned: Result<&[usize], &NoPlan>) {
+        match planned {
+            Ok(chain) => self.writes.push(chain.len()),
+            Err(NoPlan::Crossed) => self.crossed += 1,
+            Err(NoPlan::NoRoom) => self.no_room += 1,
+        }
+    }
+
     pub fn add(&mut self, other: Outcome) {
         self.writes.extend(other.writes);
         self.crossed += other.crossed;
         self.no_room += other.no_room;
+    }
+
+    pub fn inserts(&self) -> usize {
+        self.writes.len() + self.crossed + self.no_room
     }
 
     pub fn mean(&self) -> f64 {
@@ -82,8 +97,8 @@ impl Workload {
         let mut random = Random::new(seed, 0);
         let rules = make_rules(set, size.first + size.inserts, &mut random);
         let with_deletes = operations == Operations::DeleteInsert;
-        let deletes = with_deletes.then(|| (0..size.inserts).map(|_| random.word()).collect());
-        Workload { slots: size.slots, free, first: size.first, rules, deletes }
+        let replaced = with_deletes.then(|| (0..size.inserts).map(|_| random.below(size.first)).collect());
+        Workload { slots: size.slots, free, first: size.first, rules, replaced }
     }
 
     fn first_memory(&self) -> Memory {
@@ -97,29 +112,24 @@ impl Workload {
         memory
     }
 
-    /// Runs all operations. A planner that had no plan for an insert deletes nothing before its next one, so that its
-    /// memory is as full as the others'. `each` sees every insert before it is planned.
+    /// Runs all operations. With deletes, the rule of the member named is deleted before the new one is planned; a planner
+    /// that declines keeps the old rule, where it stood, so that every planner's memory keeps the load.
+    /// `each` sees every insert before it is written.
     pub fn run(&self, planner: Planner, mut each: impl FnMut(&Memory, &Rule, Result<&[usize], NoPlan>)) -> Outcome {
         let mut memory = self.first_memory();
-        let mut present: Vec<u32> = self.rules[..self.first].iter().map(|rule| rule.id).collect();
+        let mut members: Vec<u32> = self.rules[..self.first].iter().map(|rule| rule.id).collect();
         let mut outcome = Outcome::default();
-        for (place, new) in self.rules[self.first..].iter().enumerate() {
-            if let Some(deletes) = &self.deletes {
-                if memory.count >= self.first {
-                    let chosen = ((u128::from(deletes[place]) * present.len() as u128) >> 64) as usize;
-                    memory.delete(present.remove(chosen));
-                }
-            }
+        for (number, new) in self.rules[self.first..].iter().enumerate() {
+            let member = self.replaced.as_ref().map(|replaced| replaced[number]);
+            let deleted = member.map(|member| memory.delete(members[member]));
             let planned = planner.plan(&memory, new, self.free);
             each(&memory, new, planned.as_deref().map_err(|&no_plan| no_plan));
-            match planned {
-                Ok(chain) => {
-                    memory.write_chain(&chain, new);
-                    outcome.writes.push(chain.len());
-                    present.push(new.id);
-                }
-                Err(NoPlan::Crossed) => outcome.crossed += 1,
-                Err(NoPlan::NoRoom) => outcome.no_room += 1,
+            outcome.count(planned.as_deref());
+            if let Ok(chain) = planned {
+                memory.write_chain(&chain, new);
+                member.into_iter().for_each(|member| members[member] = new.id);
+            } else if let Some((slot, old)) = deleted {
+                memory.set(slot, Some(old));
             }
         }
         assert_eq!(first_out_of_order(&memory.slots), None, "{} left the order", planner.name());
