@@ -1,6 +1,7 @@
 /*
  * Measures how much stack each call takes at 1,024 slots, and checks that it is no more than tcam.h says. A call runs on
- * a stack of its own, painted beforehand; what it has used is what is no longer paint.
+ * a stack of its own, painted beforehand; what it has used is what is no longer paint. Compiled without sanitizers: the
+ * planning calls, tcam_save and tcam_load call memset, tcam_load memcpy too, and a sanitizer's take more stack than C's.
  *
  *     stack_test [-v]    -v prints the measures
  */
@@ -25,11 +26,8 @@
 #define SAVE_BYTES 4480
 #define LOAD_BYTES 53760
 
-/* The planning calls, tcam_save and tcam_load call memset, tcam_load memcpy too; a sanitizer's take more stack than C's. */
 #ifdef __SANITIZE_ADDRESS__
-#define MEMSET_BYTES 4096
-#else
-#define MEMSET_BYTES 0
+#error "the stack is measured without sanitizers"
 #endif
 
 static uint64_t table[WORDS];
@@ -48,7 +46,7 @@ static uint32_t result, first, slot, id, action, count, bytes_saved, spot;
 static unsigned char *top; /* the stack of the function that calls */
 
 /* Each runs on the painted stack. What it uses counts from its own frame, with the arguments that it pushes. */
-#define ON_OWN_STACK __attribute__((noinline, no_sanitize("address", "undefined"))) static void
+#define ON_OWN_STACK __attribute__((noinline)) static void
 
 ON_OWN_STACK run_lookup(void)
 {
@@ -160,8 +158,8 @@ static void try_insert(const char *what, uint32_t hole, uint32_t priority, uint3
     rule = (struct rule){5000, priority};
     room = SLOTS;
     size_t bytes = used(run_plan_insert), limit = CHAIN_BYTES + (size_t)WRITE_BYTES * want_count;
-    if (limit < INSERT_BYTES + MEMSET_BYTES)
-        limit = INSERT_BYTES + MEMSET_BYTES;
+    if (limit < INSERT_BYTES)
+        limit = INSERT_BYTES;
     check(result == TCAM_OK && count == want_count && bytes <= limit, what, bytes, limit);
 }
 
@@ -189,8 +187,7 @@ static void measure_plans(void)
 {
     rule = (struct rule){1000, 0};
     size_t bytes = used(run_plan_delete);
-    check(result == TCAM_OK && count == 1 && bytes <= DELETE_BYTES + MEMSET_BYTES, "tcam_plan_delete", bytes,
-          DELETE_BYTES + MEMSET_BYTES);
+    check(result == TCAM_OK && count == 1 && bytes <= DELETE_BYTES, "tcam_plan_delete", bytes, DELETE_BYTES);
     try_insert("tcam_plan_insert, 1 write", 1023, 1, 1);
     try_insert("tcam_plan_insert, 2 writes", 1023, 57957, 2);
     try_insert("tcam_plan_insert, 3 writes", 1023, 57959, 3);
@@ -201,8 +198,7 @@ static void measure_plans(void)
     /* a plan that does not fit is not walked: the buffer bounds the stack */
     room = 1023;
     bytes = used(run_plan_insert);
-    check(result == TCAM_SHORT && spot == 1024 && bytes <= INSERT_BYTES + MEMSET_BYTES, "tcam_plan_insert, one word short", bytes,
-          INSERT_BYTES + MEMSET_BYTES);
+    check(result == TCAM_SHORT && spot == 1024 && bytes <= INSERT_BYTES, "tcam_plan_insert, one word short", bytes, INSERT_BYTES);
 }
 
 static void measure_writes(void)
@@ -217,11 +213,10 @@ static void measure_images(void)
 {
     make_chain(5);
     size_t bytes = used(run_save);
-    check(result == TCAM_OK && bytes_saved == TCAM_IMAGE_BYTES(1023) && bytes <= SAVE_BYTES + MEMSET_BYTES, "tcam_save", bytes,
-          SAVE_BYTES + MEMSET_BYTES);
+    check(result == TCAM_OK && bytes_saved == TCAM_IMAGE_BYTES(1023) && bytes <= SAVE_BYTES, "tcam_save", bytes, SAVE_BYTES);
     run_load(); /* finds memcpy, so that the loader's stack is not counted */
     bytes = used(run_load);
-    check(result == TCAM_OK && bytes <= LOAD_BYTES + MEMSET_BYTES, "tcam_load", bytes, LOAD_BYTES + MEMSET_BYTES);
+    check(result == TCAM_OK && bytes <= LOAD_BYTES, "tcam_load", bytes, LOAD_BYTES);
 }
 
 int main(int arguments, char **words)
