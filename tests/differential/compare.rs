@@ -35,7 +35,7 @@ pub fn check(library: &Guarded, input: &Input, tally: &mut Tally) -> Result<(), 
         Call::Lookup => input.keys.iter().try_for_each(|&key| check_lookup(library, input, key, tally).map(|_| ())),
         Call::SlotRecord => {
             let expected = expected_slot_record(input);
-            tally.count(input.call, if expected.result == 0 { "empty part" } else { "record" });
+            tally.count_at(input.call, if expected.result == 0 { "empty part" } else { "record" }, input.slot as usize);
             same("slot_record", library.slot_record(input), expected)
         }
         Call::PlanInsert => check_plan(library, input, tally).map(|_| ()),
@@ -91,7 +91,7 @@ fn check_lookup(library: &Guarded, input: &Input, key: u128, tally: &mut Tally) 
     match answer {
         Ok(Found::Hit { slot, id, action }) => {
             expected.cells[..3].copy_from_slice(&[slot as u32, id, action]);
-            tally.count(Call::Lookup, "hit");
+            tally.count_at(Call::Lookup, "hit", slot);
         }
         Ok(Found::Miss) => {
             expected.cells[..3].copy_from_slice(&[0, 0, 0]);
@@ -99,7 +99,7 @@ fn check_lookup(library: &Guarded, input: &Input, key: u128, tally: &mut Tally) 
         }
         Err(refusal) => {
             expected = refused(expected, refusal);
-            tally.refusal(Call::Lookup, refusal.number);
+            tally.refusal(Call::Lookup, refusal);
         }
     }
     same("lookup", library.lookup(input, key), expected)?;
@@ -132,7 +132,7 @@ fn check_plan(library: &Guarded, input: &Input, tally: &mut Tally) -> Result<Opt
         }
         Err(refusal) => {
             expected = refused(expected, *refusal);
-            tally.refusal(call, refusal.number);
+            tally.refusal(call, *refusal);
         }
     }
     let seen = if is_insert { library.plan_insert(input) } else { library.plan_delete(input) };
@@ -169,14 +169,19 @@ fn check_save(library: &Guarded, input: &Input, tally: &mut Tally) -> Result<(),
         Ok(bytes) => {
             expected.cells[0] = bytes.len() as u32;
             expected.image[..bytes.len()].copy_from_slice(&bytes);
-            tally.count(Call::Save, "saved");
+            tally.count_at(Call::Save, "saved", highest_rule(&input.table));
         }
         Err(refusal) => {
             expected = refused(expected, refusal);
-            tally.refusal(Call::Save, refusal.number);
+            tally.refusal(Call::Save, refusal);
         }
     }
     same("save", library.save(input), expected)
+}
+
+/// The highest slot that has a rule, or 0 where none has.
+fn highest_rule(table: &[u64]) -> usize {
+    table.chunks(RECORD_WORDS).rposition(|record| record[4] != 0).unwrap_or(0)
 }
 
 /// A table that loads is saved again to the same bytes, on the reference.
@@ -189,8 +194,8 @@ fn check_load(library: &Guarded, input: &Input, tally: &mut Tally) -> Result<(),
             if again.as_ref() != Ok(&input.image) {
                 return Err(Mismatch::of("the reference saves other bytes".to_string(), &input.image, again));
             }
+            tally.count_at(Call::Load, "loaded", highest_rule(&table));
             expected.table = table;
-            tally.count(Call::Load, "loaded");
         }
         Err(refusal) => {
             expected = refused(expected, refusal);

@@ -7,6 +7,7 @@ mod compare;
 mod fence;
 mod guarded;
 mod input;
+mod largest;
 mod make;
 mod shrink;
 mod tally;
@@ -21,7 +22,6 @@ use std::os::unix::process::CommandExt;
 use std::process::Command;
 use std::sync::atomic::{AtomicU64, Ordering};
 use std::time::Instant;
-use support::random::Random;
 
 const SEED: u64 = 20_261_115;
 const INPUTS: u64 = 1_000_000;
@@ -57,7 +57,7 @@ fn main() {
     let seed = flag("--seed").unwrap_or(SEED);
     let library = Guarded::new();
     if let Some(number) = flag("--shrink") {
-        report_signal(&library, make::make_input(&mut Random::new(seed, number)));
+        report_signal(&library, make::make_input(seed, number));
         std::process::exit(1);
     }
     watch_signals_and_panics(seed);
@@ -67,7 +67,7 @@ fn main() {
     let start = Instant::now();
     for number in range.clone() {
         AT_HAND.store(number, Ordering::Relaxed);
-        let input = make::make_input(&mut Random::new(seed, number));
+        let input = make::make_input(seed, number);
         if let Err(mismatch) = check(&library, &input, &mut tally) {
             println!("differential: MISMATCH at input {number} of seed {seed}: {}", mismatch.what);
             report_mismatch(&library, input);

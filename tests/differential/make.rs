@@ -3,6 +3,7 @@
 // In larger tables they also stand apart, so that searches pass over many slots before they find one.
 
 use crate::input::{Call, Input};
+use crate::largest::make_largest;
 use reference::image::save;
 use reference::plan::{plan_insert, write_word, EMPTYING, PUT_IN};
 use reference::table::{read_slots, rule_of, words_of, Rule, Slot, RECORD_WORDS};
@@ -29,8 +30,8 @@ enum Style {
 const GROUPS: [usize; 16] = [2, 3, 4, 5, 7, 8, 9, 12, 15, 16, 17, 19, 20, 33, 64, 200];
 
 /// A group's number has 10 bits: in the low word, in the high one, or in both.
-const GROUP_BITS: u128 = 1023;
-const GROUP_PLACES: [u32; 5] = [0, 54, 59, 64, 118];
+pub const GROUP_BITS: u128 = 1023;
+pub const GROUP_PLACES: [u32; 5] = [0, 54, 59, 64, 118];
 
 struct Maker<'a> {
     random: &'a mut Random,
@@ -39,7 +40,19 @@ struct Maker<'a> {
     bits: Vec<u32>,
 }
 
-pub fn make_input(random: &mut Random) -> Input {
+/// One input of this many is at an edge of the largest table.
+const LARGEST_EVERY: u64 = 1500;
+
+pub fn make_input(seed: u64, number: u64) -> Input {
+    let random = &mut Random::new(seed, number);
+    if number % LARGEST_EVERY == 0 {
+        make_largest(random, (number / LARGEST_EVERY) as usize)
+    } else {
+        make_any(random)
+    }
+}
+
+fn make_any(random: &mut Random) -> Input {
     let fence_after = random.one_in(2);
     let slots = slot_count(random);
     let style = style(random, slots);
@@ -85,7 +98,7 @@ const CALLS: &[Call] = &[
 ];
 
 fn slot_count(random: &mut Random) -> usize {
-    if random.one_in(1500) {
+    if random.one_in(3000) {
         return random.pick(&[1022, 1023, 1024, 1024, 1024]);
     }
     if random.one_in(100) {
@@ -489,7 +502,7 @@ impl Maker<'_> {
 }
 
 /// The bytes that an image of these slots would have, sound or not.
-fn image_of(slots: &[Slot], count: usize) -> Vec<u8> {
+pub fn image_of(slots: &[Slot], count: usize) -> Vec<u8> {
     if let Ok(image) = save(&words_of(slots), usize::MAX) {
         return image;
     }

@@ -2,9 +2,12 @@
 // A run that never reached one of the answers listed here has tested less than it says, and fails.
 
 use crate::input::{Call, Input};
+use crate::largest::{LAST, LONG};
 use reference::carry::Carried;
 use reference::plan::{EMPTYING, PUT_IN};
-use reference::table::{Refusal, CROSSED, FULL, IMAGE, KNOWN, ORDER, RECORD, RULE, SHAPE, SHORT, TIE, TWICE, UNKNOWN, WRITE};
+use reference::table::{
+    Refusal, CROSSED, FULL, IMAGE, KNOWN, ORDER, RECORD, RULE, SHAPE, SHORT, SLOTS_MOST, TIE, TWICE, UNKNOWN, WRITE,
+};
 use std::collections::BTreeMap;
 
 /// Tables of more slots than this are counted apart too, since what a search does over many slots small tables don't reach.
@@ -51,6 +54,25 @@ fn wanted() -> Vec<(Call, String)> {
     want_large(Call::CarryOut, &["copied", "put in", "emptied", "finished"], &[]);
     want_large(Call::Save, &["saved"], &[SHORT]);
     want_large(Call::Load, &["loaded"], &[]);
+    wanted.extend(wanted_of_largest());
+    wanted
+}
+
+/// The answers that every run must reach on tables of 1,024 slots: the last slot decides them, or plans are the longest.
+fn wanted_of_largest() -> Vec<(Call, String)> {
+    let mut wanted: Vec<(Call, String)> =
+        ["down", "up"].iter().flat_map(|way| [longest(way), long(way)]).map(|kind| (Call::PlanInsert, kind)).collect();
+    let mut want = |call: Call, kinds: &[&str], numbers: &[u32]| {
+        wanted.extend(kinds.iter().map(|kind| (call, last(kind))));
+        wanted.extend(numbers.iter().map(|number| (call, last(&number.to_string()))));
+    };
+    want(Call::Lookup, &["hit"], &[RECORD]);
+    want(Call::SlotRecord, &["record"], &[]);
+    want(Call::PlanInsert, &["one write"], &[RECORD, TWICE, ORDER, KNOWN, TIE, CROSSED]);
+    want(Call::PlanDelete, &["emptying"], &[RECORD, TWICE, ORDER]);
+    want(Call::CarryOut, &["copied", "put in", "emptied"], &[RECORD]);
+    want(Call::Save, &["saved"], &[RECORD, TWICE, ORDER]);
+    want(Call::Load, &["loaded"], &[TWICE, ORDER]);
     wanted
 }
 
@@ -58,6 +80,23 @@ fn wanted() -> Vec<(Call, String)> {
 fn large(kind: &str) -> String {
     format!("{kind}, large")
 }
+
+/// The name of an answer that the last of 1,024 slots decides.
+fn last(kind: &str) -> String {
+    format!("{kind}, last slot")
+}
+
+/// The name of a plan that moves the rules of all 1,024 slots, and of one that moves nearly all.
+fn longest(way: &str) -> String {
+    format!("{way}, {SLOTS_MOST} writes")
+}
+
+fn long(way: &str) -> String {
+    format!("{way}, {LONG} and more")
+}
+
+/// The refusals whose spot is a slot.
+const SLOT_SPOTS: [u32; 6] = [RECORD, TWICE, ORDER, KNOWN, TIE, CROSSED];
 
 impl Tally {
     pub fn count(&mut self, call: Call, kind: &str) {
@@ -67,45 +106,64 @@ impl Tally {
         }
     }
 
-    pub fn refusal(&mut self, call: Call, number: u32) {
-        self.count(call, &format!("{number}"));
+    /// An answer that the slot decides.
+    pub fn count_at(&mut self, call: Call, kind: &str, slot: usize) {
+        self.count(call, kind);
+        if self.slots == SLOTS_MOST && slot == LAST {
+            *self.counts.entry((call, last(kind))).or_default() += 1;
+        }
+    }
+
+    pub fn refusal(&mut self, call: Call, refusal: Refusal) {
+        let kind = refusal.number.to_string();
+        if SLOT_SPOTS.contains(&refusal.number) {
+            self.count_at(call, &kind, refusal.spot as usize);
+        } else {
+            self.count(call, &kind);
+        }
     }
 
     pub fn plan(&mut self, call: Call, writes: &[u32]) {
+        let to = writes[0] as usize % 65_536;
         if call == Call::PlanDelete {
-            return self.count(call, "emptying");
+            return self.count_at(call, "emptying", to);
         }
         self.longest = self.longest.max(writes.len());
         self.lengths[(writes.len() - 1).min(self.lengths.len() - 1)] += 1;
         let kind = match writes {
-            [_] => "one write",
+            [_] => return self.count_at(call, "one write", to),
             [copy, ..] if copy / 65_536 < copy % 65_536 => "down",
             _ => "up",
         };
         self.count(call, kind);
+        if writes.len() == SLOTS_MOST {
+            *self.counts.entry((call, longest(kind))).or_default() += 1;
+        } else if writes.len() >= LONG {
+            *self.counts.entry((call, long(kind))).or_default() += 1;
+        }
     }
 
     pub fn carried(&mut self, input: &Input, answer: &Result<Carried, Refusal>) {
-        let next_from = input.plan.get(input.done as usize).map_or(0, |write| write / 65_536);
-        let kind = match (answer, next_from) {
+        let next = input.plan.get(input.done as usize).copied().unwrap_or(0);
+        let kind = match (answer, next / 65_536) {
             (Ok(Carried::Finished), _) => "finished",
             (Ok(Carried::Wrote), PUT_IN) => "put in",
             (Ok(Carried::Wrote), EMPTYING) => "emptied",
             (Ok(Carried::Wrote), _) => "copied",
-            (Err(refusal), _) if refusal.number != WRITE => return self.refusal(Call::CarryOut, refusal.number),
+            (Err(refusal), _) if refusal.number != WRITE => return self.refusal(Call::CarryOut, *refusal),
             (Err(_), _) if input.done > input.total => "12 done > total",
             (Err(_), _) if input.total as usize > input.plan.len() => "12 total > words",
             (Err(_), PUT_IN) => "12 put-in",
             (Err(_), EMPTYING) => "12 emptying",
             (Err(_), _) => "12 copy",
         };
-        self.count(Call::CarryOut, kind);
+        self.count_at(Call::CarryOut, kind, next as usize % 65_536);
     }
 
     /// A refused load, by the field that an image was refused at.
     pub fn loading(&mut self, refusal: Refusal, image: &[u8]) {
         if refusal.number != IMAGE {
-            return self.refusal(Call::Load, refusal.number);
+            return self.refusal(Call::Load, refusal);
         }
         let bodies = image.get(2..4).map_or(4, |count| 4 + 10 * u64::from(u16::from_be_bytes([count[0], count[1]])));
         let kind = match refusal.spot {

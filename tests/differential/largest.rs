@@ -1,0 +1,247 @@
+// Inputs at the edges of the largest table: its last slot decides the answer, or a plan goes over all its slots.
+// Few other tables have 1,024 slots, and what is asked of them is seldom decided there.
+
+use crate::input::{Call, Input};
+use crate::make::{image_of, GROUP_BITS, GROUP_PLACES};
+use reference::plan::{plan_insert, write_word, EMPTYING, PUT_IN};
+use reference::table::{words_of, Rule, Slot, SLOTS_MOST};
+use support::random::Random;
+
+pub const LAST: usize = SLOTS_MOST - 1;
+
+/// Plans of this many writes and more are counted as long.
+pub const LONG: usize = SLOTS_MOST - 22;
+
+#[derive(Clone, Copy)]
+enum Edge {
+    /// The call asks for what stands in the last slot, and gets it.
+    Wanted,
+    /// The last slot's record is unsound.
+    Record,
+    /// The last slot has the id of another.
+    Twice,
+    /// The last slot's rule is out of order with one other.
+    Order,
+    /// The new rule has the last slot's id.
+    Known,
+    /// The new rule overlaps that of the last slot at equal priority.
+    Tie,
+    /// Only the last slot's rule precedes the new one, and one that depends on the new one stands before it.
+    Crossed,
+    /// Only the last slot is empty, and the new rule goes there.
+    PutIn,
+    /// Only the last slot is empty, and a rule is copied there.
+    Copied,
+    /// The last slot has the only other copy of a rule that is written over.
+    WrittenOver,
+    /// The plan copies all rules toward higher slots, or nearly all.
+    Down { nearly: bool },
+    /// The same toward lower slots.
+    Up { nearly: bool },
+    /// As `Down`, with a buffer that is one word too short.
+    Short,
+}
+
+/// The kinds of these inputs, taken in turn.
+const KINDS: &[(Call, Edge)] = &[
+    (Call::Lookup, Edge::Wanted),
+    (Call::PlanInsert, Edge::Down { nearly: false }),
+    (Call::PlanInsert, Edge::Up { nearly: false }),
+    (Call::PlanInsert, Edge::Down { nearly: true }),
+    (Call::PlanInsert, Edge::Up { nearly: true }),
+    (Call::PlanInsert, Edge::Short),
+    (Call::PlanInsert, Edge::Record),
+    (Call::PlanInsert, Edge::Twice),
+    (Call::PlanInsert, Edge::Order),
+    (Call::PlanInsert, Edge::Known),
+    (Call::PlanInsert, Edge::Tie),
+    (Call::PlanInsert, Edge::Crossed),
+    (Call::PlanInsert, Edge::PutIn),
+    (Call::Lookup, Edge::Record),
+    (Call::SlotRecord, Edge::Wanted),
+    (Call::SlotRecord, Edge::Record),
+    (Call::PlanDelete, Edge::Wanted),
+    (Call::PlanDelete, Edge::Record),
+    (Call::PlanDelete, Edge::Twice),
+    (Call::PlanDelete, Edge::Order),
+    (Call::CarryOut, Edge::Wanted),
+    (Call::CarryOut, Edge::Record),
+    (Call::CarryOut, Edge::PutIn),
+    (Call::CarryOut, Edge::Copied),
+    (Call::CarryOut, Edge::WrittenOver),
+    (Call::CarryOut, Edge::Down { nearly: false }),
+    (Call::CarryOut, Edge::Up { nearly: false }),
+    (Call::Save, Edge::Wanted),
+    (Call::Save, Edge::Record),
+    (Call::Save, Edge::Twice),
+    (Call::Save, Edge::Order),
+    (Call::Load, Edge::Wanted),
+    (Call::Load, Edge::Record),
+    (Call::Load, Edge::Twice),
+    (Call::Load, Edge::Order),
+];
+
+pub fn make_largest(random: &mut Random, turn: usize) -> Input {
+    let (call, edge) = KINDS[turn % KINDS.len()];
+    let input = Input::new(call, Vec::new(), random.one_in(2));
+    match edge {
+        Edge::Down { nearly } => long_plan(random, input, true, nearly),
+        Edge::Up { nearly } => long_plan(random, input, false, nearly),
+        Edge::Short => {
+            let mut input = long_plan(random, input, true, false);
+            input.call = Call::PlanInsert;
+            input.room = LAST;
+            input
+        }
+        _ => last_slot(random, input, edge),
+    }
+}
+
+fn shuffled_ids(random: &mut Random) -> Vec<u32> {
+    let mut ids: Vec<u32> = (1..=SLOTS_MOST as u32).collect();
+    random.shuffle(&mut ids);
+    ids
+}
+
+/// An id that none of these tables has.
+const NEW_ID: u32 = SLOTS_MOST as u32 + 1;
+
+/// A table in which each rule overlaps its neighbours, with one empty slot, and a new rule that belongs between two of its
+/// rules: all rules from there to the empty slot have to move.
+fn long_plan(random: &mut Random, mut input: Input, down: bool, nearly: bool) -> Input {
+    let spared = if nearly { random.between(1, SLOTS_MOST - LONG) } else { 0 };
+    let spared_first = random.below(spared + 1);
+    let (place, hole) =
+        if down { (spared_first, LAST - (spared - spared_first)) } else { (SLOTS_MOST - (spared - spared_first), spared_first) };
+    let mut table = chain(random, place, &mut input.rule);
+    table[hole] = None;
+    input.table = words_of(&table);
+    let writes = SLOTS_MOST - spared;
+    input.room = random.pick(&[writes, SLOTS_MOST, SLOTS_MOST + 1]);
+    if input.call == Call::CarryOut {
+        carried_far(random, &mut input, table);
+    } else if random.one_in(8) {
+        input.call = Call::InsertInFull;
+        input.keys = vec![input.rule.value, random.wide()];
+    }
+    input
+}
+
+/// Rules in all slots, each of which overlaps the next: either all overlap, or only neighbours, since each rule cares for all
+/// bits of a Gray code but the one that changes toward the next. The new rule overlaps those on both sides of its place.
+fn chain(random: &mut Random, place: usize, new: &mut Rule) -> Vec<Slot> {
+    let ids = shuffled_ids(random);
+    let highest = random.pick(&[2 * SLOTS_MOST - 1, 40_000, 65_534]);
+    let lowest_bit = random.below(128 - 11);
+    let bits: u128 = if random.one_in(2) { 0 } else { 2047 };
+    let code = |number: usize| (number ^ number >> 1) as u128;
+    let rule = |slot: usize, id: u32, action: u32| {
+        let mask = bits & !(code(slot) ^ code(slot + 1));
+        let priority = (highest - 2 * slot) as u64;
+        Rule { id, priority, value: (code(slot) & mask) << lowest_bit, mask: mask << lowest_bit, action }
+    };
+    let (value, mask) = ((code(place) & bits) << lowest_bit, bits << lowest_bit);
+    *new = Rule { id: NEW_ID, priority: (highest + 1 - 2 * place) as u64, value, mask, action: random.word() as u32 };
+    ids.into_iter().enumerate().map(|(slot, id)| Some(rule(slot, id, random.word() as u32))).collect()
+}
+
+/// The plan of the input's rule, carried out up to one of its last three writes.
+fn carried_far(random: &mut Random, input: &mut Input, mut table: Vec<Slot>) {
+    input.plan = plan_insert(&input.table, &input.rule, SLOTS_MOST).expect("the rule has its place");
+    let writes = input.plan.len();
+    let done = random.between(writes - 3, writes - 1);
+    for &write in &input.plan[..done] {
+        table[write as usize % 65_536] = table[write as usize / 65_536];
+    }
+    input.table = words_of(&table);
+    (input.done, input.total) = (done as u32, writes as u32);
+}
+
+/// A table of rules that are all apart, in which the last slot decides what the call answers.
+fn last_slot(random: &mut Random, mut input: Input, edge: Edge) -> Input {
+    let lowest_bit = random.pick(&GROUP_PLACES);
+    let mut table = apart(random, lowest_bit);
+    let last = table[LAST].expect("the last slot has a rule");
+    let other = random.below(LAST);
+    input.rule = Rule { id: NEW_ID, ..last };
+    spoil(random, &mut table, edge, other);
+    match edge {
+        Edge::Known => input.rule.id = last.id,
+        Edge::Crossed => cross(random, &mut table, &mut input.rule),
+        _ => {}
+    }
+    input.room = SLOTS_MOST;
+    input.table = words_of(&table);
+    fill_in(random, &mut input, edge, &table, (&last, other));
+    input
+}
+
+/// What the call needs beside the table; the last slot had the rule `last` before it was spoiled.
+fn fill_in(random: &mut Random, input: &mut Input, edge: Edge, table: &[Slot], (last, other): (&Rule, usize)) {
+    match input.call {
+        Call::Lookup => input.keys = vec![last.value | random.wide() & !last.mask],
+        Call::SlotRecord => input.slot = LAST as u32,
+        Call::PlanDelete => input.rule.id = last.id,
+        Call::CarryOut => {
+            input.plan = vec![match edge {
+                Edge::Copied => write_word(other as u32, LAST),
+                Edge::WrittenOver => write_word(other as u32 ^ 1, other),
+                Edge::PutIn => write_word(PUT_IN, LAST),
+                _ => write_word(EMPTYING, LAST),
+            }];
+            input.total = 1;
+        }
+        Call::Save => input.room = 4 + 50 * SLOTS_MOST,
+        Call::Load => {
+            input.image = image_of(table, SLOTS_MOST);
+            input.table.iter_mut().for_each(|word| *word = random.any_word());
+        }
+        _ => {}
+    }
+}
+
+/// A rule in every slot, each with a number of its own at the same bits.
+fn apart(random: &mut Random, lowest_bit: u32) -> Vec<Slot> {
+    let ids = shuffled_ids(random);
+    let turned = random.below(SLOTS_MOST);
+    let mut rule = |slot: usize, id: u32| {
+        let priority = random.between(1, 65_534) as u64;
+        let value = ((slot ^ turned) as u128) << lowest_bit;
+        Some(Rule { id, priority, value, mask: GROUP_BITS << lowest_bit, action: random.word() as u32 })
+    };
+    ids.into_iter().enumerate().map(|(slot, id)| rule(slot, id)).collect()
+}
+
+/// Changes the last slot as the edge says; `other` is the slot that it is at odds with.
+fn spoil(random: &mut Random, table: &mut [Slot], edge: Edge, other: usize) {
+    let rule = table[other].expect("every slot has a rule");
+    let last = table[LAST].as_mut().expect("every slot has a rule");
+    match edge {
+        Edge::Record => match random.below(3) {
+            0 => last.id = 0,
+            1 => last.priority = 65_536,
+            _ => last.value ^= 1 << ((last.mask.trailing_zeros() as usize + random.between(10, 127)) % 128),
+        },
+        Edge::Twice => last.id = rule.id,
+        Edge::Order => {
+            last.value = rule.value;
+            last.priority = rule.priority + random.below(2) as u64;
+        }
+        Edge::WrittenOver => table[LAST] = Some(rule),
+        Edge::Copied | Edge::PutIn => table[LAST] = None,
+        _ => {}
+    }
+}
+
+/// Takes one cared-for bit out of the new rule, which has the last slot's pattern, so that it overlaps a second rule; the last
+/// slot's then precedes it, and the second depends on it. Slot 0, whose number has no bit of the last one's, is emptied.
+fn cross(random: &mut Random, table: &mut [Slot], new: &mut Rule) {
+    new.mask ^= 1 << (new.mask.trailing_zeros() as usize + random.below(10));
+    new.value &= new.mask;
+    table[0] = None;
+    for (slot, rule) in table.iter_mut().enumerate() {
+        if let Some(rule) = rule.as_mut().filter(|rule| rule.overlaps(new)) {
+            rule.priority = if slot == LAST { new.priority + 1 } else { new.priority - 1 };
+        }
+    }
+}
