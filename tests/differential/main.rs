@@ -1,6 +1,7 @@
 // The differential test: every call of the library against the reference, on inputs made from a seed.
-// Flags: --inputs N, --seed S, --only K (one input of a run). Exit status 1 on a mismatch or an answer never reached; a mismatch
-// and a call that a signal ends are shown by the smallest input found (--shrink K is how the latter is looked for).
+// Flags: --inputs N, --seed S, --only K (one input of a run). Exit status 1 on a mismatch or an answer never reached; a mismatch,
+// a call that a signal ends and one that runs on are shown by the smallest input found (--shrink K looks for the latter two).
+// Counts go to standard output, and what is wrong to standard error.
 
 mod apart;
 mod compare;
@@ -12,8 +13,8 @@ mod make;
 mod shrink;
 mod tally;
 
-use crate::apart::ends_by_signal;
-use crate::compare::check;
+use crate::apart::{ends_by_signal, set_alarm};
+use crate::compare::{check, Mismatch};
 use crate::guarded::Guarded;
 use crate::input::Input;
 use crate::tally::Tally;
@@ -32,14 +33,23 @@ static AT_HAND: AtomicU64 = AtomicU64::new(0);
 
 extern "C" {
     fn signal(number: i32, handler: extern "C" fn(i32)) -> usize;
+    fn sigrelse(number: i32) -> i32;
 }
 
-const SIGNALS: [i32; 4] = [4, 7, 8, 11];
+const ALARM: i32 = 14;
+const SIGNALS: [i32; 5] = [4, 7, 8, 11, ALARM];
 
-/// A call has left its buffers. This process can't go on, so a new one takes its place and looks for a smaller input.
+/// An input that takes longer has a call that runs on. The longest plan carried out takes a few seconds under valgrind.
+const SECONDS_MOST: u32 = 30;
+
+/// A call has left its buffers or runs on. This process can't go on, so a new one takes its place and looks for a smaller input.
 extern "C" fn on_signal(number: i32) {
+    // the new process keeps an alarm that is set, and the block on the signal at hand
+    set_alarm(0);
+    unsafe { sigrelse(number) };
     let (seed, input) = (SEED_AT_HAND.load(Ordering::Relaxed), AT_HAND.load(Ordering::Relaxed));
-    eprintln!("differential: signal {number} in input {input} of seed {seed}: a call left its buffers");
+    let what = if number == ALARM { "runs on" } else { "left its buffers" };
+    eprintln!("differential: signal {number} in input {input} of seed {seed}: a call {what}");
     let words = ["--seed".to_string(), seed.to_string(), "--shrink".to_string(), input.to_string()];
     let error = Command::new("/proc/self/exe").args(words).exec();
     eprintln!("differential: {error}");
@@ -68,8 +78,8 @@ fn main() {
     for number in range.clone() {
         AT_HAND.store(number, Ordering::Relaxed);
         let input = make::make_input(seed, number);
-        if let Err(mismatch) = check(&library, &input, &mut tally) {
-            println!("differential: MISMATCH at input {number} of seed {seed}: {}", mismatch.what);
+        if let Err(mismatch) = check_in_time(&library, &input, &mut tally) {
+            eprintln!("differential: MISMATCH at input {number} of seed {seed}: {}", mismatch.what);
             report_mismatch(&library, input);
             std::process::exit(1);
         }
@@ -95,30 +105,38 @@ fn watch_signals_and_panics(seed: u64) {
     }));
 }
 
+fn check_in_time(library: &Guarded, input: &Input, tally: &mut Tally) -> Result<(), Mismatch> {
+    set_alarm(SECONDS_MOST);
+    check(library, input, tally)
+}
+
 fn report_mismatch(library: &Guarded, input: Input) {
-    let smallest = shrink::shrink(input, |smaller| check(library, smaller, &mut Tally::default()).is_err());
-    let mismatch = check(library, &smallest, &mut Tally::default()).expect_err("a smaller input fails too");
-    println!("the smallest input found: {:?}, {}", smallest.call, mismatch.what);
+    let smallest = shrink::shrink(input, |smaller| check_in_time(library, smaller, &mut Tally::default()).is_err());
+    let mismatch = check_in_time(library, &smallest, &mut Tally::default()).expect_err("a smaller input fails too");
+    eprintln!("the smallest input found: {:?}, {}", smallest.call, mismatch.what);
     print_input(&smallest);
-    println!("  library:   {}", mismatch.library);
-    println!("  reference: {}", mismatch.reference);
+    eprintln!("  library:   {}", mismatch.library);
+    eprintln!("  reference: {}", mismatch.reference);
 }
 
 /// Each try is made in a process of its own, which a signal may end.
 fn report_signal(library: &Guarded, input: Input) {
     let ends_badly = |smaller: &Input| ends_by_signal(|| drop(check(library, smaller, &mut Tally::default())));
+    if !ends_badly(&input) {
+        eprintln!("differential: tried again, the input ends by no signal");
+    }
     let smallest = shrink::shrink(input, ends_badly);
-    println!("the smallest input found: {:?}, ended by a signal", smallest.call);
+    eprintln!("the smallest input found: {:?}, ended by a signal", smallest.call);
     print_input(&smallest);
 }
 
 fn print_input(input: &Input) {
     for (slot, record) in input.table.chunks(RECORD_WORDS).enumerate() {
-        println!("  slot {slot}: {record:x?}");
+        eprintln!("  slot {slot}: {record:x?}");
     }
-    println!("  rule {:x?}", input.rule);
-    println!("  keys {:x?}, slot {}, room {}", input.keys, input.slot, input.room);
-    println!("  plan {:x?}, done {}, total {}", input.plan, input.done, input.total);
-    println!("  image {:x?}", input.image);
-    println!("  the table {} the closed page", if input.fence_after { "ends at" } else { "starts behind" });
+    eprintln!("  rule {:x?}", input.rule);
+    eprintln!("  keys {:x?}, slot {}, room {}", input.keys, input.slot, input.room);
+    eprintln!("  plan {:x?}, done {}, total {}", input.plan, input.done, input.total);
+    eprintln!("  image {:x?}", input.image);
+    eprintln!("  the table {} the closed page", if input.fence_after { "ends at" } else { "starts behind" });
 }
