@@ -26,8 +26,9 @@ enum Style {
     Apart { groups: usize, lowest_bit: u32 },
 }
 
-/// How far apart the rules of a group stand: the library's searches pass over 4 slots at once and ask 16 one by one.
-const GROUPS: [usize; 16] = [2, 3, 4, 5, 7, 8, 9, 12, 15, 16, 17, 19, 20, 33, 64, 200];
+/// How far apart the rules of a group stand: a few slots, and around 4, 8, 16, 64 and 128, where a search that takes slots by
+/// blocks would miss one between two blocks.
+const GROUPS: [usize; 21] = [2, 3, 4, 5, 7, 8, 9, 12, 15, 16, 17, 19, 20, 33, 63, 64, 65, 68, 130, 132, 200];
 
 /// A group's number has 10 bits: in the low word, in the high one, or in both.
 pub const GROUP_BITS: u128 = 1023;
