@@ -1,3 +1,3 @@
--- What the program makes of the answer of each read.
+-- What the program makes of the answers of its reads and writes.
 -- Which bytes are read and written is the C library's: no contract tells it.
 pub mod Reads

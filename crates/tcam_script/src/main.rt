@@ -1,28 +1,38 @@
 // The script program of document 01: reads standard input block by block, and prints what each line is answered.
 // What a line does, prints and is refused for is the crate `script`, taking lines out of blocks `turns`; here bytes are only read and written.
 ghost use mathlib.Core.Path.{_≡_};
-ghost use mathlib.Core.Bool.{true};
-ghost use mathlib.Core.List.{List};
-ghost use Prim.Native.Nat.{ℕ, _≤_};
-ghost use lib.ListN.{length, replicate};
-ghost use Rattle.transcripts.specs.Whole.{Ended, Read, Stopped, keeping, opening};
-ghost use Rattle.tcam_script.specs.Reads.{Took, TookBlock, TookRead};
+ghost use Prim.Native.Nat.{_+_};
+ghost use lib.ListN.{replicate};
+ghost use Rattle.transcripts.specs.Whole.{keeping, opening};
+ghost use Rattle.tcam_script.specs.Reads.{capped, TookBlock, TookRead, ReadAll, RanAll};
+
+mod console;
+
+use console::Got;
+use console::Sent;
+use console::nothing_got;
+use console::nothing_sent;
+use console::number_of;
+use console::receive;
+use console::send;
+use console::sent_well;
 use turns::Place;
 use turns::last_turn;
 use turns::take_turn;
 
-// What reading came to so far: what is held, whether there may be more input, and whether all reads and writes went well.
-pub struct Went {
+// What a block came to: what is held after it, and what writing came to.
+pub struct Taken {
     pub place: Place,
-    pub more: bool,
-    pub well: bool,
+    pub sent: Sent,
 }
 
-// Writes the answer at the start of the output; whether it went well.
-fn write_answer(out: &[u8], count: usize) -> bool
-    requires { ⌜ count ≤ length (now out) ⌝ }
-{
-    io::write_all(1, &out[..count])
+// What reading came to so far: what is held, what writing and the last read came to, whether there may be more input, and whether all went well.
+pub struct Went {
+    pub place: Place,
+    pub sent: Sent,
+    pub got: Got,
+    pub more: bool,
+    pub well: bool,
 }
 
 // Takes the bytes of a block, turn by turn, and writes each answer; stops where one cannot be written.
@@ -30,66 +40,86 @@ fn run_block(
     memory: &mut [u64; 6144],
     line: &mut [u8; 257],
     first: Place,
+    before: Sent,
     block: &[u8],
     out: &mut [u8; 14343],
-) -> Went
-    ensures { λ r. ⌜ TookBlock (now (block .entry)) (keeping (now (memory .entry)) (now (line .entry)) first) r (keeping (now (memory .exit)) (now (line .exit)) (r .place)) ⌝ }
+) -> Taken
+    ensures { λ r. ⌜ TookBlock (now (block .entry)) (keeping (now (memory .entry)) (now (line .entry)) first) before (r .sent) (keeping (now (memory .exit)) (now (line .exit)) (r .place)) ⌝ }
 {
     let mut place = first;
+    let mut sent = before;
     let mut from = 0;
-    let mut well = true;
+    let mut well = sent_well(sent);
     while well && from < block.len() {
         let turn = take_turn(memory, line, place, block, from, out);
-        well = write_answer(out, turn.length);
+        sent = send(out, turn.length, sent);
+        well = sent_well(sent);
         place = turn.place;
         from = turn.next;
     }
-    Went {
-        place,
-        more: well,
-        well,
-    }
+    Taken { place, sent }
 }
 
-// What a read comes to that answered a number: a failure, the end of the input, or so many bytes, which are taken.
+// What a read comes to: a failure, the end of the input, or so many bytes, which are taken.
 fn take_read(
     memory: &mut [u64; 6144],
     line: &mut [u8; 257],
     place: Place,
+    sent: Sent,
     buffer: &[u8],
-    got: isize,
+    got: Got,
     out: &mut [u8; 14343],
 ) -> Went
-    ensures { λ r. ⌜ TookRead got (now (buffer .entry)) (keeping (now (memory .entry)) (now (line .entry)) place) r (keeping (now (memory .exit)) (now (line .exit)) (r .place)) ⌝ }
+    ensures { λ r. ⌜ (r .got ≡ got) × TookRead (r .got .number) (now (buffer .entry)) (keeping (now (memory .entry)) (now (line .entry)) place) sent r (keeping (now (memory .exit)) (now (line .exit)) (r .place)) ⌝ }
 {
-    if got <= 0 {
+    let number = number_of(got);
+    if number <= 0 {
         return Went {
             place,
+            sent,
+            got,
             more: false,
-            well: 0 <= got,
+            well: 0 <= number,
         };
     }
-    let count = io::count(got, buffer);
-    run_block(memory, line, place, &buffer[..count], out)
+    let count = io::count(number, buffer);
+    let taken = run_block(memory, line, place, sent, &buffer[..count], out);
+    let place = taken.place;
+    let sent = taken.sent;
+    let well = sent_well(sent);
+    Went {
+        place,
+        sent,
+        got,
+        more: well,
+        well,
+    }
 }
 
 // Reads a block and takes its bytes.
 fn read_block(
     memory: &mut [u64; 6144],
     line: &mut [u8; 257],
-    place: Place,
+    before: Went,
+    buffer: &mut [u8; 4096],
     out: &mut [u8; 14343],
 ) -> Went
-    ensures { λ r. ⌜ Took (keeping (now (memory .entry)) (now (line .entry)) place) r (keeping (now (memory .exit)) (now (line .exit)) (r .place)) ⌝ }
+    ensures { λ r. ⌜ (r .got .reads ≡ capped (before .got .reads + 1)) × TookRead (r .got .number) (now (buffer .exit)) (keeping (now (memory .entry)) (now (line .entry)) (before .place)) (before .sent) r (keeping (now (memory .exit)) (now (line .exit)) (r .place)) ⌝ }
 {
-    let mut buffer = io::buffer();
-    let got = libc::read(0, &mut buffer);
-    take_read(memory, line, place, &buffer, got, out)
+    let place = before.place;
+    let sent = before.sent;
+    let got = receive(buffer, before.got);
+    take_read(memory, line, place, sent, buffer, got, out)
 }
 
 // Reads all blocks.
-fn read_blocks(memory: &mut [u64; 6144], line: &mut [u8; 257], out: &mut [u8; 14343]) -> Went
-    ensures { λ r. ⌜ (r .well ≡ true → (blocks : List (List ℕ)) × (bytes : List ℕ) × Stopped blocks × Read (opening (now (memory .entry)) (now (line .entry))) blocks bytes (keeping (now (memory .exit)) (now (line .exit)) (r .place))) ⌝ }
+fn read_blocks(
+    memory: &mut [u64; 6144],
+    line: &mut [u8; 257],
+    buffer: &mut [u8; 4096],
+    out: &mut [u8; 14343],
+) -> Went
+    ensures { λ r. ⌜ ReadAll (opening (now (memory .entry)) (now (line .entry))) r (keeping (now (memory .exit)) (now (line .exit)) (r .place)) ⌝ }
 {
     let mut turns = u64::MAX;
     let mut went = Went {
@@ -98,30 +128,35 @@ fn read_blocks(memory: &mut [u64; 6144], line: &mut [u8; 257], out: &mut [u8; 14
             held: 0,
             number: 1,
         },
+        sent: nothing_sent(),
+        got: nothing_got(),
         more: true,
         well: true,
     };
     while went.more && turns > 0 {
         turns -= 1;
-        went = read_block(memory, line, went.place, out);
+        went = read_block(memory, line, went, buffer, out);
     }
     went
 }
 
 // Reads the whole script; a read or a write that fails ends it.
-fn run(memory: &mut [u64; 6144], out: &mut [u8; 14343]) -> Went
-    ensures { λ r. ⌜ (r .well ≡ true → Ended (opening (now (memory .entry)) (replicate 257 0)) (now (memory .exit)) (now (out .exit)) (r .place .slots)) ⌝ }
+fn run(memory: &mut [u64; 6144], buffer: &mut [u8; 4096], out: &mut [u8; 14343]) -> Went
+    ensures { λ r. ⌜ RanAll (opening (now (memory .entry)) (replicate 257 0)) r (now (memory .exit)) (now (out .exit)) ⌝ }
 {
     let mut line = [0u8; 257];
-    let went = read_blocks(memory, &mut line, out);
+    let went = read_blocks(memory, &mut line, buffer, out);
     if went.well {
         let turn = last_turn(memory, &line, went.place, out);
-        let well = write_answer(out, turn.length);
+        let sent = send(out, turn.length, went.sent);
         let place = turn.place;
+        let got = went.got;
         return Went {
             place,
+            sent,
+            got,
             more: false,
-            well,
+            well: sent_well(sent),
         };
     }
     went
@@ -129,6 +164,7 @@ fn run(memory: &mut [u64; 6144], out: &mut [u8; 14343]) -> Went
 
 fn main() {
     let mut memory = [0u64; 6144];
+    let mut buffer = io::buffer();
     let mut out = [0u8; 14343];
-    run(&mut memory, &mut out);
+    run(&mut memory, &mut buffer, &mut out);
 }

@@ -284,27 +284,3 @@ script-printed memory line h blocks bytes kept read turn memory′ out out′ t 
       ap (λ (x : List ℕ). x ++ take (turn .length) out′) (sym (here .1)) ∙ (sym (end .1) ∙ ap (λ (x : Outcome (List ℕ)). x .printed) e),
       end .0 .table ∙ ap (λ (x : Outcome (List ℕ)). x .table) e,
     )
-
--- where reading stops: at a block of no bytes, the end of the input, and never before, unless 2^64 − 1 blocks were read
-abbrev pub Stopped : List (List ℕ) → Type 0
-Stopped blocks = ((before : List (List ℕ)) × (blocks ≡ before ++ [] ∷ [])) ⊎ (length blocks ≡ 18446744073709551615)
-
--- What a program leaves that has read to the end and made the last turn, its answer at the output's start: the blocks read, all answers before
--- the last, and the program where it then stood.
-pub record Ended (start : Kept) (memory′ out′ : List ℕ) (slots : ℕ) : Type 0 where
-  pub blocks : List (List ℕ)
-  pub answers : List ℕ
-  pub before : Kept
-  pub stopped : Stopped blocks
-  pub read : Read start blocks answers before
-  pub last : ℕ
-  pub printed : answers ++ take last out′ ≡ scriptOutcome (whole blocks) .printed
-  pub table : tableIn memory′ slots ≡ scriptOutcome (whole blocks) .table
-
-pub script-ended : (memory line : List ℕ) → length line ≡ 257 → (kept : Kept)
-    → ((blocks : List (List ℕ)) × (bytes : List ℕ) × Stopped blocks × Read (opening memory line) blocks bytes kept) → (turn : Turn) (memory′ out out′ : List ℕ)
-    → Turned (finished lineOutcome (readingOf (kept .memory) (kept .line) (kept .place))) 0 turn (kept .memory) memory′ (kept .line) out out′
-    → Ended (opening memory line) memory′ out′ (turn .place .slots)
-script-ended memory line h kept (blocks, bytes, stopped, read) turn memory′ out out′ t =
-    let told = script-printed memory line h blocks bytes kept read turn memory′ out out′ t in
-    record { blocks = blocks; answers = bytes; before = kept; stopped = stopped; read = read; last = turn .length; printed = told .0; table = told .1 }

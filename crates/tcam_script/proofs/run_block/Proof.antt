@@ -1,72 +1,83 @@
 -- `tcam_script::run_block` meets its contract.
--- Each turn of the loop is one call of take_turn, where the call before left off.
-use mathlib.Core.Path.{_≡_, refl, sym, _∙_}
-use mathlib.Core.Bool.{false, true≢false}
-use mathlib.Core.List.{List, []}
-use Prim.Native.Nat.{ℕ, _-_, _<_}
+-- Each turn of the loop is one call of take_turn, where the call before left off, and its answer is handed to the output.
+use mathlib.Core.Path.{_≡_, sym, _∙_}
+use mathlib.Core.Bool.{true≢false}
+use mathlib.Core.List.{List, [], _++_}
+use Prim.Native.Nat.{ℕ, _+_, _-_}
 use native.Mathlib.Omega.{arith}
-use lib.ListN.{length}
+use lib.ListN.{length, take, length-append, length-take}
 use borrow.Author.Tests.{ltb-true, ltb-false}
 use borrow.Author.Needs.{needs}
 use Rattle.transcripts.specs.Whole.{keeping, Called, next-within, shown-within}
+use Rattle.tcam_script.specs.Reads.{capped}
 use Rattle.tcam_script.proofs.run_block.Statement.{statement}
 use Rattle.tcam_script.proofs.run_block.Tie as tie
 
 abbrev Inv-loop : tie.InvT-loop
-Inv-loop memory₀ line₀ block out₀ place₀ from₀ well₀ memory line out place from well =
-    (well ≡ false → 0 < from) × (bytes : List ℕ) × Called block (keeping memory₀ line₀ place₀) bytes (keeping memory line place) from
+Inv-loop memory₀ line₀ block out₀ place₀ sent₀ from₀ well₀ memory line out place sent from well =
+    (well ≡ sent .well) × (bytes : List ℕ) × (sent .bytes ≡ capped (sent₀ .bytes + length bytes))
+    × Called block (keeping memory₀ line₀ place₀) bytes (keeping memory line place) from
 
 abbrev μ-loop : tie.MeasureT-loop
-μ-loop memory₀ line₀ block out₀ place₀ from₀ well₀ memory line out place from well = length block - from
+μ-loop memory₀ line₀ block out₀ place₀ sent₀ from₀ well₀ memory line out place sent from well = length block - from
+
+sent-well-requires : tie.Need-sent-well-requires Inv-loop μ-loop
+sent-well-requires c κs = search needs
 
 loop-holds : tie.Need-loop-holds Inv-loop μ-loop
-loop-holds c = (λ f. absurd (true≢false f), [], Called.begin)
+loop-holds c = (c .sent-well .ensures, [], omega arith, Called.begin)
 
 take-turn-requires : tie.Need-take-turn-requires Inv-loop μ-loop
 take-turn-requires c κs = search needs
 
-write-answer-requires : tie.Need-write-answer-requires Inv-loop μ-loop
-write-answer-requires c κs = shown-within (c .before .before .take-turn .ensures .shown)
+send-requires : tie.Need-send-requires Inv-loop μ-loop
+send-requires c κs = shown-within (c .before .before .take-turn .ensures .shown)
+
+sent-well-requires-2 : tie.Need-sent-well-requires-2 Inv-loop μ-loop
+sent-well-requires-2 c κs = search needs
 
 loop-less : tie.Need-loop-less Inv-loop μ-loop
 loop-less c =
-    let a = c .before .before .before .before .before .before .before .before .before .before .before .before .args in
-    let b = c .before .before .before .before .before .before .before .before .before .before .loop in
-    let t = c .before .before .before .before .take-turn in
-    let h = ltb-true (b .from) (length (a .block .now)) (c .before .before .before .before .before .before .before .before .if1 .taken) in
+    let a = c .before .before .before .before .before .before .before .before .before .before .before .before .before .before .args in
+    let b = c .before .before .before .before .before .before .before .before .before .before .before .loop in
+    let t = c .before .before .before .before .before .take-turn in
+    let h = ltb-true (b .from) (length (a .block .now)) (c .before .before .before .before .before .before .before .before .before .if1 .taken) in
     let m = next-within (length (b .line)) (b .place .held) (a .block .now) (b .from) h in
     let on = t .ensures .on in
     omega (arith, m .0, m .1, on)
 
 loop-again : tie.Need-loop-again Inv-loop μ-loop
 loop-again c =
-    let a = c .before .before .before .before .before .before .before .before .before .before .before .before .args in
-    let b = c .before .before .before .before .before .before .before .before .before .before .loop in
-    let t = c .before .before .before .before .take-turn in
-    let h = ltb-true (b .from) (length (a .block .now)) (c .before .before .before .before .before .before .before .before .if1 .taken) in
-    let m = next-within (length (b .line)) (b .place .held) (a .block .now) (b .from) h in
-    let on = t .ensures .on in (
-      λ f. omega (arith, m .0, on),
-      _,
-      Called.turned (b .inv .1) (keeping (b .memory) (b .line) (b .place)) (b .from) (b .inv .2) h (t .result) (t .last .0) (t .last .1 .0) (b .out) (t .last .1 .1 .1 .1 .1 .0) (t .ensures),
+    let a = c .before .before .before .before .before .before .before .before .before .before .before .before .before .before .args in
+    let b = c .before .before .before .before .before .before .before .before .before .before .before .loop in
+    let t = c .before .before .before .before .before .take-turn in
+    let h = ltb-true (b .from) (length (a .block .now)) (c .before .before .before .before .before .before .before .before .before .if1 .taken) in
+    let out = t .last .1 .1 .1 .1 .1 .0 in
+    let sum = length-append (b .inv .1) (take (t .result .length) out) in
+    let part = length-take (t .result .length) out in
+    let within = shown-within (t .ensures .shown) in
+    let before = b .inv .2 in
+    let sent = c .before .before .send .ensures .0 in (
+      c .before .sent-well2 .ensures,
+      b .inv .1 ++ take (t .result .length) out,
+      omega (arith, sum, part, within, before, sent),
+      Called.turned (b .inv .1) (keeping (b .memory) (b .line) (b .place)) (b .from) (b .inv .3) h (t .result) (t .last .0) (t .last .1 .0) (b .out) out (t .ensures),
     )
 
 returns : tie.Need-returns Inv-loop μ-loop
 returns c =
     let b = c .before .before .loop in
     record {
-      goes = refl;
-      through = λ w. (b .inv .1, (b .from, ltb-false (b .from) (length (c .before .before .before .before .args .block .now)) (c .if1 .left), b .inv .2));
-      stopped = λ f. absurd (true≢false (sym (c .before .loop-test .taken) ∙ f));
+      through = λ w. (b .inv .1, b .inv .2, (b .from, ltb-false (b .from) (length (c .before .before .before .before .before .args .block .now)) (c .if1 .left), b .inv .3));
+      stopped = λ f. (b .inv .1, b .inv .2, b .from, b .inv .3);
     }
 
 returns-2 : tie.Need-returns-2 Inv-loop μ-loop
 returns-2 c =
     let b = c .before .loop in
     record {
-      goes = refl;
-      through = λ w. absurd (true≢false (sym w ∙ c .loop-test .left));
-      stopped = λ f. (b .inv .1, b .from, b .inv .0 f, b .inv .2);
+      through = λ w. absurd (true≢false (sym w ∙ (sym (b .inv .0) ∙ c .loop-test .left)));
+      stopped = λ f. (b .inv .1, b .inv .2, b .from, b .inv .3);
     }
 
 pub run-block-spec : {M : Type 1} → statement M
@@ -75,9 +86,11 @@ run-block-spec =
     (tie.spec
     Inv-loop
     μ-loop
+    sent-well-requires
     loop-holds
     take-turn-requires
-    write-answer-requires
+    send-requires
+    sent-well-requires-2
     loop-less
     loop-again
     returns
