@@ -24,7 +24,7 @@ use Rattle.tcam_script.specs.declared.console.Got.{Got}
 use Rattle.tcam_script.specs.declared.console.Sent.{Sent}
 use Rattle.tcam_script.specs.declared.Went.{Went}
 
--- a count of bytes stays at its top
+-- a count stays at its top: of reads, and of bytes
 abbrev pub capped : ℕ → ℕ
 capped n = min n 18446744073709551615
 
