@@ -129,7 +129,7 @@ pub fn slot_unsound(table: &[u64], slot: usize) -> bool
     if slot_id(table, slot) == 0 {
         return !slot_zero(table, slot);
     }
-    // An `if` and no negation: compiled, a loop over slots is then two instructions shorter.
+    // An `if` and no negation: compiled, a loop over slots is then up to two instructions shorter.
     if slot_bounded(table, slot) {
         return false;
     }
