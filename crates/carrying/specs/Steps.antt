@@ -1,25 +1,24 @@
 -- What the definitions of a step say: the tests of one write as the code makes them, and the ways in which a step ends.
 -- A step that is refused or finished leaves the table and the writes done as they were.
 use mathlib.Core.Path.{_≡_, refl, sym, ap, ap₂, subst, _∙_}
-use mathlib.Core.Bool.{Bool, true, false, not, cond, _&&_, Bool·not-not, true≢false}
+use mathlib.Core.Bool.{Bool, true, false, not, cond, _&&_, true≢false}
 use mathlib.Core.Logic.{_≢_, _⊎_}
 use mathlib.Core.Logic._⊎_.{inl, inr}
 use mathlib.Core.List.{List, [], _∷_}
-use Prim.Native.Nat.{ℕ, _+_, _/_, _%_, _≤_, _<_}
+use Prim.Native.Nat.{ℕ, _+_, _≤_, _<_}
 use lib.Dec.{eqb, ltb, leb}
 use lib.ListN.{length, getD}
-use native.Mathlib.Decide.{ℕ-discrete}
 use native.Mathlib.Omega.{arith}
-use borrow.Author.Tests.{eq-eqb, ne-eqb, leb-true}
+use borrow.Author.Tests.{eq-eqb, ne-eqb, leb-true, not-true, not-false}
 use Rattle.search.specs.Search.{decided, and-left, and-right}
-use Rattle.layout.specs.Write.{copy, put, clear}
-use Rattle.records.specs.Record.{slotWords, empty, occupied, soundRule, recordOf, putSlot, listed, recordWords, word}
+use Rattle.layout.specs.Write.{Write, copy, put, clear}
+use Rattle.records.specs.Record.{slotWords, empty, occupied, putSlot, listed, recordWords, word}
 use Rattle.records.specs.Order.{slots}
 use Rattle.records.specs.Rules.{listed-words}
 use Rattle.records.specs.Checks.{Told, success, refusal, unless, passes, slotChecks}
-use Rattle.records.specs.Entries.{vacant, entryAt}
 use Rattle.records.specs.Laws.{or-else-pass, pass-law, cause-not-zero, cause-number-once}
-use Rattle.records.specs.Writes.{writeOf, word-puts, word-clears, word-copies, standsElsewhere, freeAt, fitsWrite, fitsWord, applyWrite, applyWord, SlotsBelow, fits-below}
+use Rattle.records.specs.Writes.{standsElsewhere, freeAt, fitsWrite, fitsWord, applyWrite, applyWord, fits-below}
+use Rattle.plan_words.specs.PlanWords.{writeOf, SlotsBelow}
 use Rattle.records.specs.declared.Rule.{Rule}
 use Rattle.records.specs.declared.Cause.{Cause}
 use Rattle.records.specs.declared.Cause.the-variants.{Rule as RuleCause, Write as WriteCause}
@@ -69,59 +68,31 @@ pub stored : (w : ℕ) (t : List ℕ) (i : ℕ) {words x after : List ℕ} → a
 stored w t i {words} {x} e f n =
     e ∙ ap (putSlot w t i) (ap (λ (l : List ℕ). listed (recordWords w) (word l)) f ∙ listed-words (recordWords w) x n)
 
--- the three kinds of word
-module _ (w : ℕ) (t : List ℕ) (n : ℕ) where
-  pub put-fits : n / 65536 ≡ 65535 → fitsWrite w t (put (n % 65536)) ≡ fitsWord w t n
-  put-fits e = sym (ap (fitsWrite w t) (word-puts n e))
+-- the write of a word, by the value that the code has taken it apart to
+module _ (w : ℕ) (t : List ℕ) (n : ℕ) {x : Write} (e : x ≡ writeOf n) where
+  pub write-fitting : fitsWrite w t x ≡ fitsWord w t n
+  write-fitting = ap (fitsWrite w t) e
 
-  pub clear-fits : n / 65536 ≡ 65534 → fitsWrite w t (clear (n % 65536)) ≡ fitsWord w t n
-  clear-fits e = sym (ap (fitsWrite w t) (word-clears n e))
+  pub write-made : (rule : Rule) → applyWrite w t rule x ≡ applyWord w t rule n
+  write-made rule = ap (applyWrite w t rule) e
 
-  pub copy-fits : n / 65536 ≢ 65535 → n / 65536 ≢ 65534 → fitsWrite w t (copy (n / 65536) (n % 65536)) ≡ fitsWord w t n
-  copy-fits p c = sym (ap (fitsWrite w t) (word-copies n p c))
+  -- the slots of a write that fits exist
+  pub write-below : fitsWord w t n ≡ true → SlotsBelow (slots w t) x
+  write-below f = subst (SlotsBelow (slots w t)) (sym e) (fits-below w t (writeOf n) f)
 
-  -- the table with the word's write made, by its slots
-  pub put-made : (rule : Rule) → n / 65536 ≡ 65535 → putSlot w t (n % 65536) (recordOf w rule) ≡ applyWord w t rule n
-  put-made rule e = sym (ap (applyWrite w t rule) (word-puts n e))
+-- how the checks of the next write end
+module _ (w : ℕ) (t : List ℕ) (n : ℕ) (rule : Rule) (done : ℕ) {s : Bool} (e : s ≡ putSound w rule (writeOf n)) where
+  pub write-unsound : not s ≡ true → Fail RuleCause 0 ≡ writeChecks w t rule n done
+  unfolding writeChecks
+  write-unsound h = rw (← e, not-true s h)
 
-  pub clear-made : (rule : Rule) → n / 65536 ≡ 65534 → putSlot w t (n % 65536) (vacant w) ≡ applyWord w t rule n
-  clear-made rule e = sym (ap (applyWrite w t rule) (word-clears n e))
+  pub write-fits : {f : Bool} → not s ≡ false → f ≡ fitsWord w t n → f ≡ true → Pass ≡ writeChecks w t rule n done
+  unfolding writeChecks
+  write-fits h g i = rw (← e, not-false s h, ← g, i)
 
-  pub copy-made : (rule : Rule) → n / 65536 ≢ 65535 → n / 65536 ≢ 65534 → putSlot w t (n % 65536) (entryAt w t (n / 65536)) ≡ applyWord w t rule n
-  copy-made rule p c = sym (ap (applyWrite w t rule) (word-copies n p c))
-
-  -- the slots of a word that fits exist
-  pub put-below : fitsWord w t n ≡ true → n / 65536 ≡ 65535 → n % 65536 < slots w t
-  put-below f e = subst (SlotsBelow (slots w t)) (word-puts n e) (fits-below w t (writeOf n) f)
-
-  pub clear-below : fitsWord w t n ≡ true → n / 65536 ≡ 65534 → n % 65536 < slots w t
-  clear-below f e = subst (SlotsBelow (slots w t)) (word-clears n e) (fits-below w t (writeOf n) f)
-
-  pub copy-below : fitsWord w t n ≡ true → n / 65536 ≢ 65535 → n / 65536 ≢ 65534 → (n / 65536 < slots w t) × (n % 65536 < slots w t)
-  copy-below f p c = subst (SlotsBelow (slots w t)) (word-copies n p c) (fits-below w t (writeOf n) f)
-
-  -- a rule is looked at only where one is put in
-  pub put-sound : (rule : Rule) → putSound w rule (writeOf n) ≡ not (eqb (n / 65536) 65535 && not (soundRule w rule))
-  put-sound rule = pick (ℕ-discrete (n / 65536) 65535) (ℕ-discrete (n / 65536) 65534)
-    where
-      pick : Dec (n / 65536 ≡ 65535) → Dec (n / 65536 ≡ 65534) → putSound w rule (writeOf n) ≡ not (eqb (n / 65536) 65535 && not (soundRule w rule))
-      pick (yes e) d = ap (putSound w rule) (word-puts n e) ∙ (sym (Bool·not-not (soundRule w rule)) ∙ rw (eq-eqb (n / 65536) 65535 e))
-      pick (no p) (yes e) = ap (putSound w rule) (word-clears n e) ∙ rw (ne-eqb (n / 65536) 65535 p)
-      pick (no p) (no c) = ap (putSound w rule) (word-copies n p c) ∙ rw (ne-eqb (n / 65536) 65535 p)
-
-  -- how the checks of the next write end
-  module _ (rule : Rule) (done : ℕ) {s : Bool} (e : s ≡ soundRule w rule) where
-    pub write-unsound : eqb (n / 65536) 65535 && not s ≡ true → Fail RuleCause 0 ≡ writeChecks w t rule n done
-    unfolding writeChecks
-    write-unsound h = rw (put-sound rule, ← e, h)
-
-    pub write-fits : {f : Bool} → eqb (n / 65536) 65535 && not s ≡ false → f ≡ fitsWord w t n → f ≡ true → Pass ≡ writeChecks w t rule n done
-    unfolding writeChecks
-    write-fits h g i = rw (put-sound rule, ← e, h, ← g, i)
-
-    pub write-unfit : {f : Bool} → eqb (n / 65536) 65535 && not s ≡ false → f ≡ fitsWord w t n → f ≡ false → Fail WriteCause done ≡ writeChecks w t rule n done
-    unfolding writeChecks
-    write-unfit h g i = rw (put-sound rule, ← e, h, ← g, i)
+  pub write-unfit : {f : Bool} → not s ≡ false → f ≡ fitsWord w t n → f ≡ false → Fail WriteCause done ≡ writeChecks w t rule n done
+  unfolding writeChecks
+  write-unfit h g i = rw (← e, not-false s h, ← g, i)
 
 -- how a step ends: the answer, the table and the writes done afterwards
 abbrev pub Ends : ℕ → List ℕ → List ℕ → Rule → ℕ → ℕ → Told → List ℕ → ℕ → Type 0

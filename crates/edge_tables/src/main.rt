@@ -5,8 +5,8 @@ ghost use lib.ListN.{length};
 use lookups::LookupAnswer;
 use lookups::lookup::lookup;
 use lookups::lookup::slot_record;
-use plans::PlanAnswer;
-use plans::deletes::plan_delete;
+use buffers::PlanAnswer;
+use delete_plans::plan_delete;
 use records::Cause;
 use records::Check;
 use records::Rule;
@@ -15,7 +15,7 @@ use slots::put_record;
 use slots::rules::record_of;
 use slots::rules::rule_of;
 use slots::rules::rule_sound;
-use table::inserts::plan_insert;
+use insert_plans::plan_insert;
 use table_checks::check_table;
 
 fn number(value: u64) {

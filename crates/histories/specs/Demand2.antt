@@ -16,25 +16,28 @@ use Rattle.search.specs.Search.{and-left, and-right}
 use Rattle.ternary.specs.Pattern.{Words}
 use Rattle.layout.specs.Held.{Held, emptied, held-removed}
 use Rattle.layout.specs.Valid.{Between}
-use Rattle.layout.specs.Write.{Write, copy, put, clear, writeWord}
+use Rattle.layout.specs.Write.{Write, copy, put, clear}
+use Rattle.plan_words.specs.PlanWords.{writeWord}
 use Rattle.records.specs.Record.{word, slotWords, ident, occupied, soundRule, recordOf}
 use Rattle.records.specs.Rules.{record-ident}
 use Rattle.records.specs.Checks.{success, checkTwice, checkOrder, slotChecks}
 use Rattle.records.specs.Laws.{slot-checks-law, table-checks-law, same-id-law}
 use Rattle.records.specs.Entries.{vacant, entries, entryOccupied, entrySame, entryMisordered, entries-length, entry-same, ident-cong, occupied-at, entry-laws, unique-entries, shaped-slots, refuted}
-use Rattle.records.specs.Writes.{writeOf, write-of-word, fitsWord, applyWords, apply-entries}
+use Rattle.records.specs.Writes.{fitsWord, applyWords, apply-entries}
+use Rattle.plan_words.specs.PlanWords.{writeOf}
+use Rattle.plan_words.specs.PlanWordsLaws.{write-of-word}
 use Rattle.records.specs.ClassWords.{class-words-law}
 use Rattle.records.specs.declared.Rule.{Rule}
 use Rattle.records.specs.declared.Check.the-variants.{Pass}
 use Rattle.neighbours.specs.Neighbours.{insertChecks}
 use Rattle.lookups.specs.Lookup.{reply}
-use Rattle.plans.specs.Plans.{plan-accepted}
-use Rattle.table.specs.Inserts.{insertWords, insertAnswer, insertPlan}
-use Rattle.table.specs.Insertable.{Insertable, insertable-law}
-use Rattle.table.specs.Demand3.{ShortestPlan, shortest-words}
-use Rattle.plans.specs.Deletes.{hasId, slotOfId, deleteChecks, deleteWords, deleteAnswer, deletePlan, DeletePlanned, delete-planned}
-use Rattle.table.specs.Replies.{insert-keeps-reply}
-use Rattle.table.specs.Soundness.{insert-between-checks, insert-after-checks, delete-after-checks}
+use Rattle.buffers.specs.Buffers.{buffer-accepted}
+use Rattle.insert_plans.specs.Inserts.{insertWords, insertAnswer, insertPlan}
+use Rattle.insert_plans.specs.Insertable.{Insertable, insertable-law}
+use Rattle.insert_plans.specs.Demand3.{ShortestPlan, shortest-words}
+use Rattle.delete_plans.specs.Deletes.{hasId, slotOfId, deleteChecks, deleteWords, deleteAnswer, deletePlan, DeletePlanned, delete-planned}
+use Rattle.histories.specs.Replies.{insert-keeps-reply}
+use Rattle.histories.specs.Soundness.{insert-between-checks, insert-after-checks, delete-after-checks}
 use Rattle.carrying.specs.Carrying.{putSound}
 use Rattle.carrying.specs.Calls.{afterCalls, callAnswer}
 use Rattle.histories.specs.RuleSet.{Member, without, without-law, setReply}
@@ -159,7 +162,7 @@ pub demand-2-insert : (w : ℕ) (t : List ℕ) (rule : Rule) (plan : List ℕ) (
     → insertAnswer w t rule (length plan) ≡ success (count ∷ []) → Demand2 w t (insertPlan w t rule plan) rule (insertWords w t rule) count (λ rules. rule ∷ rules)
 unfolding words
 demand-2-insert w t rule plan count small e =
-    let a = plan-accepted (insertChecks w t rule) (insertWords w t rule) plan count e in
+    let a = buffer-accepted (insertChecks w t rule) (insertWords w t rule) plan count e in
     subst (λ (n : ℕ). Demand2 w t (insertPlan w t rule plan) rule (insertWords w t rule) n (λ rules. rule ∷ rules)) (sym (a .1))
     (insert-carries w t rule small (insertable-law w t rule .0 (a .0)) (insertPlan w t rule plan) (drop (length (insertWords w t rule)) plan) (a .2))
 
@@ -257,7 +260,7 @@ module _ (w : ℕ) (t : List ℕ) (id : ℕ) (checks : deleteChecks w t id ≡ P
 pub demand-2-delete : (w : ℕ) (t : List ℕ) (id : ℕ) (plan : List ℕ) (count : ℕ) (rule : Rule)
     → deleteAnswer w t id (length plan) ≡ success (count ∷ []) → Demand2 w t (deletePlan w t id plan) rule (deleteWords w t id) count (without id)
 demand-2-delete w t id plan count rule e =
-    let a = plan-accepted (deleteChecks w t id) (deleteWords w t id) plan count e in
+    let a = buffer-accepted (deleteChecks w t id) (deleteWords w t id) plan count e in
     subst (λ (n : ℕ). Demand2 w t (deletePlan w t id plan) rule (deleteWords w t id) n (without id)) (sym (a .1))
     (delete-carries w t id (a .0) rule (deletePlan w t id plan) (drop 1 plan) (a .2))
 
@@ -273,6 +276,6 @@ pub insert-between : (w : ℕ) (t : List ℕ) (rule : Rule) (plan : List ℕ) (c
     → Between (vacant w) (entryOccupied w) (entrySame w) (entryMisordered w) (entries w t) (entries w (afterCalls w t (insertPlan w t rule plan) rule count k .table))
 insert-between w t rule plan count small e k h =
     let d = demand-2-insert w t rule plan count small e in
-    let a = plan-accepted (insertChecks w t rule) (insertWords w t rule) plan count e in
+    let a = buffer-accepted (insertChecks w t rule) (insertWords w t rule) plan count e in
     subst (λ (u : List ℕ). Between (vacant w) (entryOccupied w) (entrySame w) (entryMisordered w) (entries w t) (entries w u)) (sym (d .made k (omega arith)))
     (shortest-words w t rule small (insertable-law w t rule .0 (a .0)) .between k (omega (arith, d .number)))

@@ -2,7 +2,6 @@
 -- highest-priority matching rule that was inserted and not since deleted, or by a miss.
 use mathlib.Core.Path.{_≡_, refl, sym, ap, _∙_, subst}
 use mathlib.Core.Bool.{true, false, not, true≢false}
-use mathlib.Core.Logic.{_≢_}
 use mathlib.Core.Logic._⊎_.{inl}
 use mathlib.Core.List.{List, [], _∷_}
 use Prim.Native.Nat.{ℕ, zero, suc, _+_, _*_, _≤_, _<_}
@@ -16,8 +15,8 @@ use Rattle.records.specs.Laws.{slot-checks-law, table-checks-law, shape-law, re
 use Rattle.records.specs.Entries.{vacant, entries, entryOccupied, entries-length, occupied-at, entry-laws, order-entries, unique-entries, refuted}
 use Rattle.records.specs.declared.Rule.{Rule}
 use Rattle.records.specs.declared.Check.the-variants.{Pass}
-use Rattle.table.specs.Inserts.{insertAnswer, insertPlan}
-use Rattle.plans.specs.Deletes.{deleteAnswer, deletePlan}
+use Rattle.insert_plans.specs.Inserts.{insertAnswer, insertPlan}
+use Rattle.delete_plans.specs.Deletes.{deleteAnswer, deletePlan}
 use Rattle.histories.specs.RuleSet.{Change, insert, delete, ruleSet, setReply}
 use Rattle.histories.specs.Holding.{Replies, Holding, holding-reply, holding-lookup}
 use Rattle.carrying.specs.Calls.{State, afterCalls, callAnswer}

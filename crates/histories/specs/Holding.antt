@@ -26,7 +26,7 @@ use Rattle.records.specs.declared.Rule.{Rule}
 use Rattle.records.specs.declared.Check.the-variants.{Pass}
 use Rattle.lookups.specs.Lookup.{lookupAnswer, matchTold, lookupTold, hitAt, reply}
 use Rattle.lookups.specs.declared.LookupAnswer.the-variants.{Found, Miss}
-use Rattle.table.specs.Replies.{entryMatches, entryTold, entries-conflict, optionTold, reply-entries}
+use Rattle.histories.specs.Replies.{entryMatches, entryTold, entries-conflict, optionTold, reply-entries}
 use Rattle.histories.specs.RuleSet.{ruleMatches, highestMatch, highest-law, ruleReply, setReply, Member, IsHighest}
 
 -- a lookup of the key is answered, with this reply: id and action, or nothing for a miss

@@ -3,7 +3,7 @@
 use mathlib.Core.Path.{_≡_, refl, sym, ap, ap₂, _∙_}
 use mathlib.Core.Bool.{true}
 use mathlib.Core.List.{List, [], _∷_, _++_}
-use Prim.Native.Nat.{ℕ, zero, suc, _+_, _≤_, _<_}
+use Prim.Native.Nat.{ℕ, zero, suc, _≤_, _<_}
 use native.Mathlib.Numerals.{add-one}
 use native.Mathlib.Decide.{decLe}
 use native.Mathlib.Omega.{arith}
@@ -11,7 +11,8 @@ use lib.ListN.{length, getD, take, length-append, List·getD-append}
 use lib.Seq.{take-all}
 use borrow.Author.Tests.{le-leb}
 use Rattle.records.specs.Checks.{success, slotChecks}
-use Rattle.records.specs.Writes.{writeOf, fitsWord, applyWord, applyWords, apply-words-next}
+use Rattle.records.specs.Writes.{fitsWord, applyWord, applyWords, apply-words-next}
+use Rattle.plan_words.specs.PlanWords.{writeOf}
 use Rattle.records.specs.declared.Rule.{Rule}
 use Rattle.records.specs.declared.Check.the-variants.{Pass}
 use Rattle.carrying.specs.Carrying.{progressChecks, putSound, writeChecks, stepAnswer, stepTable, stepDone}

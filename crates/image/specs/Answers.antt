@@ -8,7 +8,7 @@ use lib.ListN.{length, getD}
 use lib.Dec.{eqb}
 use Rattle.records.specs.Laws.{cause-number-once, cause-not-zero}
 use Rattle.records.specs.Checks.{Told, success, refusal, unless, passes, tableChecks}
-use Rattle.plans.specs.Plans.{planAnswer, planBuffer}
+use Rattle.buffers.specs.Buffers.{bufferAnswer, bufferAfter}
 use Rattle.image.specs.Format.{imageBytes, ruleCount, imageOf}
 use Rattle.image.specs.Checks.{meant, loadChecks}
 use Rattle.image.specs.declared.SaveAnswer.{SaveAnswer}
@@ -42,10 +42,10 @@ load-told-once (LoadRefused c s) (LoadRefused d u) e =
 
 -- save makes checks 1 to 4, then 11 with the bytes needed: a buffer too short is one row for plans and images
 abbrev pub saveAnswer : ℕ → List ℕ → ℕ → Told
-saveAnswer w t room = planAnswer (tableChecks w t) (imageBytes w (ruleCount w t)) room
+saveAnswer w t room = bufferAnswer (tableChecks w t) (imageBytes w (ruleCount w t)) room
 
 abbrev pub saveBuffer : ℕ → List ℕ → List ℕ → List ℕ
-saveBuffer w t image = planBuffer (tableChecks w t) (imageOf w t) image
+saveBuffer w t image = bufferAfter (tableChecks w t) (imageOf w t) image
 
 -- load: the table meant, or a refusal that leaves the lent table as it was
 unfoldable pub loadAnswer : ℕ → List ℕ → List ℕ → Told

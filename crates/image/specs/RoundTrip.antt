@@ -1,10 +1,10 @@
 -- Saving and loading undo each other: a saved image loads to the table it was saved from, and an image that loads is saved again to the same bytes.
 -- So sound tables and the images that load correspond one to one. Stated of the functions that the contracts of save and load cite.
 use mathlib.Core.Path.{_≡_, refl, sym, ap, ap₂, subst, _∙_}
-use mathlib.Core.Bool.{true, true≢false}
+use mathlib.Core.Bool.{true≢false}
 use mathlib.Core.Logic.{_↔_}
 use mathlib.Core.List.{List, [], _∷_, _++_}
-use Prim.Native.Nat.{ℕ, _+_, _*_, _≤_, _<_}
+use Prim.Native.Nat.{ℕ, _*_, _≤_, _<_}
 use native.Mathlib.Decide.{decLt}
 use native.Mathlib.Omega.{arith}
 use lib.Dec.{eqb}
@@ -18,7 +18,7 @@ use Rattle.records.specs.Entries.{shaped-slots}
 use Rattle.records.specs.declared.Cause.the-variants.{Short}
 use Rattle.records.specs.declared.Check.{Check}
 use Rattle.records.specs.declared.Check.the-variants.{Pass, Fail}
-use Rattle.plans.specs.Plans.{checkRoom, planAnswer, plan-accepted, plan-short, plan-written}
+use Rattle.buffers.specs.Buffers.{checkRoom, bufferAnswer, buffer-accepted, buffer-short, buffer-written}
 use Rattle.image.specs.ByteLaws.{Bytes}
 use Rattle.image.specs.Format.{imageBytes, ruleCount, imageOf, slotsIn}
 use Rattle.image.specs.Checks.{imageChecks, meant, loadChecks}
@@ -42,21 +42,21 @@ pub save-succeeds : (w : ℕ) (t image : List ℕ) (bytes : ℕ)
     ↔ ((tableChecks w t ≡ Pass) × (length (imageOf w t) ≤ length image) × (bytes ≡ length (imageOf w t)))
 save-succeeds w t image bytes = (
   λ e. let told = save-answer w t (length image) ∙ e in
-      let done = plan-accepted (tableChecks w t) (imageOf w t) image bytes told in
+      let done = buffer-accepted (tableChecks w t) (imageOf w t) image bytes told in
       (done .0, room (done .0) told (decLt (length image) (length (imageOf w t))), done .1),
   λ f. sym (save-answer w t (length image))
-      ∙ (sym (plan-written (imageOf w t) image refl (f .0) (f .1) .0) ∙ ap (λ (k : ℕ). success (k ∷ [])) (sym (f .2))),
+      ∙ (sym (buffer-written (imageOf w t) image refl (f .0) (f .1) .0) ∙ ap (λ (k : ℕ). success (k ∷ [])) (sym (f .2))),
 )
   where
-    room : tableChecks w t ≡ Pass → planAnswer (tableChecks w t) (length (imageOf w t)) (length image) ≡ success (bytes ∷ [])
+    room : tableChecks w t ≡ Pass → bufferAnswer (tableChecks w t) (length (imageOf w t)) (length image) ≡ success (bytes ∷ [])
         → Dec (length image < length (imageOf w t)) → length (imageOf w t) ≤ length image
     room p told (yes h) =
-        absurd (true≢false (sym (ap (λ (x : Told). eqb (x .number) 0) (plan-short (imageOf w t) image refl p h .0 ∙ told)) ∙ cause-not-zero Short))
+        absurd (true≢false (sym (ap (λ (x : Told). eqb (x .number) 0) (buffer-short (imageOf w t) image refl p h .0 ∙ told)) ∙ cause-not-zero Short))
     room p told (no h) = omega arith
 
 -- the number that a save tells is enough
 pub save-number : (w : ℕ) (t : List ℕ) (room : ℕ) → 0 ≡ saveAnswer w t room .number → saveAnswer w t room ≡ success (imageBytes w (ruleCount w t) ∷ [])
-unfolding planAnswer
+unfolding bufferAnswer
 save-number w t room e =
     let needed = imageBytes w (ruleCount w t) in
     ap (λ (check : Check). unless check (success (needed ∷ []))) (unless-zero (orElse (tableChecks w t) (checkRoom needed room)) (needed ∷ []) e)
@@ -90,7 +90,7 @@ pub saved-loads : (w : ℕ) (t image : List ℕ) (bytes : ℕ) → Numbered w �
     → (loadAnswer w (take bytes (saveBuffer w t image)) lent ≡ success []) × (loadTable w (take bytes (saveBuffer w t image)) lent ≡ t)
 saved-loads w t image bytes narrow sixty-four e lent size =
     let done = save-succeeds w t image bytes .0 e in
-    let written = plan-written (imageOf w t) image refl (done .0) (done .1) .1 in
+    let written = buffer-written (imageOf w t) image refl (done .0) (done .1) .1 in
     let same : take bytes (saveBuffer w t image) ≡ imageOf w t =
     ap₂ take (done .2) (sym written) ∙ take-at (imageOf w t) (drop (length (imageOf w t)) image) (length (imageOf w t)) refl in
     let loads = image-loads w t narrow sixty-four (done .0) lent size in
@@ -147,7 +147,7 @@ loaded-saves w b lent bytes told image room =
     let left = load-leaves w b lent bytes told in
     let t = loadTable w b lent in
     let size : length (imageOf w t) ≡ length b = ap length (left .image) in
-    let done = plan-written (imageOf w t) image refl (left .sound) (omega arith) in (
+    let done = buffer-written (imageOf w t) image refl (left .sound) (omega arith) in (
       sym (save-answer w t (length image)) ∙ (sym (done .0) ∙ ap (λ (k : ℕ). success (k ∷ [])) size),
       sym (done .1) ∙ ap (λ (bytes : List ℕ). bytes ++ drop (length bytes) image) (left .image),
     )

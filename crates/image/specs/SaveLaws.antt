@@ -14,7 +14,7 @@ use Rattle.records.specs.Checks.{orElse, checkShape, checkRecords, checkTwice, 
 use Rattle.records.specs.Laws.{or-else-pass}
 use Rattle.records.specs.Entries.{shaped-slots}
 use Rattle.records.specs.declared.Check.the-variants.{Pass}
-use Rattle.plans.specs.Plans.{planAnswer}
+use Rattle.buffers.specs.Buffers.{bufferAnswer}
 use Rattle.image.specs.Answers.{saveAnswer}
 use Rattle.image.specs.Bytes.{bytesOf, store, pieces}
 use Rattle.image.specs.ByteLaws.{length-bytes, pieces-length, store-none, store-length, store-next, store-then, store-swap}
@@ -87,8 +87,8 @@ module _ (w : ℕ) (t : List ℕ) where
       )
 
   -- the bytes that a save needs are the image's
-  pub save-answer : (room : ℕ) → planAnswer (tableChecks w t) (length (imageOf w t)) room ≡ saveAnswer w t room
-  save-answer room = ap (λ (n : ℕ). planAnswer (tableChecks w t) n room) image-length
+  pub save-answer : (room : ℕ) → bufferAnswer (tableChecks w t) (length (imageOf w t)) room ≡ saveAnswer w t room
+  save-answer room = ap (λ (n : ℕ). bufferAnswer (tableChecks w t) n room) image-length
 
   -- a table that passes the checks holds at most 1,024 rules
   pub rules-small : tableChecks w t ≡ Pass → ruleCount w t ≤ 1024

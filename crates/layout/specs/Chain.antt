@@ -1,18 +1,17 @@
 -- Chains of moves: each rule goes to a slot of its window, the last to an empty slot; a slot's cost is the length of its shortest chain.
 -- The chain that document 01's tie rule walks is one of these, and the only one that follows the rule.
 use mathlib.Core.Path.{_≡_, refl, sym, ap, _∙_}
-use mathlib.Core.Bool.{Bool, true, false, true≢false}
+use mathlib.Core.Bool.{Bool, true, false}
 use mathlib.Core.Logic.{_↔_, _⊎_, ⊎-elim}
 use mathlib.Core.Logic._⊎_.{inl, inr}
 use mathlib.Core.List.{List, [], _∷_, map, reverse}
 use Prim.Native.Nat.{ℕ, zero, suc, _+_, _-_, _≤_, _<_}
 use native.Mathlib.Omega.{arith}
-use native.Mathlib.Decide.{ℕ-discrete}
 use lib.Dec.{eqb}
 use lib.ListN.{length, getD, length-reverse}
 use borrow.Author.Tests.{eq-eqb, ne-eqb}
-use Rattle.search.specs.Search.{least, least-law, least-unique, least-cong, afterLast, after-last-law, after-last-unique, decided}
-use Rattle.layout.specs.Order.{Direction, Higher, Lower}
+use Rattle.search.specs.Search.{least, least-law, least-unique, least-cong, decided}
+use Rattle.layout.specs.Order.{Higher, Lower}
 use Rattle.layout.specs.Cost.{InWindow, Costs, slotCost, costs-law, nextSlot, next-law}
 use Rattle.layout.specs.Mirror.{mirror, mirror-twice, getD-reverse, window-mirrored}
 
@@ -78,36 +77,10 @@ module _ {S : Type 0} {empty : S} {occupied : S → Bool} {toward : ℕ → ℕ 
       pub chain-below : {s : ℕ} {rest : List ℕ} → Chain empty occupied toward misplaced t s rest → c s < length t
       chain-below k = omega (arith, chain-cost k, chain-length rank low rises k)
 
-  -- only one chain from a slot follows the tie rule
-  pub walk-unique : {misordered : S → S → Bool} → Direction empty misordered toward misplaced → {c : ℕ → ℕ} {s : ℕ} {rest other : List ℕ}
-      → Walk empty occupied toward misplaced t c s rest → Walk empty occupied toward misplaced t c s other → rest ≡ other
-  walk-unique d (Walk.stop b o) (Walk.stop b′ o′) = refl
-  walk-unique d (Walk.stop b o) (Walk.link b′ o′ w e f k) = absurd (true≢false (sym o′ ∙ o))
-  walk-unique d (Walk.link b o w e f k) (Walk.stop b′ o′) = absurd (true≢false (sym o ∙ o′))
-  walk-unique d {c} {s} (Walk.link {j = j} {rest = rest} b o w e f k) (Walk.link {j = i} {rest = other} b′ o′ w′ e′ f′ k′) =
-      pick (ℕ-discrete j i) (λ k″. walk-unique d k k″)
-    where
-      earlier : (j i : ℕ) → c s ≡ suc (c j) → c s ≡ suc (c i) → c j < c i → ⊥
-      earlier j i e e′ l = omega arith
-
-      pick : Dec (j ≡ i) → (Walk empty occupied toward misplaced t c j other → rest ≡ other) → j ∷ rest ≡ i ∷ other
-      pick (yes q) ih = let r = ih (rw q k′) in cc
-      pick (no q) ih =
-          absurd (⊎-elim (λ l. earlier i j e′ e (f′ j (w .inside) (w .after) l)) (λ l. earlier j i e e′ (f i (w′ .inside) (w′ .after) l)) (d .total j i q))
-
 -- the slots walked from s with k moves to make; next k s is the slot after s where k moves are left
 unfoldable pub steps : (ℕ → ℕ → ℕ) → ℕ → ℕ → List ℕ
 steps next zero s = []
 steps next (suc k) s = let j = next k s in j ∷ steps next k j
-
--- it is enough that two ways to step agree on the slots walked
-pub steps-cong : {next other : ℕ → ℕ → ℕ} (P : ℕ → Type 0) → ((k s : ℕ) → P s → (next k s ≡ other k s) × P (other k s))
-    → (k s : ℕ) → P s → steps next k s ≡ steps other k s
-unfolding steps
-steps-cong P f zero s p = refl
-steps-cong {next} {other} P f (suc k) s p =
-    let q = f k s p in
-    rw (q .0) (ap (λ (r : List ℕ). other k s ∷ r) (steps-cong P f k (other k s) (q .1)))
 
 -- stepping to the lowest slot of least cost in each window, from a slot of finite cost, is the tie rule's walk
 pub steps-walk : {S : Type 0} (empty : S) (occupied : S → Bool) (misplaced : S → S → Bool) (top : ℕ) (t : List S)
@@ -142,9 +115,6 @@ module _ {S : Type 0} {empty : S} {occupied : S → Bool} {misplaced : S → S �
 abbrev pub firstOfCost : (ℕ → ℕ) → ℕ → ℕ → ℕ → ℕ
 firstOfCost c n k s = least (λ y. eqb (c y) k) (n - suc s) (suc s)
 
-abbrev pub lastOfCost : (ℕ → ℕ) → ℕ → ℕ → ℕ
-lastOfCost c k s = afterLast (λ y. eqb (c y) k) s - 1
-
 -- of the costs they see those of the slots
 pub first-of-cost-cong : {c d : ℕ → ℕ} (n : ℕ) → ((j : ℕ) → j < n → c j ≡ d j) → (k s : ℕ) → firstOfCost c n k s ≡ firstOfCost d n k s
 first-of-cost-cong n h k s = least-cong (n - suc s) (suc s) (λ j l r. ap (λ (x : ℕ). eqb x k) (h j (omega arith)))
@@ -171,14 +141,3 @@ module _ {S : Type 0} {empty : S} {misplaced : S → S → Bool} {t : List S} {c
         before = λ y l r. ne-eqb (c y) k (λ z. omega (arith, f y (omega (arith, w .inside)) l r));
         hit = λ l. eq-eqb (c j) k e;
       })
-
-  pub last-of-cost : (s j k : ℕ) → s < length t → InWindow empty Lower misplaced t s j → c j ≡ k → ((y : ℕ) → y < length t → y < s → j < y → c j < c y)
-      → lastOfCost c k s ≡ j
-  last-of-cost s j k b w e f =
-      let past : afterLast (λ y. eqb (c y) k) s ≡ suc j =
-      after-last-unique (after-last-law (λ y. eqb (c y) k) s) (record {
-        high = w .after;
-        after = λ y l r. ne-eqb (c y) k (λ z. omega (arith, f y (omega arith) r l));
-        hit = λ y z. let here : y ≡ j = omega arith in rw here (eq-eqb (c j) k e);
-      }) in
-      omega arith

@@ -10,7 +10,7 @@ use native.Mathlib.Omega.{arith}
 use native.Mathlib.Decide.{decLt}
 use lib.ListN.{length, getD}
 use Rattle.search.specs.Search.{least, Least, least-law, least-shift, decided}
-use Rattle.layout.specs.Order.{Higher, swapped}
+use Rattle.layout.specs.Order.{Higher}
 use Rattle.layout.specs.Minimum.{minimum, Minimum, minimum-law, minimum-shift, lowest, lowest-law}
 
 -- Slot j is in the window of slot i: it comes after i, and no slot between the two holds a dependant of i's rule.

@@ -12,10 +12,9 @@ use lib.ListN.{length, getD, length-reverse}
 use Rattle.search.specs.Search.{afterLast, AfterLast, after-last-law, decided}
 use Rattle.layout.specs.Order.{Higher, Lower, swapped}
 use Rattle.layout.specs.Minimum.{minimum, Minimum, minimum-law, minimum-unique, minimum-cong}
-use Rattle.layout.specs.Cost.{InWindow, Costs, WindowOrPast, costs, costs-law, window-or-past, windowEnd, window-end-high, cost-at}
+use Rattle.layout.specs.Cost.{InWindow, Costs, WindowOrPast, costs-law, window-or-past, windowEnd, window-end-high, cost-at}
 use Rattle.layout.specs.Mirror.{mirror, mirror-twice, costs-mirrored, past-mirrored}
-use Rattle.layout.specs.Chain.{Chain, Walk, chain-cost, chain-below, walk-chain, walk-length, walk-below, walk-mirrored, steps, steps-walk}
-use Rattle.layout.specs.Chain.{walk-steps, firstOfCost, lastOfCost, first-of-cost, last-of-cost}
+use Rattle.layout.specs.Chain.{Chain, Walk, chain-cost, chain-below, walk-chain, walk-length, walk-below, walk-mirrored, steps-walk}
 use Rattle.layout.specs.Plan.{windowStart, downCost, upCost, downChain, upChain}
 
 -- where the window is a stretch of slots, a cost is 0 or 1 + the least over it
@@ -122,19 +121,6 @@ module _ {S : Type 0} (empty : S) (occupied : S → Bool) (misordered : S → S 
   pub up-shortest : {s : ℕ} {rest : List ℕ} → Chain empty occupied Lower (swapped misordered) t s rest → upCost empty occupied misordered t s ≤ length rest
   up-shortest = chain-cost up-costs
 
-  -- code finds it by costs alone
-  pub down-steps : (s : ℕ) → s < length t → downCost empty occupied misordered t s < length t
-      → downChain empty occupied misordered t s
-      ≡ steps (firstOfCost (downCost empty occupied misordered t) (length t)) (downCost empty occupied misordered t s) s
-  down-steps s b h =
-      walk-steps down-costs (firstOfCost (downCost empty occupied misordered t) (length t)) first-of-cost
-      (down-walk s b (omega arith)) (downCost empty occupied misordered t s) refl
-
-  pub up-steps : (s : ℕ) → s < length t → upCost empty occupied misordered t s < length t
-      → upChain empty occupied misordered t s ≡ steps (lastOfCost (upCost empty occupied misordered t)) (upCost empty occupied misordered t s) s
-  up-steps s b h =
-      walk-steps up-costs (lastOfCost (upCost empty occupied misordered t)) last-of-cost (up-walk s b (omega arith)) (upCost empty occupied misordered t s) refl
-
   -- a cost that is not above N is below it, and leaves room for the slots on the other side
   pub down-below : (s : ℕ) → s < length t → downCost empty occupied misordered t s ≤ length t → downCost empty occupied misordered t s + s < length t
   down-below s b h = walk-below down-costs (λ i. i) (λ i l. l) (λ i j l r u. u) (down-walk s b h)
@@ -184,16 +170,3 @@ module _ {S : Type 0} (empty : S) (occupied : S → Bool) (misordered : S → S 
           let e = minimum-cong (length t) (windowEnd empty misordered t i - suc i) (suc i)
           (λ j l r. from n j (omega (arith, window-end-high empty misordered t i)) (omega arith)) in
           f i b ∙ (ap (λ (m : ℕ). cond (occupied (getD t i empty)) (suc m) 0) e ∙ sym (down-cost-at i b))
-
-  pub up-cost-only : (c : ℕ → ℕ)
-      → ((i : ℕ) → i < length t
-      → c i ≡ cond (occupied (getD t i empty)) (suc (minimum c (length t) (i - windowStart empty misordered t i) (windowStart empty misordered t i))) 0)
-      → (i : ℕ) → i < length t → c i ≡ upCost empty occupied misordered t i
-  up-cost-only c f i b = from (length t) i b b
-    where
-      from : (n i : ℕ) → i < length t → i < n → c i ≡ upCost empty occupied misordered t i
-      from zero i b h = absurd (omega arith)
-      from (suc n) i b h =
-          let e = minimum-cong (length t) (i - windowStart empty misordered t i) (windowStart empty misordered t i)
-          (λ j l r. from n j (omega (arith, window-start-high empty misordered t i b)) (omega (arith, window-start-high empty misordered t i b))) in
-          f i b ∙ (ap (λ (m : ℕ). cond (occupied (getD t i empty)) (suc m) 0) e ∙ sym (up-cost-at i b))

@@ -11,18 +11,13 @@ use Rattle.search.specs.Search.{any, any-cong, least, least-cong, afterLast, af
 use Rattle.layout.specs.Held.{free}
 use Rattle.layout.specs.Replies.{firstMatch}
 use Rattle.layout.specs.Cost.{windowEnd}
-use Rattle.layout.specs.Plan.{windowStart, afterPreceding, firstDependant}
+use Rattle.layout.specs.Plan.{afterPreceding, firstDependant}
 
 module _ {S : Type 0} (empty : S) (misordered : S → S → Bool) (t : List S) where
   pub window-end-by : (i : ℕ) (p : ℕ → Bool) → ((y : ℕ) → i < y → y < length t → p y ≡ misordered (getD t y empty) (getD t i empty))
       → min (suc (least p (length t - suc i) (suc i))) (length t) ≡ windowEnd empty misordered t i
   unfolding windowEnd
   window-end-by i p f = ap (λ (m : ℕ). min (suc m) (length t)) (least-cong (length t - suc i) (suc i) (λ j l r. f j l (omega arith)))
-
-  pub window-start-by : (i : ℕ) (p : ℕ → Bool) → ((y : ℕ) → y < i → p y ≡ misordered (getD t i empty) (getD t y empty))
-      → afterLast p i - 1 ≡ windowStart empty misordered t i
-  unfolding windowStart
-  window-start-by i p f = ap (λ (m : ℕ). m - 1) (after-last-cong i f)
 
   pub after-preceding-by : (new : S) (p : ℕ → Bool) → ((i : ℕ) → i < length t → p i ≡ misordered new (getD t i empty))
       → afterLast p (length t) ≡ afterPreceding empty misordered t new

@@ -1,7 +1,7 @@
 -- Order of a layout, as document 01 words it, and what one write does to it.
 -- A layout is the list of its slots' entries, an empty slot's included; reading past its end gives the empty entry.
-use mathlib.Core.Path.{_≡_, refl, sym, ap, subst}
-use mathlib.Core.Bool.{Bool, true, false, not, _&&_, and-true, true≢false}
+use mathlib.Core.Path.{_≡_, sym, ap, subst}
+use mathlib.Core.Bool.{Bool, true, false, not, _&&_}
 use mathlib.Core.Logic.{_↔_, _⊎_, ⊎-elim, _≢_}
 use mathlib.Core.Logic._⊎_.{inl, inr}
 use mathlib.Core.List.{List}
@@ -50,11 +50,6 @@ module _ {S : Type 0} (empty : S) (misordered : S → S → Bool) where
     λ o. all-law _ (length t) .1 (λ y h. all-law _ y .1 (λ x l. ap not (o x y l h))),
   )
 
-  -- Where document 01 asks which rules precede or depend, one relation answers: of two slots of a table in order, ..
-  pub precedes-later : (t : List S) → InOrder t → (x y : ℕ) → x < y → y < length t
-      → precedes misordered (getD t x empty) (getD t y empty) ≡ misordered (getD t y empty) (getD t x empty)
-  precedes-later t o x y l h = rw (o x y l h) (and-true (misordered (getD t y empty) (getD t x empty)))
-
   -- the slots other than j are in order among themselves
   abbrev pub OthersInOrder : List S → ℕ → Type 0
   OthersInOrder t j = (x y : ℕ) → x < y → y < length t → x ≢ j → y ≢ j → misordered (getD t x empty) (getD t y empty) ≡ false
@@ -64,16 +59,6 @@ module _ {S : Type 0} (empty : S) (misordered : S → S → Bool) where
   StandsRight same t j e =
       (k : ℕ) → k < length t → same (getD t k empty) e ≡ false
       → (k < j → misordered (getD t k empty) e ≡ false) × (j < k → misordered e (getD t k empty) ≡ false)
-
--- .. and of any two entries that do not tie
-pub precedes-untied : {S : Type 0} (misordered : S → S → Bool) (a b : S) → ties misordered a b ≡ false → precedes misordered a b ≡ misordered b a
-precedes-untied misordered a b e = pick (misordered a b) (misordered b a) e
-  where
-    pick : (x y : Bool) → x && y ≡ false → y && not x ≡ y
-    pick true true e = absurd (true≢false e)
-    pick true false e = refl
-    pick false true e = refl
-    pick false false e = refl
 
 module _ {S : Type 0} {empty : S} {occupied : S → Bool} {same misordered : S → S → Bool} (laws : Laws empty occupied same misordered) where
   -- copies of one id are never compared

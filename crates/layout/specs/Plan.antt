@@ -2,7 +2,7 @@
 -- The choice takes its two ranges of slots as arguments; the ranges of an insert are one use of it.
 use mathlib.Core.Bool.{Bool, true, false, cond}
 use mathlib.Core.List.{List, [], _∷_, _++_, map, reverse}
-use Prim.Native.Nat.{ℕ, suc, _+_, _-_, _≤_, _<_, min}
+use Prim.Native.Nat.{ℕ, suc, _-_, _≤_, min}
 use lib.Dec.{leb}
 use lib.ListN.{length, getD}
 use Rattle.search.specs.Search.{least, afterLast}

@@ -4,7 +4,7 @@ use mathlib.Core.Path.{_≡_, refl, ap}
 use mathlib.Core.Bool.{Bool, true, not, _&&_}
 use mathlib.Core.Logic.{_↔_, _≢_}
 use mathlib.Core.List.{List, [], _∷_, _++_}
-use Prim.Native.Nat.{ℕ, _+_, _*_, _<_}
+use Prim.Native.Nat.{ℕ, _<_}
 use native.Mathlib.Omega.{arith}
 use lib.Dec.{eqb, ltb}
 use lib.ListN.{length, getD, length-append}
@@ -17,13 +17,6 @@ pub data Write : Type 0 where
   copy : ℕ → ℕ → Write
   put : ℕ → Write
   clear : ℕ → Write
-
--- document 01: a write as one 32-bit plan word, from × 65,536 + to; from 65,535 puts in the rule given with the call, from 65,534
--- empties slot to
-abbrev pub writeWord : Write → ℕ
-writeWord (copy from to) = from * 65536 + to
-writeWord (put to) = 65535 * 65536 + to
-writeWord (clear to) = 65534 * 65536 + to
 
 module _ {S : Type 0} (empty new : S) where
   -- the layout after one write

@@ -1,7 +1,7 @@
 -- A new rule against a table: is its id known, does it tie, is there room, and its neighbours A and B. Checks 5 to 10 of document 01.
 -- The new rule is given by its record's words, new.
-use mathlib.Core.Path.{_≡_, refl, ap}
-use mathlib.Core.Bool.{Bool, true, false, cond}
+use mathlib.Core.Path.{_≡_, ap}
+use mathlib.Core.Bool.{true, false, cond}
 use mathlib.Core.List.{List}
 use Prim.Native.Nat.{ℕ, suc, _+_, _-_, _≤_, _<_}
 use native.Mathlib.Omega.{arith}

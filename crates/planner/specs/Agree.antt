@@ -13,38 +13,40 @@ use Rattle.layout.specs.Order.{swapped}
 use Rattle.layout.specs.Minimum.{minimum, minimum-cong, lowest}
 use Rattle.layout.specs.Cost.{slotCost}
 use Rattle.layout.specs.Mirror.{mirror, mirror-twice}
-use Rattle.layout.specs.Write.{moves, put, writeWord}
-use Rattle.layout.specs.Plan.{Range as LayoutRange, Choice as LayoutChoice}
+use Rattle.layout.specs.Write.{moves, put}
+use Rattle.plan_words.specs.PlanWords.{writeWord}
+use Rattle.layout.specs.Plan.{Range, Choice}
 use Rattle.layout.specs.Plan.{downCost, upCost, downChain, upChain, bestDown, bestUp, slotDown, slotUp}
 use Rattle.layout.specs.Plan.{choose, writes}
 use Rattle.layout.specs.Choose.{choose-down, choose-up}
 use Rattle.costs.specs.Costs.{SolvedFrom}
 use Rattle.costs.specs.Ends.{Ends, costs-settled}
-use Rattle.planner.specs.Emit.{slotAt, Stays, emitted}
-use Rattle.planner.specs.Choice.{bestBelow, bestAbove, choiceOf, planWords, preferred-down, preferred-up, best-at}
+use Rattle.planner.specs.Emit.{Stays, emitted}
+use Rattle.positions.specs.Positions.{slotAt}
+use Rattle.planner.specs.Choice.{bestBelow, bestAbove, choiceOf, choiceWords, preferred-down, preferred-up, best-at}
 use Rattle.planner.specs.Mirrored.{minimum-mirror, highest-mirror}
 use Rattle.planner.specs.Walked as walked
-use Rattle.planner.specs.declared.Range.{Range}
-use Rattle.planner.specs.declared.Choice.{Choice}
+use Rattle.planner.specs.declared.SlotRange.{SlotRange}
+use Rattle.planner.specs.declared.PositionChoice.{PositionChoice}
 
 -- a range of slots, as the layout has it
-abbrev pub rangeOf : Range → LayoutRange
+abbrev pub rangeOf : SlotRange → Range
 rangeOf r = record { from = r .from; to = r .to }
 
 -- what a choice of finite cost gives: the slot, a walk that stays among the positions, and the words of the chain's moves
-pub record Emits (c : ℕ → ℕ) (n : ℕ) (choice : Choice) (planned : LayoutChoice) : Type 0 where
+pub record Emits (c : ℕ → ℕ) (n : ℕ) (choice : PositionChoice) (planned : Choice) : Type 0 where
   pub slot : slotAt n (choice .up) (choice .position) ≡ planned .slot
   pub stays : Stays c n (choice .position) (choice .cost)
   pub words : emitted c n (choice .up) (choice .position) (choice .cost) ≡ map writeWord (moves (planned .slot) (planned .chain))
 
-pub record Agrees (n : ℕ) (down up : ℕ → ℕ) (choice : Choice) (planned : LayoutChoice) : Type 0 where
+pub record Agrees (n : ℕ) (down up : ℕ → ℕ) (choice : PositionChoice) (planned : Choice) : Type 0 where
   pub direction : planned .down ≡ not (choice .up)
   pub cost : choice .cost ≡ planned .cost
   pub finite : planned .cost < n → Emits (cond (choice .up) up down) n choice planned
 
 -- then the whole plan's words are those of the layout's writes, the new rule last
-pub plan-law : {c : ℕ → ℕ} {n : ℕ} {choice : Choice} {planned : LayoutChoice} → Emits c n choice planned → planWords c n choice ≡ map writeWord (writes planned)
-unfolding planWords
+pub plan-law : {c : ℕ → ℕ} {n : ℕ} {choice : PositionChoice} {planned : Choice} → Emits c n choice planned → choiceWords c n choice ≡ map writeWord (writes planned)
+unfolding choiceWords
 plan-law {planned = planned} e =
     rw (e .words, e .slot) (sym (map-append writeWord (moves (planned .slot) (planned .chain)) (put (planned .slot) ∷ [])))
 
@@ -55,7 +57,7 @@ lowest-cong {d = d} top k i h =
 
 -- in either direction, from the position found: the layout is the one whose windows lie after their positions
 emits : {S : Type 0} (empty : S) (occupied : S → Bool) (misplaced : S → S → Bool) (u : List S) (n : ℕ) → length u ≡ n → (c : ℕ → ℕ)
-    → ((p : ℕ) → p < n → c p ≡ slotCost empty occupied misplaced n u p) → (choice : Choice) (planned : LayoutChoice) → choice .cost < n
+    → ((p : ℕ) → p < n → c p ≡ slotCost empty occupied misplaced n u p) → (choice : PositionChoice) (planned : Choice) → choice .cost < n
     → (choice .position < n) × (c (choice .position) ≡ choice .cost) → slotAt n (choice .up) (choice .position) ≡ planned .slot
     → planned .chain ≡ map (slotAt n (choice .up)) (downChain empty occupied misplaced u (choice .position)) → Emits c n choice planned
 unfolding downCost
@@ -78,15 +80,15 @@ module _ {S : Type 0} (empty : S) (occupied : S → Bool) (misordered : S → S 
 
   module _ (down up : ℕ → ℕ) (down-costs : (p : ℕ) → p < length t → down p ≡ slotCost empty occupied misordered (length t) t p)
       (up-costs : (p : ℕ) → p < length t → up p ≡ slotCost empty occupied (swapped misordered) (length t) (reverse t) p) where
-    below-cost : (r : Range) → bestBelow down (length t) r .cost ≡ bestDown empty occupied misordered t (rangeOf r)
+    below-cost : (r : SlotRange) → bestBelow down (length t) r .cost ≡ bestDown empty occupied misordered t (rangeOf r)
     unfolding bestDown downCost
     below-cost r = minimum-cong (length t) (min (r .to) (length t) - r .from) (r .from) (λ j l u. down-costs j (omega arith))
 
-    below-slot : (r : Range) → bestBelow down (length t) r .position ≡ slotDown empty occupied misordered t (rangeOf r)
+    below-slot : (r : SlotRange) → bestBelow down (length t) r .position ≡ slotDown empty occupied misordered t (rangeOf r)
     unfolding slotDown downCost
     below-slot r = lowest-cong (length t) (min (r .to) (length t) - r .from) (r .from) (λ j l u. down-costs j (omega arith))
 
-    above-cost : (r : Range) → bestAbove up (length t) r .cost ≡ bestUp empty occupied misordered t (rangeOf r)
+    above-cost : (r : SlotRange) → bestAbove up (length t) r .cost ≡ bestUp empty occupied misordered t (rangeOf r)
     unfolding bestUp upCost
     above-cost r =
         let n = length t in
@@ -94,7 +96,7 @@ module _ {S : Type 0} (empty : S) (occupied : S → Bool) (misordered : S → S 
         minimum-cong n ((n - r .from) - (n - r .to)) (n - r .to) (λ j l u. up-costs j (omega arith))
         ∙ sym (rw e at (minimum-mirror (slotCost empty occupied (swapped misordered) n (reverse t)) n (r .from) (min (r .to) n) (omega arith) n))
 
-    above-slot : (r : Range) → bestUp empty occupied misordered t (rangeOf r) < length t
+    above-slot : (r : SlotRange) → bestUp empty occupied misordered t (rangeOf r) < length t
         → mirror (length t) (bestAbove up (length t) r .position) ≡ slotUp empty occupied misordered t (rangeOf r)
     unfolding bestUp slotUp upCost
     above-slot r h =
@@ -104,7 +106,7 @@ module _ {S : Type 0} (empty : S) (occupied : S → Bool) (misordered : S → S 
         ap (mirror n) (lowest-cong n ((n - r .from) - (n - r .to)) (n - r .to) (λ j l u. up-costs j (omega arith)))
         ∙ (rw e at (highest-mirror c n (r .from) (min (r .to) n) (omega arith) n (rw (minimum-mirror c n (r .from) (min (r .to) n) (omega arith) n) at h)))
 
-    pub choice-law : (below above : Range)
+    pub choice-law : (below above : SlotRange)
         → Agrees (length t) down up (choiceOf down up (length t) below above) (choose empty occupied misordered t (rangeOf below) (rangeOf above))
     choice-law below above = pick (decLe (bestDown empty occupied misordered t (rangeOf below)) (bestUp empty occupied misordered t (rangeOf above)))
       where
@@ -145,7 +147,7 @@ module _ {S : Type 0} (empty : S) (occupied : S → Bool) (misordered : S → S 
 module _ {S : Type 0} (empty : S) (occupied : S → Bool) (misordered : S → S → Bool) (t : List S) where
   -- costs computed from the ends of a layout's windows, over as many slots as the layout has, choose as the layout does
   pub numbers-law : (n : ℕ) → length t ≡ n → (ends-down ends-up : List ℕ) (down up : ℕ → ℕ) → Ends empty occupied misordered t ends-down
-      → Ends empty occupied (swapped misordered) (reverse t) ends-up → SolvedFrom ends-down n 0 down → SolvedFrom ends-up n 0 up → (below above : Range)
+      → Ends empty occupied (swapped misordered) (reverse t) ends-up → SolvedFrom ends-down n 0 down → SolvedFrom ends-up n 0 up → (below above : SlotRange)
       → Agrees n down up (choiceOf down up n below above) (choose empty occupied misordered t (rangeOf below) (rangeOf above))
   unfolding downCost
   numbers-law n size ends-down ends-up down up e f g h below above =

@@ -9,43 +9,45 @@ use lib.Dec.{eqb, leb}
 use borrow.Author.Tests.{le-leb, lt-leb}
 use Rattle.search.specs.Search.{least}
 use lib.ListN.{length, drop, set, length-append}
-use Rattle.layout.specs.Write.{put, writeWord}
+use Rattle.layout.specs.Write.{put}
+use Rattle.plan_words.specs.PlanWords.{writeWord}
 use Rattle.layout.specs.Minimum.{minimum, lowest, lowest-law}
-use Rattle.planner.specs.Emit.{slotAt, emitted, emitted-length, stored-after}
-use Rattle.planner.specs.declared.Range.{Range}
+use Rattle.planner.specs.Emit.{emitted, emitted-length, stored-after}
+use Rattle.positions.specs.Positions.{slotAt}
+use Rattle.planner.specs.declared.SlotRange.{SlotRange}
 use Rattle.planner.specs.declared.Best.{Best}
-use Rattle.planner.specs.declared.Choice.{Choice}
+use Rattle.planner.specs.declared.PositionChoice.{PositionChoice}
 
 -- the least cost in a stretch of positions, and the first position that has it
 abbrev pub bestOf : (ℕ → ℕ) → ℕ → ℕ → ℕ → Best
 bestOf c slots from to = record { cost = minimum c slots (to - from) from; position = lowest c slots (to - from) from }
 
 -- the best going down and going up
-abbrev pub bestBelow : (ℕ → ℕ) → ℕ → Range → Best
+abbrev pub bestBelow : (ℕ → ℕ) → ℕ → SlotRange → Best
 bestBelow down slots r = bestOf down slots (r .from) (min (r .to) slots)
 
-abbrev pub bestAbove : (ℕ → ℕ) → ℕ → Range → Best
+abbrev pub bestAbove : (ℕ → ℕ) → ℕ → SlotRange → Best
 bestAbove up slots r = bestOf up slots (slots - r .to) (slots - r .from)
 
 -- the smaller of the two wins, down if equal
-unfoldable pub preferred : Best → Best → Choice
+unfoldable pub preferred : Best → Best → PositionChoice
 preferred down up =
     cond (leb (down .cost) (up .cost))
     (record { up = false; cost = down .cost; position = down .position })
     (record { up = true; cost = up .cost; position = up .position })
 
-abbrev pub choiceOf : (ℕ → ℕ) → (ℕ → ℕ) → ℕ → Range → Range → Choice
+abbrev pub choiceOf : (ℕ → ℕ) → (ℕ → ℕ) → ℕ → SlotRange → SlotRange → PositionChoice
 choiceOf down up slots below above = preferred (bestBelow down slots below) (bestAbove up slots above)
 
 -- the words of the whole plan: the chain's, and last the one that puts the new rule in
-unfoldable pub planWords : (ℕ → ℕ) → ℕ → Choice → List ℕ
-planWords c slots choice =
+unfoldable pub choiceWords : (ℕ → ℕ) → ℕ → PositionChoice → List ℕ
+choiceWords c slots choice =
     emitted c slots (choice .up) (choice .position) (choice .cost) ++ (writeWord (put (slotAt slots (choice .up) (choice .position))) ∷ [])
 
 -- a plan has a word for each move and one for the new rule
-pub plan-words-length : (c : ℕ → ℕ) (slots : ℕ) (choice : Choice) → length (planWords c slots choice) ≡ suc (choice .cost)
-unfolding planWords
-plan-words-length c slots choice =
+pub choice-words-length : (c : ℕ → ℕ) (slots : ℕ) (choice : PositionChoice) → length (choiceWords c slots choice) ≡ suc (choice .cost)
+unfolding choiceWords
+choice-words-length c slots choice =
     length-append (emitted c slots (choice .up) (choice .position) (choice .cost)) (writeWord (put (slotAt slots (choice .up) (choice .position))) ∷ [])
     ∙ (let e = emitted-length c slots (choice .up) (choice .position) (choice .cost) in omega arith)
 
@@ -72,15 +74,15 @@ pub best-found : (c : ℕ → ℕ) (slots from to m p : ℕ) → m ≡ minimum c
 unfolding lowest
 best-found c slots from to m p e f = rw (f, e)
 
-pub choice-found : (down up : ℕ → ℕ) (slots : ℕ) (below above : Range) (end start past : ℕ) (best-down best-up : Best) (choice : Choice)
+pub choice-found : (down up : ℕ → ℕ) (slots : ℕ) (below above : SlotRange) (end start past : ℕ) (best-down best-up : Best) (choice : PositionChoice)
     → end ≡ min (below .to) slots → start ≡ slots - above .to → past ≡ slots - above .from → best-down ≡ bestOf down slots (below .from) end
     → best-up ≡ bestOf up slots start past → choice ≡ preferred best-down best-up → choice ≡ choiceOf down up slots below above
 choice-found down up slots below above end start past best-down best-up choice e f g d u c = rw (c, d, u, e, f, g)
 
-pub plan-stored : (c : ℕ → ℕ) (slots : ℕ) (choice : Choice) (plan after : List ℕ) (w : ℕ) → choice .cost < length plan
+pub plan-stored : (c : ℕ → ℕ) (slots : ℕ) (choice : PositionChoice) (plan after : List ℕ) (w : ℕ) → choice .cost < length plan
     → after ≡ emitted c slots (choice .up) (choice .position) (choice .cost) ++ drop (choice .cost) plan
-    → w ≡ writeWord (put (slotAt slots (choice .up) (choice .position))) → set after (choice .cost) w ≡ planWords c slots choice ++ drop (suc (choice .cost)) plan
-unfolding planWords
+    → w ≡ writeWord (put (slotAt slots (choice .up) (choice .position))) → set after (choice .cost) w ≡ choiceWords c slots choice ++ drop (suc (choice .cost)) plan
+unfolding choiceWords
 plan-stored c slots choice plan after w h e f =
     rw (e, f)
     (stored-after (emitted c slots (choice .up) (choice .position) (choice .cost)) plan (choice .cost)

@@ -1,27 +1,20 @@
 -- The words of a chain of moves, walked by positions and costs alone.
 -- With k moves left the next position is the first one after the present whose cost is k − 1; a chain's words list its far end first.
 use mathlib.Core.Path.{_≡_, refl, sym, _∙_}
-use mathlib.Core.Bool.{Bool, true, false, cond}
+use mathlib.Core.Bool.{Bool}
 use mathlib.Core.List.{List, [], _∷_, _++_}
-use Prim.Native.Nat.{ℕ, zero, suc, _+_, _-_, _*_, _≤_, _<_}
+use Prim.Native.Nat.{ℕ, zero, suc, _+_, _-_, _≤_, _<_}
 use native.Mathlib.Numerals.{add-one}
 use native.Mathlib.Omega.{arith}
 use lib.ListN.{length, getD, drop, set, length-append}
 use lib.Dec.{eqb}
 use lib.Seq.{drop-cons, set-at, append-snoc}
 use Rattle.search.specs.Search.{least}
-use Rattle.layout.specs.Mirror.{mirror}
-use Rattle.layout.specs.Write.{copy, writeWord}
+use Rattle.layout.specs.Write.{copy}
+use Rattle.plan_words.specs.PlanWords.{writeWord}
 use Rattle.layout.specs.Chain.{firstOfCost}
+use Rattle.positions.specs.Positions.{slotAt}
 use Rattle.costs.specs.Costs.{costOf}
-
--- the slot at a position
-abbrev pub slotAt : ℕ → Bool → ℕ → ℕ
-slotAt slots up p = cond up (mirror slots p) p
-
-pub slot-below : (slots : ℕ) (up : Bool) (p : ℕ) → p < slots → slotAt slots up p < slots
-slot-below slots true p h = omega arith
-slot-below slots false p h = h
 
 -- the walk from position s with k moves left stays among the positions
 unfoldable pub Stays : (ℕ → ℕ) → ℕ → ℕ → ℕ → Type 0

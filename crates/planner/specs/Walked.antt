@@ -9,10 +9,12 @@ use lib.ListN.{length}
 use Rattle.layout.specs.Order.{Higher}
 use Rattle.layout.specs.Cost.{InWindow}
 use Rattle.layout.specs.Chain.{Walk, steps, firstOfCost, first-of-cost, first-of-cost-cong, walk-steps}
-use Rattle.layout.specs.Write.{moves, copy, writeWord}
+use Rattle.layout.specs.Write.{moves, copy}
+use Rattle.plan_words.specs.PlanWords.{writeWord}
 use Rattle.layout.specs.Plan.{downCost, downChain}
 use Rattle.layout.specs.CostLaws.{down-costs, down-walk}
-use Rattle.planner.specs.Emit.{slotAt, Stays, emitted}
+use Rattle.planner.specs.Emit.{Stays, emitted}
+use Rattle.positions.specs.Positions.{slotAt}
 
 -- the words of a walk are those of its moves, from slot to slot
 pub emitted-moves : (c : ℕ → ℕ) (slots : ℕ) (up : Bool) (s k : ℕ)

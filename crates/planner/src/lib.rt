@@ -1,20 +1,25 @@
 // From costs to a plan: the choice of direction and position, and the chain's words.
-// Everything runs in one direction along positions; position p is slot p going down and the slot as far from the last one going up.
+// Everything runs in one direction along positions (crate `positions`).
 use costs::least_between;
 use costs::lesser;
+use plan_words::PlanWrite;
+use plan_words::word_of;
+use positions::slot_at;
 ghost use mathlib.Core.Path.{_≡_};
 ghost use mathlib.Core.List.{_++_};
 ghost use Prim.Native.Nat.{ℕ, suc, _-_, _≤_, _<_};
 ghost use lib.Dec.{eqb};
 ghost use lib.ListN.{length, drop};
 ghost use Rattle.search.specs.Search.{least};
-ghost use Rattle.layout.specs.Write.{copy, writeWord};
+ghost use Rattle.layout.specs.Write.{copy};
+ghost use Rattle.plan_words.specs.PlanWords.{writeWord};
 ghost use Rattle.costs.specs.Costs.{costOf};
-ghost use Rattle.planner.specs.Emit.{slotAt, Walkable, emitted};
-ghost use Rattle.planner.specs.Choice.{bestOf, preferred, choiceOf, planWords};
+ghost use Rattle.planner.specs.Emit.{Walkable, emitted};
+ghost use Rattle.positions.specs.Positions.{slotAt};
+ghost use Rattle.planner.specs.Choice.{bestOf, preferred, choiceOf, choiceWords};
 
 // Slots from the one number up to, not including, the other.
-pub struct Range {
+pub struct SlotRange {
     pub from: usize,
     pub to: usize,
 }
@@ -26,7 +31,7 @@ pub struct Best {
 }
 
 // The direction taken, the moves to make, and the position from which the chain starts.
-pub struct Choice {
+pub struct PositionChoice {
     pub up: bool,
     pub cost: usize,
     pub position: usize,
@@ -47,19 +52,8 @@ pub fn first_of_cost(costs: &[u16], from: usize, to: usize, cost: usize) -> usiz
     at
 }
 
-// The slot at a position.
-pub fn slot_at(slots: usize, up: bool, position: usize) -> usize
-    requires { ⌜ position < slots ⌝ }
-    ensures { λ r. ⌜ r ≡ slotAt slots up position ⌝ }
-{
-    if up {
-        return slots - 1 - position;
-    }
-    position
-}
-
 // The plan word of a move between two positions.
-pub fn write_word(slots: usize, up: bool, from: usize, to: usize) -> u32
+fn move_word(slots: usize, up: bool, from: usize, to: usize) -> u32
     requires { ⌜ slots ≤ 1024 ⌝ }
     requires { ⌜ from < slots ⌝ }
     requires { ⌜ to < slots ⌝ }
@@ -67,7 +61,7 @@ pub fn write_word(slots: usize, up: bool, from: usize, to: usize) -> u32
 {
     let source = slot_at(slots, up, from);
     let target = slot_at(slots, up, to);
-    (source * 65536 + target) as u32
+    word_of(PlanWrite::Copy(source as u32, target as u32))
 }
 
 // The words of the chain from a position with `left` moves to make: each is stored on the way back, so that the far end stands first.
@@ -80,7 +74,7 @@ pub fn emit(costs: &[u16], slots: usize, up: bool, plan: &mut [u32], position: u
     }
     let next = first_of_cost(costs, position + 1, slots, left - 1);
     emit(costs, slots, up, plan, next, left - 1);
-    plan[left - 1] = write_word(slots, up, position, next);
+    plan[left - 1] = move_word(slots, up, position, next);
 }
 
 // The least cost among the positions from `from` up to, not including, `to`, and the first position that has it.
@@ -102,17 +96,17 @@ fn slots_from(slots: usize, slot: usize) -> usize
 }
 
 // The smaller of the two wins, down if equal.
-fn prefer(down: Best, up: Best) -> Choice
+fn prefer(down: Best, up: Best) -> PositionChoice
     ensures { λ r. ⌜ r ≡ preferred down up ⌝ }
 {
     if down.cost <= up.cost {
-        return Choice {
+        return PositionChoice {
             up: false,
             cost: down.cost,
             position: down.position,
         };
     }
-    Choice {
+    PositionChoice {
         up: true,
         cost: up.cost,
         position: up.position,
@@ -120,7 +114,7 @@ fn prefer(down: Best, up: Best) -> Choice
 }
 
 // The direction of least cost within the two ranges of slots, and the position from which its chain starts.
-pub fn choose(down: &[u16], up: &[u16], slots: usize, below: Range, above: Range) -> Choice
+pub fn choose(down: &[u16], up: &[u16], slots: usize, below: SlotRange, above: SlotRange) -> PositionChoice
     requires { ⌜ slots ≤ 1024 ⌝ }
     requires { ⌜ slots ≤ length (now down) ⌝ }
     requires { ⌜ slots ≤ length (now up) ⌝ }
@@ -135,13 +129,13 @@ pub fn choose(down: &[u16], up: &[u16], slots: usize, below: Range, above: Range
 }
 
 // The whole plan of a choice, by the costs of its direction: the words of its chain, and last the one that puts the new rule in.
-pub fn write_plan(costs: &[u16], slots: usize, choice: Choice, plan: &mut [u32])
+pub fn write_plan(costs: &[u16], slots: usize, choice: PositionChoice, plan: &mut [u32])
     requires { ⌜ Walkable (now costs) (now plan) slots (choice .position) (choice .cost) ⌝ }
     requires { ⌜ choice .cost < length (now plan) ⌝ }
-    ensures { λ _. ⌜ now (plan .exit) ≡ planWords (costOf (now (costs .entry))) slots choice ++ drop (suc (choice .cost)) (now (plan .entry)) ⌝ }
+    ensures { λ _. ⌜ now (plan .exit) ≡ choiceWords (costOf (now (costs .entry))) slots choice ++ drop (suc (choice .cost)) (now (plan .entry)) ⌝ }
 {
     let cost = choice.cost;
     emit(costs, slots, choice.up, plan, choice.position, cost);
     let slot = slot_at(slots, choice.up, choice.position);
-    plan[cost] = (65535 * 65536 + slot) as u32;
+    plan[cost] = word_of(PlanWrite::PutIn(slot as u32));
 }

@@ -14,7 +14,8 @@ use Rattle.layout.specs.Class.{Sequence, InClass}
 use Rattle.records.specs.Record.{recordOf}
 use Rattle.records.specs.Order.{InOrder}
 use Rattle.records.specs.Entries.{vacant, entries, entryOccupied, entrySame, entryMisordered, EntriesInOrder, in-order-entries}
-use Rattle.records.specs.Writes.{writeOf, applyWord, applyWords, apply-entries, EntryFits, fitsWord, fits-write-law, fits-below}
+use Rattle.records.specs.Writes.{applyWord, applyWords, apply-entries, EntryFits, fitsWord, fits-write-law, fits-below}
+use Rattle.plan_words.specs.PlanWords.{writeOf}
 use Rattle.records.specs.declared.Rule.{Rule}
 
 -- the words whose writes are in document 01's comparison class, from the table and rule of the plan

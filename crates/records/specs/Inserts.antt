@@ -7,7 +7,7 @@ use mathlib.Core.List.{List, map}
 use Prim.Native.Nat.{ℕ, suc, _≤_, _<_}
 use native.Mathlib.Decide.{ℕ-discrete}
 use native.Mathlib.Omega.{arith}
-use lib.Dec.{eqb, leb}
+use lib.Dec.{eqb}
 use lib.ListN.{length, getD, take, length-map}
 use Rattle.search.specs.Search.{least, least-law, least-cong, afterLast, after-last-law, after-last-cong}
 use Rattle.ternary.specs.Pattern.{Words, Overlap, overlaps, overlaps-law, overlaps-cong}
@@ -24,8 +24,9 @@ use Rattle.records.specs.Rules.{record-value, record-mask, record-ident,
 use Rattle.records.specs.Entries.{vacant, entries, entryOccupied, entrySame, entryMisordered, same-id-cong, misordered-cong}
 use Rattle.records.specs.Entries.{same-truth, eqb-turned, distinct-turned, entries-length, entry-same, occupied-at}
 use Rattle.records.specs.Entries.{entry-laws, order-entries, unique-entries, rule-occupied}
-use Rattle.layout.specs.Write.{writeWord}
-use Rattle.records.specs.Writes.{writeOf, WritesBelow, words-back, applyWords, apply-plan, plan-below, plan-entries}
+use Rattle.plan_words.specs.PlanWords.{emptying, writeWord}
+use Rattle.records.specs.Writes.{words-back, applyWords, apply-plan, plan-below, plan-entries}
+use Rattle.plan_words.specs.PlanWords.{writeOf, WritesBelow}
 use Rattle.records.specs.ClassWords.{InClassWords}
 use Rattle.records.specs.declared.Check.the-variants.{Pass}
 use Rattle.records.specs.declared.Rule.{Rule}
@@ -82,23 +83,6 @@ module _ (w : ℕ) (r : Rule) (named : r .id ≢ 0) (small : r .action < 4294967
       && (not (eqb (ident w x) (r .id)) && occupied w x)
   unfolding tied
   rule-tied = ap₂ _&&_ (ap₂ (λ (o : Bool) (p : ℕ). o && eqb (rank w x) p) (rule-overlapping w r x) (record-rank w r)) distinct-rule
-
-  -- the record before the rule
-  pub rule-misordered : misordered w x (word (recordOf w r))
-      ≡ (overlaps w (value x) (mask w x) (word (r .value)) (word (r .mask)) && leb (rank w x) (r .priority))
-      && (not (eqb (ident w x) (r .id)) && occupied w x)
-  unfolding misordered
-  rule-misordered = ap₂ _&&_ (ap₂ (λ (o : Bool) (p : ℕ). o && leb (rank w x) p) (rule-overlapping w r x) (record-rank w r)) distinct-rule
-
-  -- the rule before the record
-  pub misordered-rule : misordered w (word (recordOf w r)) x
-      ≡ (overlaps w (value x) (mask w x) (word (r .value)) (word (r .mask)) && leb (r .priority) (rank w x))
-      && (not (eqb (ident w x) (r .id)) && occupied w x)
-  unfolding misordered
-  misordered-rule =
-      ap₂ _&&_
-      (ap₂ (λ (o : Bool) (p : ℕ). o && leb p (rank w x)) (overlapping-turned w (word (recordOf w r)) x ∙ rule-overlapping w r x) (record-rank w r))
-      (distinct-turned w (word (recordOf w r)) x ∙ distinct-rule)
 
 -- the new rule before the rule of slot i, or after it, would be out of order
 abbrev pub newMisordered : ℕ → Rule → List ℕ → ℕ → Bool
@@ -203,7 +187,7 @@ insert-words w t r twice order new named small e h free uncrossed =
     (omega (arith, after-preceding-slots w t r, first-dependant-slots w t r))
 
 -- the words of a valid plan
-module _ (w : ℕ) (t : List ℕ) (r : Rule) (small : slots w t ≤ 65534) (choice : Choice) (valid : ValidPlan w t r choice) where
+module _ (w : ℕ) (t : List ℕ) (r : Rule) (small : slots w t ≤ emptying) (choice : Choice) (valid : ValidPlan w t r choice) where
   below : WritesBelow (slots w t) (writes choice)
   below = plan-below w t r small (writes choice) (valid .fits)
 

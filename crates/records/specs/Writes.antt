@@ -1,21 +1,19 @@
 -- Document 01's write word: its decoding, what a write does to a table's words, and when it fits, joined with the writes of layouts.
 -- The decoded write is that of layouts, so that a plan found there is carried out on words here.
 use mathlib.Core.Path.{_≡_, refl, sym, ap, ap₂, _∙_}
-use mathlib.Core.Bool.{Bool, true, false, not, cond, _&&_, _||_, Bool·not-not}
-use mathlib.Core.Logic.{_↔_, _≢_}
+use mathlib.Core.Bool.{Bool, true, false, not, _&&_, _||_, Bool·not-not}
+use mathlib.Core.Logic.{_↔_}
 use mathlib.Core.List.{List, [], _∷_, map, foldl, foldl-append}
-use Prim.Native.Nat.{ℕ, zero, suc, _+_, _*_, _/_, _%_, _≤_, _<_}
-use native.Mathlib.Nat.{div-add-mod'}
-use native.Mathlib.Decide.{ℕ-discrete}
+use Prim.Native.Nat.{ℕ, zero, suc, _/_, _≤_, _<_}
 use native.Mathlib.Omega.{arith}
-use lib.Arith.{digits-div, digits-mod}
 use lib.Dec.{eqb, ltb}
 use lib.ListN.{length, getD, set, take, length-take, length-set, length-map, length-replicate}
 use lib.Seq.{take-suc, getD-take}
-use borrow.Author.Tests.{ne-eqb, ltb-true}
+use borrow.Author.Tests.{ltb-true}
 use Rattle.search.specs.Search.{any}
 use Rattle.layout.specs.Held.{free}
-use Rattle.layout.specs.Write.{Write, copy, put, clear, writeWord, applied, carried, Fits, fits, fits-law}
+use Rattle.layout.specs.Write.{Write, copy, put, clear, applied, carried, Fits, fits, fits-law}
+use Rattle.plan_words.specs.PlanWords.{emptying, writeWord, writeOf, SlotsBelow, WritesBelow}
 use Rattle.layout.specs.InPlace.{free-by}
 use Rattle.records.specs.Record.{recordWords, slotWords, empty, occupied, recordOf, putSlot}
 use Rattle.records.specs.Order.{slots, sameId}
@@ -23,77 +21,7 @@ use Rattle.records.specs.Rules.{length-listed, record-length}
 use Rattle.records.specs.Entries.{vacant, entryAt, entries, entryOccupied, entrySame, entries-length, getD-map-within, entry-at, occupied-at, same-at}
 use Rattle.records.specs.PutSlot.{put-length, entries-put}
 use Rattle.records.specs.declared.Rule.{Rule}
-
--- document 01: one 32-bit plan word, from × 65,536 + to; from 65,535 puts in the rule given with the call, from 65,534 empties slot to,
--- any other copies slot from to slot to
-unfoldable pub writeOf : ℕ → Write
-writeOf n = cond (eqb (n / 65536) 65535) (put (n % 65536)) (cond (eqb (n / 65536) 65534) (clear (n % 65536)) (copy (n / 65536) (n % 65536)))
-
--- the write's slots are below n: they exist, where n is the number of slots
-abbrev pub SlotsBelow : ℕ → Write → Type 0
-SlotsBelow n (copy from to) = (from < n) × (to < n)
-SlotsBelow n (put to) = to < n
-SlotsBelow n (clear to) = to < n
-
-pub slots-below-more : {n m : ℕ} → n ≤ m → (x : Write) → SlotsBelow n x → SlotsBelow m x
-slots-below-more l (copy from to) h = (omega arith, omega arith)
-slots-below-more l (put to) h = omega arith
-slots-below-more l (clear to) h = omega arith
-
--- the three kinds of word
-module _ (n : ℕ) where
-  pub word-puts : n / 65536 ≡ 65535 → writeOf n ≡ put (n % 65536)
-  unfolding writeOf
-  word-puts e = rw e
-
-  pub word-clears : n / 65536 ≡ 65534 → writeOf n ≡ clear (n % 65536)
-  unfolding writeOf
-  word-clears e = rw e
-
-  pub word-copies : n / 65536 ≢ 65535 → n / 65536 ≢ 65534 → writeOf n ≡ copy (n / 65536) (n % 65536)
-  unfolding writeOf
-  word-copies p c = rw (ne-eqb (n / 65536) 65535 p, ne-eqb (n / 65536) 65534 c)
-
-  -- no word is lost in its write
-  pub word-of-write : writeWord (writeOf n) ≡ n
-  word-of-write = pick (ℕ-discrete (n / 65536) 65535) (ℕ-discrete (n / 65536) 65534)
-    where
-      split : n / 65536 * 65536 + n % 65536 ≡ n
-      split = div-add-mod' n 65536
-
-      pick : Dec (n / 65536 ≡ 65535) → Dec (n / 65536 ≡ 65534) → writeWord (writeOf n) ≡ n
-      pick (yes e) d = ap writeWord (word-puts e) ∙ (ap (λ (q : ℕ). q * 65536 + n % 65536) (sym e) ∙ split)
-      pick (no p) (yes e) = ap writeWord (word-clears e) ∙ (ap (λ (q : ℕ). q * 65536 + n % 65536) (sym e) ∙ split)
-      pick (no p) (no c) = ap writeWord (word-copies p c) ∙ split
-
--- and no write in its word, where its slots are below 65,534
-pub write-of-word : (x : Write) → SlotsBelow 65534 x → writeOf (writeWord x) ≡ x
-write-of-word (copy from to) h =
-    let low : to < 65536 = omega arith in
-    let q : (from * 65536 + to) / 65536 ≡ from = digits-div from low in
-    word-copies (from * 65536 + to) (λ e. omega arith) (λ e. omega arith) ∙ ap₂ copy q (digits-mod from low)
-write-of-word (put to) h =
-    let low : to < 65536 = omega arith in
-    word-puts (65535 * 65536 + to) (digits-div 65535 low) ∙ ap put (digits-mod 65535 low)
-write-of-word (clear to) h =
-    let low : to < 65536 = omega arith in
-    word-clears (65534 * 65536 + to) (digits-div 65534 low) ∙ ap clear (digits-mod 65534 low)
-
--- so different words are different writes, and different writes have different words
-pub word-once : (n m : ℕ) → writeOf n ≡ writeOf m → n ≡ m
-word-once n m e = sym (word-of-write n) ∙ (ap writeWord e ∙ word-of-write m)
-
-pub write-once : (x y : Write) → SlotsBelow 65534 x → SlotsBelow 65534 y → writeWord x ≡ writeWord y → x ≡ y
-write-once x y a b e = sym (write-of-word x a) ∙ (ap writeOf e ∙ write-of-word y b)
-
--- the slots of every write are below n
-abbrev pub WritesBelow : ℕ → List Write → Type 0
-WritesBelow n xs = (k : ℕ) → k < length xs → SlotsBelow n (getD xs k (clear 0))
-
--- the words of a list of writes give the writes back
-pub writes-of-words : (xs : List Write) → WritesBelow 65534 xs → map writeOf (map writeWord xs) ≡ xs
-writes-of-words [] h = refl
-writes-of-words (x ∷ xs) h = ap₂ _∷_ (write-of-word x (h 0 (omega arith))) (writes-of-words xs (λ k l. h (suc k) (omega arith)))
+use Rattle.plan_words.specs.PlanWordsLaws.{slots-below-more, write-of-word, writes-of-words}
 
 -- the table's words after a write
 abbrev pub applyWrite : ℕ → List ℕ → Rule → Write → List ℕ
@@ -247,7 +175,7 @@ take-map f (suc k) [] = refl
 take-map f (suc k) (x ∷ l) = ap (λ (r : List _). f x ∷ r) (take-map f k l)
 
 -- the words of writes whose slots exist
-module _ (n : ℕ) (small : n ≤ 65534) (xs : List Write) (below : WritesBelow n xs) where
+module _ (n : ℕ) (small : n ≤ emptying) (xs : List Write) (below : WritesBelow n xs) where
   pub words-back : map writeOf (map writeWord xs) ≡ xs
   words-back = writes-of-words xs (λ k h. slots-below-more small (getD xs k (clear 0)) (below k h))
 
@@ -262,7 +190,7 @@ module _ (n : ℕ) (small : n ≤ 65534) (xs : List Write) (below : WritesBelow 
       rw (word-at k l) (below k l)
 
 -- carried out on the table by their words they do what the writes do to the layout
-pub apply-plan : (w : ℕ) (t : List ℕ) (r : Rule) → slots w t ≤ 65534 → (xs : List Write) → WritesBelow (slots w t) xs
+pub apply-plan : (w : ℕ) (t : List ℕ) (r : Rule) → slots w t ≤ emptying → (xs : List Write) → WritesBelow (slots w t) xs
     → entries w (applyWords w t r (map writeWord xs)) ≡ carried (vacant w) (recordOf w r) (entries w t) xs
 apply-plan w t r small xs below =
     apply-words-entries w t r (map writeWord xs) (words-below (slots w t) small xs below)
@@ -270,7 +198,7 @@ apply-plan w t r small xs below =
 
 -- a plan's writes, each of which fits in its turn
 module _
-    (w : ℕ) (t : List ℕ) (r : Rule) (small : slots w t ≤ 65534) (xs : List Write)
+    (w : ℕ) (t : List ℕ) (r : Rule) (small : slots w t ≤ emptying) (xs : List Write)
     (turn : (k : ℕ) → k < length xs → EntryFits w (carried (vacant w) (recordOf w r) (entries w t) (take k xs)) (getD xs k (clear 0))) where
   pub plan-below : WritesBelow (slots w t) xs
   plan-below k h =

@@ -12,11 +12,11 @@ use lib.Seq.{take-all, length-take-le, getD-set-same, getD-set-other, ext-getD}
 use borrow.Author.Tests.{leb-true}
 use Rattle.search.specs.Search.{and-right}
 use Rattle.histories.specs.Histories.{emptyTable}
-use Rattle.lines.specs.Blocks.{Outcome}
-use Rattle.answers.specs.Answers.{tableBytes, refusalBytes}
-use Rattle.printing.specs.Printing.{Shown}
-use Rattle.operations.specs.declared.LineAnswer.{LineAnswer}
-use Rattle.operations.specs.Outcomes.{refused, Changed}
+use Rattle.script_lines.specs.Blocks.{Outcome}
+use Rattle.script_answers.specs.Answers.{tableBytes, refusalBytes}
+use Rattle.script_printing.specs.Printing.{Shown}
+use Rattle.script_operations.specs.declared.LineAnswer.{LineAnswer}
+use Rattle.script_operations.specs.Outcomes.{refused, Changed}
 use Rattle.script.specs.declared.Ran.{Ran}
 use Rattle.script.specs.Script.{tableOutcome, tableIn, Left}
 

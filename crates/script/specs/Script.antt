@@ -1,7 +1,7 @@
 -- Document 01, "The script program": what a line does to the table, and the bytes that it prints, for every line.
 -- The table is the list of its words; before a good T it has none.
 use mathlib.Core.Path.{_≡_}
-use mathlib.Core.Bool.{true, false, cond, _&&_}
+use mathlib.Core.Bool.{cond, _&&_}
 use mathlib.Core.List.{List, _++_}
 use Prim.Native.Nat.{ℕ, _*_}
 use lib.Dec.{leb}
@@ -11,13 +11,13 @@ use Rattle.records.specs.Checks.{causeNumber}
 use Rattle.records.specs.declared.Cause.the-variants.{Shape, Line}
 use Rattle.lookups.specs.Lookup.{lookupAnswer}
 use Rattle.histories.specs.Histories.{emptyTable}
-use Rattle.lines.specs.Blocks.{Outcome}
-use Rattle.commands.specs.Commands.{commandOf, ruleOf, keyOf}
-use Rattle.commands.specs.declared.Command.{Command}
-use Rattle.commands.specs.declared.Command.the-variants.{Table, Insert, Delete, Lookup, Malformed}
-use Rattle.printing.specs.Printing.{Shown}
-use Rattle.answers.specs.Answers.{tableBytes}
-use Rattle.operations.specs.Outcomes.{outcome, refused, lookupBytes, insertOutcome, deleteOutcome}
+use Rattle.script_lines.specs.Blocks.{Outcome}
+use Rattle.script_commands.specs.Commands.{commandOf, ruleOf, keyOf}
+use Rattle.script_commands.specs.declared.Command.{Command}
+use Rattle.script_commands.specs.declared.Command.the-variants.{Table, Insert, Delete, Lookup, Malformed}
+use Rattle.script_printing.specs.Printing.{Shown}
+use Rattle.script_answers.specs.Answers.{tableBytes}
+use Rattle.script_operations.specs.Outcomes.{outcome, refused, lookupBytes, insertOutcome, deleteOutcome}
 use Rattle.script.specs.declared.Ran.{Ran}
 
 -- `T slots` makes an empty table

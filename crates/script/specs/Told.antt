@@ -9,12 +9,12 @@ use Rattle.records.specs.Record.{word}
 use Rattle.records.specs.Checks.{success, refusal}
 use Rattle.records.specs.declared.Cause.the-variants.{Shape, Line}
 use Rattle.lookups.specs.Lookup.{lookupAnswer}
-use Rattle.table.specs.Inserts.{insertAnswer}
-use Rattle.plans.specs.Deletes.{deleteAnswer}
-use Rattle.commands.specs.Commands.{ruleOf, keyOf}
-use Rattle.commands.specs.declared.Command.{Command}
-use Rattle.commands.specs.declared.Command.the-variants.{Table, Insert, Delete, Lookup, Malformed}
-use Rattle.operations.specs.Told.{LineTold, lettered, changeTold, lookedTold}
+use Rattle.insert_plans.specs.Inserts.{insertAnswer}
+use Rattle.delete_plans.specs.Deletes.{deleteAnswer}
+use Rattle.script_commands.specs.Commands.{ruleOf, keyOf}
+use Rattle.script_commands.specs.declared.Command.{Command}
+use Rattle.script_commands.specs.declared.Command.the-variants.{Table, Insert, Delete, Lookup, Malformed}
+use Rattle.script_operations.specs.Told.{LineTold, lettered, changeTold, lookedTold}
 
 -- `T slots`
 unfoldable pub tableTold : ℕ → LineTold

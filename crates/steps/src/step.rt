@@ -2,16 +2,19 @@
 // A step that declines or is finished changes nothing.
 use carrying::StepAnswer;
 use carrying::StepInfo;
+use plan_words::PlanWrite;
+use plan_words::write_of;
 use records::Cause;
 use records::Check;
 use records::Rule;
 use slots::rules::rule_sound;
 use table_checks::check_slots;
 use writes::word_fits;
-use writes::write_word;
+use writes::make_write;
 ghost use mathlib.Core.Path.{_≡_};
 ghost use lib.ListN.{length};
-ghost use Rattle.carrying.specs.Carrying.{stepTold, progressChecks, writeChecks, stepAnswer, stepTable};
+ghost use Rattle.carrying.specs.Carrying.{stepTold, progressChecks, putSound, writeChecks, stepAnswer, stepTable};
+ghost use Rattle.plan_words.specs.PlanWords.{writeOf};
 
 // Checks 1 and 2, and 12 for more writes done than in all or more in all than the plan has words.
 fn check_progress(table: &[u64], plan: &[u32], done: u32, total: u32) -> Check
@@ -27,12 +30,23 @@ fn check_progress(table: &[u64], plan: &[u32], done: u32, total: u32) -> Check
     Check::Fail(Cause::Write, done)
 }
 
+// Whether the rule that a plan word puts in is sound; other words put none in.
+fn put_sound(rule: Rule, word: u32) -> bool
+    ensures { λ r. ⌜ r ≡ putSound 2 rule (writeOf word) ⌝ }
+{
+    match write_of(word) {
+        PlanWrite::Copy(_, _) => true,
+        PlanWrite::PutIn(_) => rule_sound(rule),
+        PlanWrite::Clear(_) => true,
+    }
+}
+
 // 5 for an unsound rule where one is put in, then 12 for a write that does not fit.
 fn check_write(table: &[u64], rule: Rule, word: u32, done: u32) -> Check
     ensures { λ r. ⌜ r ≡ writeChecks 2 (now (table .entry)) rule word done ⌝ }
 {
-    let sound = rule_sound(rule);
-    if (word / 65536 == 65535) & !sound {
+    let sound = put_sound(rule, word);
+    if !sound {
         return Check::Fail(Cause::Rule, 0);
     }
     if word_fits(table, word) {
@@ -58,6 +72,6 @@ pub fn step(table: &mut [u64], plan: &[u32], rule: Rule, done: u32, total: u32) 
     if let Check::Fail(cause, spot) = fitting {
         return StepAnswer::Refused(cause, spot);
     }
-    write_word(table, rule, word);
+    make_write(table, rule, word);
     StepAnswer::Wrote(StepInfo { done: done + 1 })
 }

@@ -8,10 +8,10 @@ use Rattle.records.specs.Record.{word}
 use Rattle.records.specs.Checks.{Told}
 use Rattle.records.specs.declared.Rule.{Rule}
 use Rattle.lookups.specs.Lookup.{lookupAnswer}
-use Rattle.table.specs.Inserts.{insertAnswer, insertPlan}
-use Rattle.plans.specs.Deletes.{deleteAnswer, deletePlan}
-use Rattle.table.specs.Insertable.{Insertable}
-use Rattle.table.specs.Demand3.{Demand3}
+use Rattle.insert_plans.specs.Inserts.{insertAnswer, insertPlan}
+use Rattle.delete_plans.specs.Deletes.{deleteAnswer, deletePlan}
+use Rattle.insert_plans.specs.Insertable.{Insertable}
+use Rattle.insert_plans.specs.Demand3.{Demand3}
 use Rattle.marshalling.specs.Cells.{dataCell, spotCell}
 
 -- what a key of two words is answered

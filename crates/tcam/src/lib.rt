@@ -12,9 +12,9 @@ use lookups::lookup::lookup;
 use lookups::lookup::slot_record;
 use marshalling::rule_from;
 use marshalling::spread;
-use plans::deletes::plan_delete;
+use delete_plans::plan_delete;
 use records::cause_number;
-use table::inserts::plan_insert;
+use insert_plans::plan_insert;
 
 // Slot, id and action of the lowest-numbered slot that matches a key; all 0 for a miss.
 #[no_mangle]

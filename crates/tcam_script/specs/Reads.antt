@@ -14,12 +14,12 @@ use lib.IntN.{ℤ, pos, negsuc}
 use lib.Signed.{leZ}
 use borrow.Author.Tests.{leb-true}
 use Rattle.io.specs.Counts.{clamped}
-use Rattle.lines.specs.Blocks.{whole, finished}
+use Rattle.script_lines.specs.Blocks.{whole, finished}
 use Rattle.script.specs.Script.{lineOutcome, tableIn}
-use Rattle.turns.specs.declared.Place.{Place}
-use Rattle.turns.specs.declared.Turn.{Turn}
-use Rattle.turns.specs.Reading.{readingOf, Turned}
-use Rattle.transcripts.specs.Whole.{Kept, keeping, Called, Through, Read, opening, scriptOutcome, script-printed, shown-within}
+use Rattle.script_turns.specs.declared.Place.{Place}
+use Rattle.script_turns.specs.declared.Turn.{Turn}
+use Rattle.script_turns.specs.Reading.{readingOf, Turned}
+use Rattle.script_transcripts.specs.Whole.{Kept, keeping, Called, Through, Read, opening, scriptOutcome, script-printed, shown-within}
 use Rattle.tcam_script.specs.declared.console.Got.{Got}
 use Rattle.tcam_script.specs.declared.console.Sent.{Sent}
 use Rattle.tcam_script.specs.declared.Went.{Went}

@@ -3,7 +3,7 @@
 ghost use mathlib.Core.Path.{_≡_};
 ghost use Prim.Native.Nat.{_+_};
 ghost use lib.ListN.{replicate};
-ghost use Rattle.transcripts.specs.Whole.{keeping, opening};
+ghost use Rattle.script_transcripts.specs.Whole.{keeping, opening};
 ghost use Rattle.tcam_script.specs.Reads.{capped, TookBlock, TookRead, ReadAll, RanAll};
 
 mod console;
@@ -16,9 +16,9 @@ use console::number_of;
 use console::receive;
 use console::send;
 use console::sent_well;
-use turns::Place;
-use turns::last_turn;
-use turns::take_turn;
+use script_turns::Place;
+use script_turns::last_turn;
+use script_turns::take_turn;
 
 // What a block came to: what is held after it, and what writing came to.
 pub struct Taken {

@@ -14,7 +14,7 @@ use Rattle.records.specs.Record.{slotWords, empty, listed}
 use Rattle.records.specs.Rules.{length-listed}
 use Rattle.records.specs.Order.{slots, misordered}
 use Rattle.scans.specs.Scans.{notBefore, notAfter}
-use Rattle.planner.specs.Emit.{slotAt}
+use Rattle.positions.specs.Positions.{slotAt}
 
 -- the rule at position q, later along the direction, stands on the wrong side if it comes before the one at p
 unfoldable pub misplacedAt : ℕ → List ℕ → Bool → ℕ → ℕ → Bool

@@ -1,6 +1,6 @@
-// The windows of a table's rules along one direction, for the planner: position p is slot p going down, slot n − 1 − p going up.
+// The windows of a table's rules along one direction, by positions, for the planner.
 // Words are read in the table itself; the numbers go into a lent array.
-use planner::slot_at;
+use positions::slot_at;
 use scans::first_not_before;
 use scans::last_not_after;
 use slots::slot_empty;

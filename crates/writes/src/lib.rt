@@ -1,6 +1,8 @@
 // One write of a plan: whether it fits the table, and the table with it made.
-// A write is a plan word: from × 65,536 + to.
+// A write is a plan word, taken apart in `plan_words`.
 use pairs::same_id;
+use plan_words::PlanWrite;
+use plan_words::write_of;
 use records::Rule;
 use slots::put_record;
 use slots::rules::record_of;
@@ -84,15 +86,11 @@ fn copy_fits(table: &[u64], from: usize, to: usize) -> bool
 pub fn word_fits(table: &[u64], word: u32) -> bool
     ensures { λ r. ⌜ r ≡ fitsWord 2 (now (table .entry)) word ⌝ }
 {
-    let from = (word / 65536) as usize;
-    let to = (word % 65536) as usize;
-    if from == 65535 {
-        return put_fits(table, to);
+    match write_of(word) {
+        PlanWrite::Copy(from, to) => copy_fits(table, from as usize, to as usize),
+        PlanWrite::PutIn(to) => put_fits(table, to as usize),
+        PlanWrite::Clear(slot) => rule_in(table, slot as usize),
     }
-    if from == 65534 {
-        return rule_in(table, to);
-    }
-    copy_fits(table, from, to)
 }
 
 // The six words of a slot.
@@ -111,20 +109,16 @@ fn record_at(table: &[u64], slot: usize) -> [u64; 6]
 }
 
 // Makes the write of a plan word that fits.
-pub fn write_word(table: &mut [u64], rule: Rule, word: u32)
+pub fn make_write(table: &mut [u64], rule: Rule, word: u32)
     requires { ⌜ fitsWord 2 (now table) word ≡ true ⌝ }
     ensures { λ _. ⌜ now (table .exit) ≡ applyWord 2 (now (table .entry)) rule word ⌝ }
 {
-    let from = (word / 65536) as usize;
-    let to = (word % 65536) as usize;
-    if from == 65535 {
-        put_record(table, to, record_of(rule));
-        return;
+    match write_of(word) {
+        PlanWrite::Copy(from, to) => {
+            let words = record_at(table, from as usize);
+            put_record(table, to as usize, words)
+        }
+        PlanWrite::PutIn(to) => put_record(table, to as usize, record_of(rule)),
+        PlanWrite::Clear(slot) => put_record(table, slot as usize, [0; 6]),
     }
-    if from == 65534 {
-        put_record(table, to, [0; 6]);
-        return;
-    }
-    let words = record_at(table, from);
-    put_record(table, to, words)
 }

@@ -2,7 +2,7 @@
 -- The words read are the record's, handed on as parts.
 use mathlib.Core.Path.{sym, ap, _∙_}
 use mathlib.Core.List.{List}
-use Prim.Native.Nat.{ℕ, _-_}
+use Prim.Native.Nat.{ℕ}
 use Rattle.ternary.specs.Pattern.{within}
 use Rattle.search.specs.Search.{all}
 use Rattle.records.specs.Record.{word, soundParts, sound}

@@ -1,6 +1,6 @@
 -- `image_checks::record_at` meets its contract.
 -- Each word is the number read at its place.
-use Prim.Native.Nat.{_+_, _-_, _*_}
+use Prim.Native.Nat.{_+_, _*_}
 use native.Mathlib.Omega.{arith}
 use Rattle.image.specs.ByteLaws.{number-small}
 use native.Mathlib.Nat.{add-zero}

@@ -4,7 +4,7 @@ use mathlib.Core.Path.{sym, ap, _∙_}
 use denote.Ref.{now}
 use borrow.Author.Needs.{needs}
 use Rattle.records.specs.Checks.{Told}
-use Rattle.plans.specs.Plans.{planTold}
+use Rattle.buffers.specs.Buffers.{planTold}
 use Rattle.marshalling.specs.Cells.{dataCell, spotCell, refusal-kept, refusal-put}
 use Rattle.marshalling.proofs.spread.Statement.{statement}
 use Rattle.marshalling.proofs.spread.Tie as tie

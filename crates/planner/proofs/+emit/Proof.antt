@@ -13,7 +13,7 @@ use Rattle.planner.proofs.emit.Reads as emit
 use Rattle.planner.proofs.emit.Kinds as emit-kinds
 use Rattle.planner.proofs.+emit.Lts-emit as emit-lts
 use Rattle.planner.proofs.first_of_cost.Reads as first-of-cost-reads
-use Rattle.planner.proofs.write_word.Reads as write-word-reads
+use Rattle.planner.proofs.move_word.Reads as move-word-reads
 use Rattle.planner.proofs.+emit.{statement}
 use Rattle.planner.proofs.+emit.Tie.{close}
 
@@ -33,8 +33,8 @@ claims t = (
   first-of-cost-reads.Learnt,
   emit-below t,
   emit.Post,
-  write-word-reads.Asked,
-  write-word-reads.Learnt,
+  move-word-reads.Asked,
+  move-word-reads.Learnt,
 )
 
 emit-returns : (t : ℕ) → emit-lts.Need-returns (claims t) (emit-at t) emit.Post
@@ -77,8 +77,8 @@ emit-emit-requires t c κs =
       },
     )
 
-emit-write-word-requires : (t : ℕ) → emit-lts.Need-write-word-requires (claims t) (emit-at t) emit.Post
-emit-write-word-requires t c κs =
+emit-move-word-requires : (t : ℕ) → emit-lts.Need-move-word-requires (claims t) (emit-at t) emit.Post
+emit-move-word-requires t c κs =
     let start = c .before .before .before .before .before .before .before .before in
     let walk = start .pre .1 in (
       walk .few,
@@ -105,7 +105,7 @@ emit-returns-2 t c =
     let start = c .before .before .before .before .before .before .before .before .before in
     emitted-stored (costOf (start .args .costs .now)) (start .args .slots) (start .args .up) (start .args .plan .now) (start .args .position) (start .args .left) _ _ _
     (omega arith) (omega arith) (next-found t (c .before .before .before .before .before))
-    (c .before .before .before .emit .ensures) (c .write-word .ensures)
+    (c .before .before .before .emit .ensures) (c .move-word .ensures)
 
 pub +emit-spec : {M : Type 1} → statement M
 +emit-spec = close μ-emit λ t. emit-lts.spec
@@ -118,7 +118,7 @@ pub +emit-spec : {M : Type 1} → statement M
     (emit-first-of-cost-requires t)
     (emit-sub-emit t)
     (emit-emit-requires t)
-    (emit-write-word-requires t)
+    (emit-move-word-requires t)
     (emit-sub-plan t)
     (emit-mul-plan t)
     (emit-slice-write-plan t)

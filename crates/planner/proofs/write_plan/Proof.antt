@@ -1,27 +1,22 @@
 -- `planner::write_plan` meets its contract.
 -- The new rule's word is stored right after the chain's.
-use mathlib.Core.Path.{ap}
+use mathlib.Core.Path.{ap, _∙_}
 use Prim.Native.Nat.{ℕ, _<_}
 use native.Mathlib.Omega.{arith}
-use Rattle.layout.specs.Write.{put, writeWord}
-use Rattle.planner.specs.Emit.{stays-here, slot-below}
+use Rattle.layout.specs.Write.{put}
+use Rattle.plan_words.specs.PlanWords.{writeWord}
+use Rattle.planner.specs.Emit.{stays-here}
+use Rattle.positions.specs.PositionsLaws.{slot-below}
 use Rattle.planner.specs.Choice.{plan-stored}
 use borrow.Author.Needs.{needs}
 use Rattle.planner.proofs.write_plan.Statement.{statement}
 use Rattle.planner.proofs.write_plan.Tie as tie
-use Rattle.planner.proofs.write_plan.Reads as reads
-use Rattle.planner.proofs.write_plan.Lts as lts
-use Rattle.planner.proofs.emit.Reads as emit-reads
-use Rattle.planner.proofs.slot_at.Reads as slot-at-reads
 
 emit-requires : tie.Need-emit-requires
 emit-requires c κs = search needs
 
 slot-at-requires : tie.Need-slot-at-requires
 slot-at-requires c κs = stays-here _ _ _ _ (c .before .before .before .before .before .before .pre .0 .stays)
-
-mul-plan : tie.Need-mul-plan
-mul-plan c = search needs
 
 -- the slot of the new rule is below 1,024
 low : (c : tie.After-slot-at) → c .slot-at .result < 1024
@@ -35,14 +30,14 @@ low c =
       slot-below (start .args .slots) (start .args .choice .up) (start .args .choice .position) (stays-here _ _ _ _ (walk .stays)),
     )
 
-add-plan : tie.Need-add-plan
-add-plan c = omega (arith, low c)
+cast-t11 : tie.Need-cast-t11
+cast-t11 c = omega (arith, low c)
 
-cast-plan : tie.Need-cast-plan
-cast-plan c = omega (arith, low c)
+word-of-requires : tie.Need-word-of-requires
+word-of-requires c κs = omega (arith, low c)
 
-mul-plan-2 : tie.Need-mul-plan-2
-mul-plan-2 c = search needs
+mul-plan : tie.Need-mul-plan
+mul-plan c = search needs
 
 slice-write-plan : tie.Need-slice-write-plan
 slice-write-plan c = search needs
@@ -52,9 +47,9 @@ same-length c = search needs
 
 returns : tie.Need-returns
 returns c =
-    let start = c .before .before .before .before .before .before .before in
-    plan-stored _ (start .args .slots) (start .args .choice) (start .args .plan .now) _ _ (start .pre .1) (c .before .before .before .emit .ensures)
-    (ap (λ (slot : ℕ). writeWord (put slot)) (c .slot-at .ensures))
+    let start = c .before .before .before .before .before .before .before .before in
+    plan-stored _ (start .args .slots) (start .args .choice) (start .args .plan .now) _ _ (start .pre .1) (c .before .before .before .before .emit .ensures)
+    (c .word-of .ensures ∙ ap (λ (slot : ℕ). writeWord (put slot)) (c .before .slot-at .ensures))
 
 pub write-plan-spec : {M : Type 1} → statement M
 write-plan-spec =
@@ -62,10 +57,9 @@ write-plan-spec =
     (tie.spec
     emit-requires
     slot-at-requires
+    cast-t11
+    word-of-requires
     mul-plan
-    add-plan
-    cast-plan
-    mul-plan-2
     slice-write-plan
     same-length
     returns)

@@ -10,7 +10,7 @@ use Rattle.records.specs.Laws.{table-checks-length}
 use Rattle.records.specs.declared.Check.the-variants.{Pass}
 use Rattle.records.specs.declared.Check.{Check}
 use Rattle.records.specs.declared.Cause.the-variants.{Short}
-use Rattle.plans.specs.Plans.{plan-refused, plan-short, plan-written}
+use Rattle.buffers.specs.Buffers.{buffer-refused, buffer-short, buffer-written}
 use Rattle.image.specs.Format.{imageBytes, ruleCount, imageOf}
 use Rattle.image.specs.SaveLaws.{image-length, save-answer, rules-small}
 use borrow.Author.Needs.{needs}
@@ -29,7 +29,7 @@ enum-known-check c = search needs
 returns : tie.Need-returns
 returns c =
     let a = c .before .before .before .before .before .before .args in
-    let p = plan-refused (imageOf 2 (a .table .now)) (a .image .now) (c .before .before .before .check-table .ensures) (c .before .check .given .1) in
+    let p = buffer-refused (imageOf 2 (a .table .now)) (a .image .now) (c .before .before .before .check-table .ensures) (c .before .check .given .1) in
     (p .0 ∙ save-answer 2 (a .table .now) (length (a .image .now)), p .1)
 
 enum-told : tie.Need-enum-told
@@ -52,7 +52,7 @@ returns-2 c =
     let a = c .before .before .before .before .before .before .before .args in
     let t = a .table .now in
     let size = ap (imageBytes 2) (c .before .count-rules .ensures) ∙ sym (image-length 2 t) in
-    let p = plan-short (imageOf 2 t) (a .image .now) (c .before .before .before .before .check-table .ensures) (c .before .before .enum-told .given .1) (omega (arith, size, c .if1 .taken)) in
+    let p = buffer-short (imageOf 2 t) (a .image .now) (c .before .before .before .before .check-table .ensures) (c .before .before .enum-told .given .1) (omega (arith, size, c .if1 .taken)) in
     (ap (refusal Short) size ∙ (p .0 ∙ save-answer 2 t (length (a .image .now))), p .1)
 
 put-image-requires : tie.Need-put-image-requires
@@ -73,7 +73,7 @@ returns-3 c =
     let a = c .before .before .before .before .before .before .before .before .before .before .before .args in
     let t = a .table .now in
     let size = ap (imageBytes 2) (c .before .before .before .before .before .count-rules .ensures) ∙ sym (image-length 2 t) in
-    let p = plan-written (imageOf 2 t) (a .image .now) (c .before .before .before .before .before .before .before .before .check-table .ensures) (c .before .before .before .before .before .before .enum-told .given .1) (omega (arith, size, c .before .before .before .before .if1 .left)) in
+    let p = buffer-written (imageOf 2 t) (a .image .now) (c .before .before .before .before .before .before .before .before .check-table .ensures) (c .before .before .before .before .before .before .enum-told .given .1) (omega (arith, size, c .before .before .before .before .if1 .left)) in
     (ap (λ (n : ℕ). success (n ∷ [])) size ∙ (p .0 ∙ save-answer 2 t (length (a .image .now))), c .before .before .put-image .ensures ∙ p .1)
 
 pub save-spec : {M : Type 1} → statement M

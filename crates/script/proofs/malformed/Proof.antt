@@ -2,8 +2,8 @@
 -- The cause is 13.
 use mathlib.Core.Path.{refl, ap}
 use Prim.Native.Nat.{ℕ}
-use Rattle.answers.specs.Answers.{refusalBytes}
-use Rattle.operations.specs.Laws.{shown-is}
+use Rattle.script_answers.specs.Answers.{refusalBytes}
+use Rattle.script_operations.specs.Laws.{shown-is}
 use borrow.Author.Needs.{needs}
 use Rattle.script.proofs.malformed.Statement.{statement}
 use Rattle.script.proofs.malformed.Tie as tie

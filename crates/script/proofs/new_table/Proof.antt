@@ -2,8 +2,7 @@
 -- Slots made are empty, and a refused T leaves the table.
 use mathlib.Core.Path.{sym, ap, _∙_}
 use Prim.Native.Nat.{ℕ, _*_}
-use native.Mathlib.Omega.{arith}
-use lib.ListN.{length, replicate}
+use lib.ListN.{replicate}
 use lib.Seq.{length-take-le}
 use denote.Ref.{now}
 use Rattle.script.specs.Told.{table-told, table-untold}

@@ -7,9 +7,9 @@ use denote.Ref.{now}
 use Rattle.records.specs.Record.{word}
 use Rattle.records.specs.declared.Rule.{Rule}
 use Rattle.lookups.specs.Lookup.{lookupAnswer}
-use Rattle.table.specs.Inserts.{insertAnswer}
-use Rattle.operations.specs.Told.{changeTold, lookedTold}
-use Rattle.operations.specs.Outcomes.{insertOutcome}
+use Rattle.insert_plans.specs.Inserts.{insertAnswer}
+use Rattle.script_operations.specs.Told.{changeTold, lookedTold}
+use Rattle.script_operations.specs.Outcomes.{insertOutcome}
 use Rattle.script.specs.Told.{commandTold}
 use Rattle.script.specs.Script.{lookupOutcome, commandOutcome, tableIn}
 use Rattle.script.specs.Laws.{left-is, left-malformed}

@@ -5,7 +5,7 @@ use mathlib.Core.List.{List}
 use Prim.Native.Nat.{ℕ}
 use lib.ListN.{length}
 use denote.Ref.{now}
-use Rattle.commands.specs.declared.Command.{Command}
+use Rattle.script_commands.specs.declared.Command.{Command}
 use Rattle.script.specs.Script.{commandOutcome, tableIn}
 use Rattle.script.specs.Told.{commandTold}
 use Rattle.script.specs.Laws.{left-is, table-present}

@@ -7,7 +7,7 @@ use Rattle.records.specs.Checks.{Told}
 use Rattle.marshalling.specs.Cells.{dataCell, spotCell}
 use Rattle.tcam.specs.Cells.{InsertLeft}
 use Rattle.records.specs.declared.Rule.{Rule}
-use Rattle.table.specs.Demand3.{Demand3}
+use Rattle.insert_plans.specs.Demand3.{Demand3}
 use Rattle.tcam.proofs.tcam_plan_insert.Statement.{statement}
 use Rattle.tcam.proofs.tcam_plan_insert.Tie as tie
 

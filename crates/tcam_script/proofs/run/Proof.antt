@@ -6,7 +6,7 @@ use Prim.Native.Nat.{ℕ}
 use lib.ListN.{replicate, length-replicate}
 use denote.Ref.{now}
 use borrow.Author.Needs.{needs}
-use Rattle.transcripts.specs.Whole.{keeping, shown-within}
+use Rattle.script_transcripts.specs.Whole.{keeping, shown-within}
 use Rattle.tcam_script.specs.Reads.{all-ran}
 use Rattle.tcam_script.proofs.run.Statement.{statement}
 use Rattle.tcam_script.proofs.run.Tie as tie

@@ -60,8 +60,8 @@ returns-3 c =
 enum-told-2 : tie.Need-enum-told-2
 enum-told-2 c = search needs
 
-write-word-requires : tie.Need-write-word-requires
-write-word-requires c κs = let a = c .before .before .before .before .before .before .before .before .before .before .before .before .before .args in checked-fits 2 (now (a .table)) (a .rule) _ (a .done) (sym (c .before .before .before .check-write .ensures) ∙ c .before .enum-told2 .given .1)
+make-write-requires : tie.Need-make-write-requires
+make-write-requires c κs = let a = c .before .before .before .before .before .before .before .before .before .before .before .before .before .args in checked-fits 2 (now (a .table)) (a .rule) _ (a .done) (sym (c .before .before .before .check-write .ensures) ∙ c .before .enum-told2 .given .1)
 
 add-t19 : tie.Need-add-t19
 add-t19 c = let h = progress-within 2 (now (c .before .before .before .before .before .before .before .before .before .before .before .before .before .before .before .before .args .table)) (length (now (c .before .before .before .before .before .before .before .before .before .before .before .before .before .before .before .before .args .plan))) (c .before .before .before .before .before .before .before .before .before .before .before .before .before .before .before .before .args .done) (c .before .before .before .before .before .before .before .before .before .before .before .before .before .before .before .before .args .total) (sym (c .before .before .before .before .before .before .before .before .before .before .before .before .check-progress .ensures) ∙ c .before .before .before .before .before .before .before .before .before .before .enum-told .given .1) in omega (arith, h .0, c .before .before .before .before .before .before .before .before .before .if1 .left, c .before .before .before .before .before .before .before .before .before .before .before .before .before .before .before .before .fits .total)
@@ -73,7 +73,7 @@ returns-4 : tie.Need-returns-4
 returns-4 c =
     let a = c .before .before .before .before .before .before .before .before .before .before .before .before .before .before .before .before .args in
     let r = step-wrote 2 (now (a .table)) (now (a .plan)) (a .rule) (a .done) (a .total) (c .before .before .before .before .before .before .before .before .before .before .before .before .check-progress .ensures) (c .before .before .before .before .before .before .before .before .before .before .enum-told .given .1) (c .before .before .before .before .before .before .before .before .before .if1 .left) (c .before .before .before .before .before .before .check-write .ensures) (c .before .before .before .before .enum-told2 .given .1) in
-    (r .0, c .before .before .write-word .ensures ∙ r .1)
+    (r .0, c .before .before .make-write .ensures ∙ r .1)
 
 pub step-spec : {M : Type 1} → statement M
 step-spec =
@@ -93,7 +93,7 @@ step-spec =
     same-length-3
     returns-3
     enum-told-2
-    write-word-requires
+    make-write-requires
     add-t19
     same-length-4
     returns-4)

@@ -1,0 +1,52 @@
+-- `delete_plans::slot_of_id` meets its contract.
+-- No slot below the loop's has the id.
+use Prim.Native.Nat.{_-_}
+use mathlib.Core.Path.{sym, _∙_}
+use native.Mathlib.Omega.{arith}
+use Rattle.search.specs.Search.{NoneBelow, none-start, none-more, least-at, least-none}
+use Rattle.delete_plans.specs.Deletes.{hasId, slotOfId}
+use Rattle.delete_plans.proofs.slot_of_id.Statement.{statement}
+use Rattle.delete_plans.proofs.slot_of_id.Tie as tie
+
+abbrev Inv-loop : tie.InvT-loop
+Inv-loop table id slots slot₀ slot = NoneBelow (hasId 2 table id) slots slot
+
+abbrev μ-loop : tie.MeasureT-loop
+μ-loop table id slots slot₀ slot = slots - slot
+
+loop-holds : tie.Need-loop-holds Inv-loop μ-loop
+loop-holds c = none-start _ _
+
+has-id-requires : tie.Need-has-id-requires Inv-loop μ-loop
+has-id-requires c κs = omega arith
+
+returns : tie.Need-returns Inv-loop μ-loop
+unfolding slotOfId
+returns c = sym (least-at _ _ _ (omega arith) (c .before .before .before .loop .inv .1) (sym (c .before .has-id .ensures) ∙ c .if1 .taken))
+
+add-slot : tie.Need-add-slot Inv-loop μ-loop
+add-slot c = omega arith
+
+loop-less : tie.Need-loop-less Inv-loop μ-loop
+loop-less c = omega arith
+
+loop-again : tie.Need-loop-again Inv-loop μ-loop
+loop-again c = none-more _ _ _ (c .before .before .before .loop .inv) (omega arith) (sym (c .before .has-id .ensures) ∙ c .if1 .left)
+
+returns-2 : tie.Need-returns-2 Inv-loop μ-loop
+unfolding slotOfId
+returns-2 c = sym (least-none _ _ (λ k h. c .before .loop .inv .1 k (omega arith)))
+
+pub slot-of-id-spec : {M : Type 1} → statement M
+slot-of-id-spec =
+    tie.close
+    (tie.spec
+    Inv-loop
+    μ-loop
+    loop-holds
+    has-id-requires
+    returns
+    add-slot
+    loop-less
+    loop-again
+    returns-2)

@@ -1,0 +1,47 @@
+-- `script_operations::delete` meets its contract.
+-- The plan is carried out and printed, and the answer is the planning call's.
+use mathlib.Core.Path.{ap, _∙_}
+use denote.Ref.{now}
+use Rattle.delete_plans.specs.Deletes.{deleteAnswer}
+use Rattle.script_operations.specs.Laws.{delete-is, changed-is}
+use Rattle.script_operations.specs.Told.{changeTold}
+use borrow.Author.Needs.{needs}
+use Rattle.script_operations.proofs.delete.Statement.{statement}
+use Rattle.script_operations.proofs.delete.Tie as tie
+
+plan-delete-requires : tie.Need-plan-delete-requires
+plan-delete-requires c κs = search needs
+
+carry-and-print-requires : tie.Need-carry-and-print-requires
+carry-and-print-requires c κs =
+    let s = c .before .before .before .before .before .before .before .before .before .before in
+    let p = c .before .before .before .before .before .plan-delete in
+    delete-is (now (s .args .table)) (s .args .id) (now (s .args .plan)) (p .last .1 .1 .0) _ (s .pre) (p .ensures .0) (p .ensures .1) .0
+
+of-plan-requires : tie.Need-of-plan-requires
+of-plan-requires c κs = search needs
+
+same-length : tie.Need-same-length
+same-length c = search needs
+
+same-length-2 : tie.Need-same-length-2
+same-length-2 c = search needs
+
+returns : tie.Need-returns
+returns c =
+    let s = c .before .before .before .before .before .before .before .before .before .before .before .before .before .before in
+    let p = c .before .before .before .before .before .before .before .before .before .plan-delete in (
+      changed-is (delete-is (now (s .args .table)) (s .args .id) (now (s .args .plan)) (p .last .1 .1 .0) _ (s .pre) (p .ensures .0) (p .ensures .1) .1) (c .before .before .before .carry-and-print .ensures),
+      c .of-plan .ensures ∙ ap changeTold (p .ensures .0 ∙ ap (deleteAnswer 2 (now (s .args .table)) (s .args .id)) (s .pre)),
+    )
+
+pub delete-spec : {M : Type 1} → statement M
+delete-spec =
+    tie.close
+    (tie.spec
+    plan-delete-requires
+    carry-and-print-requires
+    of-plan-requires
+    same-length
+    same-length-2
+    returns)

@@ -1,0 +1,48 @@
+-- `script_operations::insert` meets its contract.
+-- The plan is carried out and printed, and the answer is the planning call's.
+use mathlib.Core.Path.{ap, _∙_}
+use native.Mathlib.Omega.{arith}
+use denote.Ref.{now}
+use Rattle.insert_plans.specs.Inserts.{insertAnswer}
+use Rattle.script_operations.specs.Laws.{insert-is, changed-is}
+use Rattle.script_operations.specs.Told.{changeTold}
+use borrow.Author.Needs.{needs}
+use Rattle.script_operations.proofs.insert.Statement.{statement}
+use Rattle.script_operations.proofs.insert.Tie as tie
+
+plan-insert-requires : tie.Need-plan-insert-requires
+plan-insert-requires c κs = search needs
+
+carry-and-print-requires : tie.Need-carry-and-print-requires
+carry-and-print-requires c κs =
+    let s = c .before .before .before .before .before .before .before .before .before .before in
+    let p = c .before .before .before .before .before .plan-insert in
+    insert-is (now (s .args .table)) (s .args .rule) (now (s .args .plan)) (p .last .1 .1 .0) _ (omega arith) (s .pre) (p .ensures .0) (p .ensures .1 .0) .0
+
+of-plan-requires : tie.Need-of-plan-requires
+of-plan-requires c κs = search needs
+
+same-length : tie.Need-same-length
+same-length c = search needs
+
+same-length-2 : tie.Need-same-length-2
+same-length-2 c = search needs
+
+returns : tie.Need-returns
+returns c =
+    let s = c .before .before .before .before .before .before .before .before .before .before .before .before .before .before in
+    let p = c .before .before .before .before .before .before .before .before .before .plan-insert in (
+      changed-is (insert-is (now (s .args .table)) (s .args .rule) (now (s .args .plan)) (p .last .1 .1 .0) _ (omega arith) (s .pre) (p .ensures .0) (p .ensures .1 .0) .1) (c .before .before .before .carry-and-print .ensures),
+      c .of-plan .ensures ∙ ap changeTold (p .ensures .0 ∙ ap (insertAnswer 2 (now (s .args .table)) (s .args .rule)) (s .pre)),
+    )
+
+pub insert-spec : {M : Type 1} → statement M
+insert-spec =
+    tie.close
+    (tie.spec
+    plan-insert-requires
+    carry-and-print-requires
+    of-plan-requires
+    same-length
+    same-length-2
+    returns)

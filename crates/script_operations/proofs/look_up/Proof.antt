@@ -1,0 +1,27 @@
+-- `script_operations::look_up` meets its contract.
+-- The answer is the lookup's, and is printed.
+use mathlib.Core.Path.{ap, _∙_}
+use Rattle.script_operations.specs.Outcomes.{lookupBytes}
+use Rattle.script_operations.specs.Laws.{shown-is}
+use Rattle.script_operations.specs.Told.{lookedTold}
+use borrow.Author.Needs.{needs}
+use Rattle.script_operations.proofs.look_up.Statement.{statement}
+use Rattle.script_operations.proofs.look_up.Tie as tie
+
+lookup-requires : tie.Need-lookup-requires
+lookup-requires c κs = search needs
+
+print-lookup-requires : tie.Need-print-lookup-requires
+print-lookup-requires c κs = search needs
+
+of-lookup-requires : tie.Need-of-lookup-requires
+of-lookup-requires c κs = search needs
+
+returns : tie.Need-returns
+returns c =
+    let found = c .before .before .before .lookup .ensures in
+    (shown-is (ap lookupBytes found) (c .before .print-lookup .ensures), c .of-lookup .ensures ∙ ap lookedTold found)
+
+pub look-up-spec : {M : Type 1} → statement M
+look-up-spec =
+    tie.close (tie.spec lookup-requires print-lookup-requires of-lookup-requires returns)

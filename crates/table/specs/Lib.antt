@@ -1,9 +1,0 @@
--- Planning an insert: its words, its answer and the buffer afterwards; demand 3; what its writes do to replies and soundness.
--- Insertable: when its checks pass, in plain terms. Demand3: the theorem. Tables: document 01's marked tables.
-pub mod Joined
-pub mod Inserts
-pub mod Insertable
-pub mod Demand3
-pub mod Replies
-pub mod Soundness
-pub mod Tables

@@ -1,0 +1,139 @@
+// The list of the files to believe, where it stands in the table of promises, and the kinds of files.
+
+use crate::believed::Believed;
+use specs::promises::promised;
+use specs::reach::{closure, named_items, stands_at};
+use specs::tree::Module;
+use std::collections::BTreeSet;
+use std::fmt::Write;
+
+pub const PROMISES: &str = "docs/PROMISES.md";
+const BEGIN: &str = "<!-- believed: begin -->\n";
+const END: &str = "<!-- believed: end -->";
+
+/// The files with their lines and the sum, as Markdown; and how many statements there are to read beside them.
+pub fn listing(believed: &Believed) -> String {
+    let mut text = String::from("| File | Lines |\n|---|---:|\n");
+    let mut sum = 0;
+    for module in believed.files() {
+        let file = &believed.tree.modules[module];
+        sum += file.lines;
+        let _ = writeln!(text, "| `{}` | {} |", file.path, file.lines);
+    }
+    let files = believed.files().len();
+    let _ = writeln!(text, "| {files} files in all | {sum} |");
+    let statements = believed.laws().count();
+    let lines: usize = believed.laws().map(|law| statement_lines(believed, law)).sum();
+    let _ = writeln!(text, "| and the statements of {statements} theorems, without their proofs | {lines} |");
+    text
+}
+
+fn statement_lines(believed: &Believed, entry: usize) -> usize {
+    let item = &believed.tree.entries[entry].item;
+    item.statement_line - item.first_line + 1
+}
+
+/// The same, each file with the definitions in it that are to be believed.
+pub fn with_names(believed: &Believed) -> String {
+    let mut text = listing(believed);
+    text.push('\n');
+    for module in believed.files() {
+        let names = believed.definitions().filter(|&entry| believed.tree.entries[entry].module == module);
+        let names: Vec<String> = names.map(|entry| format!("`{}`", believed.tree.entries[entry].item.name)).collect();
+        let _ = writeln!(text, "- `{}`: {}", believed.tree.modules[module].path, names.join(", "));
+    }
+    text
+}
+
+/// The text with the list between its two lines, if it has them.
+pub fn replaced(text: &str, list: &str) -> Option<String> {
+    let begin = text.find(BEGIN)? + BEGIN.len();
+    let end = begin + text[begin..].find(END)?;
+    Some(format!("{}{list}{}", &text[..begin], &text[end..]))
+}
+
+/// How the list that stands in the text differs from this one, line by line.
+pub fn standing(text: &str, list: &str) -> Vec<String> {
+    let Some(begin) = text.find(BEGIN).map(|at| at + BEGIN.len()) else {
+        return vec![format!("{PROMISES}: no list of the files to believe")];
+    };
+    let there = &text[begin..begin + text[begin..].find(END).unwrap_or(0)];
+    let missing = list.lines().filter(|line| !there.lines().any(|other| other == *line));
+    let extra = there.lines().filter(|line| !list.lines().any(|other| other == *line));
+    let mut found: Vec<String> = extra.map(|line| format!("{PROMISES}: - {line}")).collect();
+    found.extend(missing.map(|line| format!("{PROMISES}: + {line}")));
+    if found.is_empty() && there != list {
+        found.push(format!("{PROMISES}: the list is in another order"));
+    }
+    found
+}
+
+/// Each item that stands in a file of the wrong kind, and each name that the table of promises has wrong.
+pub fn breaches(believed: &Believed) -> Vec<String> {
+    let mut found = Vec::new();
+    for (number, module) in believed.tree.modules.iter().enumerate() {
+        if is_of_laws(module) {
+            found.extend(
+                believed_in(believed, number).map(|name| format!("{}: {name} is believed, in a file of laws", module.path)),
+            );
+        } else if module.name != "Lib" {
+            let uncited = uncited_laws(believed, number);
+            found.extend(uncited.map(|name| format!("{}: {name} is a law that no definition of the file cites", module.path)));
+        }
+    }
+    found.extend(promised_elsewhere(believed));
+    found.extend(wrong_names(believed));
+    found.extend(believed.unknown.iter().map(|name| format!("tests/specs/kinds.rs: it is not known whether {name} is data")));
+    found
+}
+
+/// The laws that are promised and stand in no file of end theorems.
+fn promised_elsewhere(believed: &Believed) -> Vec<String> {
+    let mut found = Vec::new();
+    for &entry in believed.promised.iter().filter(|&&entry| !believed.definition[entry]) {
+        let module = &believed.tree.modules[believed.tree.entries[entry].module];
+        if !is_of_theorems(module) {
+            let name = &believed.tree.entries[entry].item.name;
+            found.push(format!("{}: {name} is promised, and the file is not one of end theorems", module.path));
+        }
+    }
+    found
+}
+
+fn is_of_theorems(module: &Module) -> bool {
+    module.first_line.starts_with("-- End theorems") || module.first_line.starts_with("-- Worked examples")
+}
+
+fn is_of_laws(module: &Module) -> bool {
+    module.name.ends_with("Laws") || is_of_theorems(module)
+}
+
+fn believed_in<'a>(believed: &'a Believed, module: usize) -> impl Iterator<Item = &'a str> {
+    let there = believed.definitions().filter(move |&entry| believed.tree.entries[entry].module == module);
+    there.map(|entry| believed.tree.entries[entry].item.name.as_str())
+}
+
+/// The laws of a file that none of its definitions cites, directly or through laws of the file.
+fn uncited_laws<'a>(believed: &'a Believed, module: usize) -> impl Iterator<Item = &'a str> {
+    let entries = &believed.tree.entries;
+    let own: BTreeSet<usize> = believed.tree.modules[module].entries.iter().copied().collect();
+    let definitions = own.iter().copied().filter(|&entry| believed.definition[entry]).collect();
+    let cited = closure(&definitions, |entry| &entries[entry].whole);
+    own.into_iter().filter(move |entry| !cited.contains(entry)).map(|entry| entries[entry].item.name.as_str())
+}
+
+/// Names of the table of promises for which it gives a place, as crate/Module, where no such item stands; and names with a hyphen,
+/// as only items have them, that no item has.
+fn wrong_names(believed: &Believed) -> Vec<String> {
+    let mut found = Vec::new();
+    for named in promised(&believed.tree.promises) {
+        let items = named_items(believed.tree, &named);
+        let given = named.places.iter().any(|place| place.contains('/'));
+        if given && !items.iter().any(|&entry| stands_at(believed.tree, entry, &named.places)) {
+            found.push(format!("{PROMISES}:{}: {} does not stand in {}", named.line, named.name, named.places.join(", ")));
+        } else if items.is_empty() && named.name.trim_matches('-').contains('-') {
+            found.push(format!("{PROMISES}:{}: there is no {}", named.line, named.name));
+        }
+    }
+    found
+}

@@ -1,0 +1,17 @@
+// Reads the specifications, proofs, sources and promises of the repository: which items there are, whether each is a definition
+// or a law, and which names each mentions.
+
+pub mod items;
+pub mod kinds;
+pub mod mentions;
+pub mod promises;
+pub mod reach;
+pub mod sources;
+pub mod tokens;
+pub mod tree;
+pub mod uses;
+
+#[cfg(test)]
+mod mentions_test;
+#[cfg(test)]
+mod tree_test;
