@@ -122,8 +122,8 @@ fn uncited_laws<'a>(believed: &'a Believed, module: usize) -> impl Iterator<Item
     own.into_iter().filter(move |entry| !cited.contains(entry)).map(|entry| entries[entry].item.name.as_str())
 }
 
-/// Names of the table of promises for which it gives a place, as crate/Module, where no such item stands; and names with a hyphen,
-/// as only items have them, that no item has.
+/// Names of the table of promises for which it gives a place, as crate/Module, where no such item stands; and names with a
+/// hyphen, as only items have them, that no item has.
 fn wrong_names(believed: &Believed) -> Vec<String> {
     let mut found = Vec::new();
     for named in promised(&believed.tree.promises) {

@@ -31,7 +31,8 @@ impl<'a> Kinds<'a> {
         item.form != Form::Value || self.is_data(&item.signature, entry, item)
     }
 
-    /// Whether a value of this type, in the text of this item, is data: a number, a list of numbers, a type, or a function to such.
+    /// Whether a value of this type, in the text of this item, is data: a number, a list of numbers, a type, or a function to
+    /// such.
     fn is_data(&self, tokens: &[Token], entry: usize, item: &Item) -> bool {
         let Some(result) = parted(tokens, |token| token.is_name("→")).pop() else { return false };
         let factors = parted(result, |token| token.is_name("×"));

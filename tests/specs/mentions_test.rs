@@ -12,7 +12,7 @@ fn mentioned(text: &str) -> Vec<String> {
     let mut names: Vec<String> = whole.into_iter().map(|mention| mention.path.join(".")).collect();
     names.sort();
     names.dedup();
-    names.retain(|name| !["→", "≡", "_", "Type", "0", "ℕ"].contains(&name.as_str()));
+    names.retain(|name| !["→", ":", "ℕ", "record"].contains(&name.as_str()));
     names
 }
 
@@ -34,7 +34,7 @@ fn terms() {
     assert_eq!(mentioned("f : t\nf = (λ a (b : p). g a b, a)"), ["a", "g", "p", "t"]);
     assert_eq!(mentioned("f : t\nf = let a : (b : p) → q = b in g a b"), ["b", "g", "p", "q", "t"]);
     assert_eq!(mentioned("f : t\nf = let a = λ b. b in a b"), ["b", "t"]);
-    assert_eq!(mentioned("f : t\nf = record { a = b; c = λ d. d .e }"), ["b", "record", "t"]);
+    assert_eq!(mentioned("f : t\nf = record { a = b; c = λ d. d .e }"), ["b", "t"]);
     assert_eq!(mentioned("f : t\nf = g {a = b} .c -- d"), ["b", "g", "t"]);
 }
 

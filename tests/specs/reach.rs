@@ -47,8 +47,8 @@ pub fn promises(tree: &Tree) -> BTreeSet<usize> {
     promised(&tree.promises).iter().flat_map(|named| named_items(tree, named)).collect()
 }
 
-/// The items of a name: those at the places given, or all that are public, or all. A crate's name means the crate, unless an item of
-/// that name stands at a place given.
+/// The items of a name: those at the places given, or all that are public, or all. A crate's name means the crate, unless an
+/// item of that name stands at a place given.
 pub fn named_items(tree: &Tree, named: &Promised) -> Vec<usize> {
     let all: Vec<usize> = (0..tree.entries.len()).filter(|&entry| tree.entries[entry].item.name == named.name).collect();
     let there: Vec<usize> = all.iter().copied().filter(|&entry| stands_at(tree, entry, &named.places)).collect();
