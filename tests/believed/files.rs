@@ -73,6 +73,9 @@ pub fn breaches(believed: &Believed) -> Vec<String> {
     let mut found = Vec::new();
     for (number, module) in believed.tree.modules.iter().enumerate() {
         if is_of_laws(module) {
+            if is_of_examples(module) {
+                continue; // what an example is about stands beside it
+            }
             found.extend(
                 believed_in(believed, number).map(|name| format!("{}: {name} is believed, in a file of laws", module.path)),
             );
@@ -101,7 +104,11 @@ fn promised_elsewhere(believed: &Believed) -> Vec<String> {
 }
 
 fn is_of_theorems(module: &Module) -> bool {
-    module.first_line.starts_with("-- End theorems") || module.first_line.starts_with("-- Worked examples")
+    module.first_line.starts_with("-- End theorems") || is_of_examples(module)
+}
+
+fn is_of_examples(module: &Module) -> bool {
+    module.first_line.starts_with("-- Worked examples")
 }
 
 fn is_of_laws(module: &Module) -> bool {

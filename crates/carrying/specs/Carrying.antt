@@ -6,10 +6,10 @@ use Prim.Native.Nat.{ℕ, _+_}
 use lib.Dec.{eqb, leb}
 use lib.ListN.{length, getD}
 use Rattle.layout.specs.Write.{Write, copy, put, clear}
+use Rattle.plan_words.specs.PlanWords.{writeOf}
 use Rattle.records.specs.Record.{soundRule}
 use Rattle.records.specs.Checks.{Told, success, refusal, unless, passes, orElse, slotChecks}
 use Rattle.records.specs.Writes.{fitsWrite, applyWord}
-use Rattle.plan_words.specs.PlanWords.{writeOf}
 use Rattle.records.specs.declared.Rule.{Rule}
 use Rattle.records.specs.declared.Cause.the-variants.{Rule as RuleCause, Write as WriteCause}
 use Rattle.records.specs.declared.Check.{Check}

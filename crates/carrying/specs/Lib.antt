@@ -1,6 +1,8 @@
 -- What a step answers, and the table and the writes done after it.
--- Carrying: the definitions. Steps: what they say, and the ways in which a step ends. Calls, Until: step after step.
+-- Carrying: the definitions of a step. Steps: the ways in which it ends. Calls, UntilLaws: step after step.
 pub mod Carrying
 pub mod Steps
+pub mod StepsLaws
 pub mod Calls
-pub mod Until
+pub mod CallsLaws
+pub mod UntilLaws

@@ -1,4 +1,4 @@
--- Tables of document 01, evaluated on the ends of their windows: the equation of costs at each position.
+-- Worked examples: tables of document 01, evaluated on the ends of their windows: the equation of costs at each position.
 -- Each is checked by computation alone.
 use mathlib.Core.Path.{_≡_, refl}
 use mathlib.Core.List.{[], _∷_, map}

@@ -2,11 +2,12 @@
 // A slot id action, M (miss), R number spot; P count and B with the buffer's first words; C: passes checks 1 to 4; W words last: a slot's record; S 0 or 1: is a rule sound.
 ghost use mathlib.Core.Path.{_≡_};
 ghost use lib.ListN.{length};
+use buffers::PlanAnswer;
+use delete_plans::plan_delete;
+use insert_plans::plan_insert;
 use lookups::LookupAnswer;
 use lookups::lookup::lookup;
 use lookups::lookup::slot_record;
-use buffers::PlanAnswer;
-use delete_plans::plan_delete;
 use records::Cause;
 use records::Check;
 use records::Rule;
@@ -15,7 +16,6 @@ use slots::put_record;
 use slots::rules::record_of;
 use slots::rules::rule_of;
 use slots::rules::rule_sound;
-use insert_plans::plan_insert;
 use table_checks::check_table;
 
 fn number(value: u64) {

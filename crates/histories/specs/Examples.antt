@@ -1,4 +1,4 @@
--- Document 01's script, by rules alone: what its two lookups are answered follows from the accepted inserts and the delete, without slots.
+-- Worked examples: document 01's script, by rules alone: what its two lookups are answered follows from the accepted inserts and the delete, without slots.
 -- By computation.
 use mathlib.Core.Path.{_≡_, refl}
 use mathlib.Core.List.{List, [], _∷_}

@@ -1,11 +1,17 @@
--- Demand 2 of document 01. RuleSet: the rules inserted and not since deleted, and the highest-priority match among them, without slots.
--- Replies, Soundness: what a plan's writes do to them. Holding, TableRules: a table and the rules it holds. InTurn: a plan, call by call. Demand2: within a plan. Histories: from an empty table on.
+-- Demand 2 of document 01. RuleSet: the rules inserted and not since deleted, and the highest-priority match among them, without slots. Holding,
+-- TableRules: a table and the rules it holds. Demand2: within a plan. Histories: from an empty table on.
+-- RepliesLaws, SoundnessLaws: what a plan's writes do to replies and soundness. InTurnLaws: a plan, call by call.
 pub mod RuleSet
-pub mod Replies
-pub mod Soundness
+pub mod RuleSetLaws
+pub mod RepliesLaws
+pub mod SoundnessLaws
 pub mod Holding
+pub mod HoldingLaws
 pub mod TableRules
-pub mod InTurn
+pub mod TableRulesLaws
+pub mod InTurnLaws
 pub mod Demand2
+pub mod Demand2Laws
 pub mod Histories
+pub mod HistoriesLaws
 pub mod Examples

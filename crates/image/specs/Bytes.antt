@@ -1,7 +1,7 @@
 -- Numbers as big-endian bytes, and parts of a list of bytes: written, read, stored over what stood there, and laid one behind another.
 -- k is a number of bytes: fields of 2, 4 and 8 are instances.
 use mathlib.Core.List.{List, [], _∷_, _++_}
-use Prim.Native.Nat.{ℕ, zero, suc, _+_, _*_, _/_, _%_}
+use Prim.Native.Nat.{ℕ, zero, suc, _+_, _*_, _/_, _%_, _<_}
 use lib.ListN.{length, getD, take, drop}
 
 -- the k lowest bytes of a number, the highest of them first
@@ -26,3 +26,7 @@ store b at bytes = take at b ++ bytes ++ drop (at + length bytes) b
 unfoldable pub pieces : (ℕ → List ℕ) → ℕ → List ℕ
 pieces f zero = []
 pieces f (suc n) = pieces f n ++ f n
+
+-- every byte is one
+abbrev pub Bytes : List ℕ → Type 0
+Bytes b = (i : ℕ) → getD b i 0 < 256

@@ -1,4 +1,4 @@
--- The definitions computed on a table of three slots: its image byte by byte, the image loaded, and fields of it made wrong one by one.
+-- Worked examples: the definitions computed on a table of three slots: its image byte by byte, the image loaded, and fields of it made wrong one by one.
 -- Each is checked by computation alone.
 use mathlib.Core.Path.{_≡_, refl}
 use mathlib.Core.List.{List, [], _∷_}
@@ -14,7 +14,7 @@ use Rattle.records.specs.declared.Cause.the-variants.{Order, Image}
 use Rattle.image.specs.Bytes.{bytesOf, numberAt, pieces}
 use Rattle.image.specs.Indices.{indices}
 use Rattle.image.specs.Format.{entryOf, bodyOf, entryBytes, ruleBytes, imageOf, recordAt}
-use Rattle.image.specs.Checks.{inTurn, checkHeader, checkEntry, checkBody, checkContents, checkBodies, imageChecks, filled, meant, loadChecks}
+use Rattle.image.specs.Checks.{inTurn, checkHeader, checkEntry, checkBody, checkContents, checkBodies, imageChecks, rulesPut, meant, loadChecks}
 use Rattle.image.specs.Answers.{loadAnswer, loadTable}
 
 -- slot 0: rule 258, action 3, priority 30, that cares for the lowest bit; slot 2: rule 7, action 9, priority 20, that cares for none
@@ -29,7 +29,7 @@ unfolding imageOf indices empty all entryBytes ruleBytes entryOf bodyOf pieces b
 saved = refl
 
 loaded : loadTable 2 image (replicate 18 5) ≡ table
-unfolding loadAnswer loadTable loadChecks checkShape shaped imageChecks checkHeader checkContents checkBodies inTurn checkEntry checkBody numberAt recordAt listed soundParts within all inside meant filled putSlot checkTwice twiceAt lowest least any sameId empty checkOrder disorderAt misordered overlaps distinct agree both
+unfolding loadAnswer loadTable loadChecks checkShape shaped imageChecks checkHeader checkContents checkBodies inTurn checkEntry checkBody numberAt recordAt listed soundParts within all inside meant rulesPut putSlot checkTwice twiceAt lowest least any sameId empty checkOrder disorderAt misordered overlaps distinct agree both
 loaded = refl
 
 -- what a lent table of three slots is answered with byte i of the image changed to n
@@ -37,47 +37,47 @@ answer : ℕ → ℕ → Told
 answer i n = loadAnswer 2 (set image i n) (replicate 18 5)
 
 right : answer 3 2 ≡ success []
-unfolding answer loadAnswer loadTable loadChecks checkShape shaped imageChecks checkHeader checkContents checkBodies inTurn checkEntry checkBody numberAt recordAt listed soundParts within all inside meant filled putSlot checkTwice twiceAt lowest least any sameId empty checkOrder disorderAt misordered overlaps distinct agree both
+unfolding answer loadAnswer loadTable loadChecks checkShape shaped imageChecks checkHeader checkContents checkBodies inTurn checkEntry checkBody numberAt recordAt listed soundParts within all inside meant rulesPut putSlot checkTwice twiceAt lowest least any sameId empty checkOrder disorderAt misordered overlaps distinct agree both
 right = refl
 
 -- another number of slots
 other-slots : answer 1 4 ≡ refusal Image 0
-unfolding answer loadAnswer loadTable loadChecks checkShape shaped imageChecks checkHeader checkContents checkBodies inTurn checkEntry checkBody numberAt recordAt listed soundParts within all inside meant filled putSlot checkTwice twiceAt lowest least any sameId empty checkOrder disorderAt misordered overlaps distinct agree both
+unfolding answer loadAnswer loadTable loadChecks checkShape shaped imageChecks checkHeader checkContents checkBodies inTurn checkEntry checkBody numberAt recordAt listed soundParts within all inside meant rulesPut putSlot checkTwice twiceAt lowest least any sameId empty checkOrder disorderAt misordered overlaps distinct agree both
 other-slots = refl
 
 -- too many bytes for one rule
 too-long : answer 3 1 ≡ refusal Image 2
-unfolding answer loadAnswer loadTable loadChecks checkShape shaped imageChecks checkHeader checkContents checkBodies inTurn checkEntry checkBody numberAt recordAt listed soundParts within all inside meant filled putSlot checkTwice twiceAt lowest least any sameId empty checkOrder disorderAt misordered overlaps distinct agree both
+unfolding answer loadAnswer loadTable loadChecks checkShape shaped imageChecks checkHeader checkContents checkBodies inTurn checkEntry checkBody numberAt recordAt listed soundParts within all inside meant rulesPut putSlot checkTwice twiceAt lowest least any sameId empty checkOrder disorderAt misordered overlaps distinct agree both
 too-long = refl
 
 -- id 0, of the second entry
 no-id : answer 17 0 ≡ refusal Image 14
-unfolding answer loadAnswer loadTable loadChecks checkShape shaped imageChecks checkHeader checkContents checkBodies inTurn checkEntry checkBody numberAt recordAt listed soundParts within all inside meant filled putSlot checkTwice twiceAt lowest least any sameId empty checkOrder disorderAt misordered overlaps distinct agree both
+unfolding answer loadAnswer loadTable loadChecks checkShape shaped imageChecks checkHeader checkContents checkBodies inTurn checkEntry checkBody numberAt recordAt listed soundParts within all inside meant rulesPut putSlot checkTwice twiceAt lowest least any sameId empty checkOrder disorderAt misordered overlaps distinct agree both
 no-id = refl
 
 -- a slot not above the entry before
 slot-falls : answer 19 0 ≡ refusal Image 18
-unfolding answer loadAnswer loadTable loadChecks checkShape shaped imageChecks checkHeader checkContents checkBodies inTurn checkEntry checkBody numberAt recordAt listed soundParts within all inside meant filled putSlot checkTwice twiceAt lowest least any sameId empty checkOrder disorderAt misordered overlaps distinct agree both
+unfolding answer loadAnswer loadTable loadChecks checkShape shaped imageChecks checkHeader checkContents checkBodies inTurn checkEntry checkBody numberAt recordAt listed soundParts within all inside meant rulesPut putSlot checkTwice twiceAt lowest least any sameId empty checkOrder disorderAt misordered overlaps distinct agree both
 slot-falls = refl
 
 -- an offset that is not exact
 offset-off : answer 13 25 ≡ refusal Image 10
-unfolding answer loadAnswer loadTable loadChecks checkShape shaped imageChecks checkHeader checkContents checkBodies inTurn checkEntry checkBody numberAt recordAt listed soundParts within all inside meant filled putSlot checkTwice twiceAt lowest least any sameId empty checkOrder disorderAt misordered overlaps distinct agree both
+unfolding answer loadAnswer loadTable loadChecks checkShape shaped imageChecks checkHeader checkContents checkBodies inTurn checkEntry checkBody numberAt recordAt listed soundParts within all inside meant rulesPut putSlot checkTwice twiceAt lowest least any sameId empty checkOrder disorderAt misordered overlaps distinct agree both
 offset-off = refl
 
 -- a value bit outside the mask
 value-outside : answer 31 1 ≡ refusal Image 24
-unfolding answer loadAnswer loadTable loadChecks checkShape shaped imageChecks checkHeader checkContents checkBodies inTurn checkEntry checkBody numberAt recordAt listed soundParts within all inside meant filled putSlot checkTwice twiceAt lowest least any sameId empty checkOrder disorderAt misordered overlaps distinct agree both
+unfolding answer loadAnswer loadTable loadChecks checkShape shaped imageChecks checkHeader checkContents checkBodies inTurn checkEntry checkBody numberAt recordAt listed soundParts within all inside meant rulesPut putSlot checkTwice twiceAt lowest least any sameId empty checkOrder disorderAt misordered overlaps distinct agree both
 value-outside = refl
 
 -- priority 65,556
 priority-high : answer 97 1 ≡ refusal Image 64
-unfolding answer loadAnswer loadTable loadChecks checkShape shaped imageChecks checkHeader checkContents checkBodies inTurn checkEntry checkBody numberAt recordAt listed soundParts within all inside meant filled putSlot checkTwice twiceAt lowest least any sameId empty checkOrder disorderAt misordered overlaps distinct agree both
+unfolding answer loadAnswer loadTable loadChecks checkShape shaped imageChecks checkHeader checkContents checkBodies inTurn checkEntry checkBody numberAt recordAt listed soundParts within all inside meant rulesPut putSlot checkTwice twiceAt lowest least any sameId empty checkOrder disorderAt misordered overlaps distinct agree both
 priority-high = refl
 
 -- the later rule no lower
 out-of-order : answer 99 30 ≡ refusal Order 2
-unfolding answer loadAnswer loadTable loadChecks checkShape shaped imageChecks checkHeader checkContents checkBodies inTurn checkEntry checkBody numberAt recordAt listed soundParts within all inside meant filled putSlot checkTwice twiceAt lowest least any sameId empty checkOrder disorderAt misordered overlaps distinct agree both
+unfolding answer loadAnswer loadTable loadChecks checkShape shaped imageChecks checkHeader checkContents checkBodies inTurn checkEntry checkBody numberAt recordAt listed soundParts within all inside meant rulesPut putSlot checkTwice twiceAt lowest least any sameId empty checkOrder disorderAt misordered overlaps distinct agree both
 out-of-order = refl
 
 -- two fields wrong, the first in the order of checks: byte j is changed to m too
@@ -86,15 +86,15 @@ both-wrong i n j m = loadAnswer 2 (set (set image i n) j m) (replicate 18 5)
 
 -- the slots and the rules
 slots-before-rules : both-wrong 1 4 3 1 ≡ refusal Image 0
-unfolding both-wrong loadAnswer loadTable loadChecks checkShape shaped imageChecks checkHeader checkContents checkBodies inTurn checkEntry checkBody numberAt recordAt listed soundParts within all inside meant filled putSlot checkTwice twiceAt lowest least any sameId empty checkOrder disorderAt misordered overlaps distinct agree both
+unfolding both-wrong loadAnswer loadTable loadChecks checkShape shaped imageChecks checkHeader checkContents checkBodies inTurn checkEntry checkBody numberAt recordAt listed soundParts within all inside meant rulesPut putSlot checkTwice twiceAt lowest least any sameId empty checkOrder disorderAt misordered overlaps distinct agree both
 slots-before-rules = refl
 
 -- the slot of the second entry and its offset
 slot-before-offset : both-wrong 19 0 23 65 ≡ refusal Image 18
-unfolding both-wrong loadAnswer loadTable loadChecks checkShape shaped imageChecks checkHeader checkContents checkBodies inTurn checkEntry checkBody numberAt recordAt listed soundParts within all inside meant filled putSlot checkTwice twiceAt lowest least any sameId empty checkOrder disorderAt misordered overlaps distinct agree both
+unfolding both-wrong loadAnswer loadTable loadChecks checkShape shaped imageChecks checkHeader checkContents checkBodies inTurn checkEntry checkBody numberAt recordAt listed soundParts within all inside meant rulesPut putSlot checkTwice twiceAt lowest least any sameId empty checkOrder disorderAt misordered overlaps distinct agree both
 slot-before-offset = refl
 
 -- the id of the second entry and the first body's value
 entries-before-bodies : both-wrong 17 0 31 1 ≡ refusal Image 14
-unfolding both-wrong loadAnswer loadTable loadChecks checkShape shaped imageChecks checkHeader checkContents checkBodies inTurn checkEntry checkBody numberAt recordAt listed soundParts within all inside meant filled putSlot checkTwice twiceAt lowest least any sameId empty checkOrder disorderAt misordered overlaps distinct agree both
+unfolding both-wrong loadAnswer loadTable loadChecks checkShape shaped imageChecks checkHeader checkContents checkBodies inTurn checkEntry checkBody numberAt recordAt listed soundParts within all inside meant rulesPut putSlot checkTwice twiceAt lowest least any sameId empty checkOrder disorderAt misordered overlaps distinct agree both
 entries-before-bodies = refl

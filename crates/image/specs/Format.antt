@@ -65,8 +65,8 @@ rulesIn b = numberAt b 2 2
 abbrev pub idAt : List ℕ → ℕ → ℕ
 idAt b k = numberAt b (entryPlace k) 4
 
-abbrev pub slotAt : List ℕ → ℕ → ℕ
-slotAt b k = numberAt b (entryPlace k + 4) 2
+abbrev pub entrySlot : List ℕ → ℕ → ℕ
+entrySlot b k = numberAt b (entryPlace k + 4) 2
 
 abbrev pub offsetAt : List ℕ → ℕ → ℕ
 offsetAt b k = numberAt b (entryPlace k + 6) 4

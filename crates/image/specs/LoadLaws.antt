@@ -1,4 +1,4 @@
--- The table that an image means, slot by slot, and how a load ends.
+-- End theorems: the table that an image means, slot by slot, and how a load ends.
 -- A rule's slot has its record, every other slot is empty.
 use mathlib.Core.Path.{_≡_, refl, sym, ap, ap₂, _∙_}
 use mathlib.Core.Bool.{cond}
@@ -11,15 +11,15 @@ use Rattle.records.specs.Record.{recordWords, listed}
 use Rattle.records.specs.Order.{slots}
 use Rattle.records.specs.Checks.{success, refusal, unless, passes, orElse, checkShape, checkTwice, checkOrder}
 use Rattle.records.specs.Laws.{or-else-pass, failed, passed, shape-same}
-use Rattle.records.specs.Rules.{length-listed}
 use Rattle.records.specs.declared.Cause.{Cause}
 use Rattle.records.specs.declared.Check.{Check}
 use Rattle.records.specs.declared.Check.the-variants.{Pass, Fail}
+use Rattle.records.specs.RulesLaws.{length-listed}
 use Rattle.image.specs.Bytes.{numberAt}
 use Rattle.image.specs.Format.{bodyPlace, rulesIn, idAt, recordAt}
-use Rattle.image.specs.Checks.{imageChecks, filled, meant, loadChecks}
-use Rattle.image.specs.CheckLaws.{Sound, image-law}
+use Rattle.image.specs.Checks.{imageChecks, rulesPut, meant, loadChecks, Sound}
 use Rattle.image.specs.Answers.{loadAnswer, loadTable}
+use Rattle.image.specs.ChecksLaws.{image-law}
 
 pub record-at-length : (w : ℕ) (b : List ℕ) (e k : ℕ) → length (recordAt w b e k) ≡ recordWords w
 unfolding recordAt
@@ -30,10 +30,10 @@ record-at-length w b e k =
 
 -- the working table after every rule of the image is the table meant
 pub meant-built : (w : ℕ) (b : List ℕ) (size : ℕ) {e : ℕ} {working after : List ℕ} → e ≡ rulesIn b → working ≡ replicate size 0
-    → after ≡ filled w b e working e → after ≡ meant w b size
+    → after ≡ rulesPut w b e working e → after ≡ meant w b size
 unfolding meant
 meant-built w b size f z e =
-    e ∙ ap₂ (λ (n : ℕ) (t : List ℕ). filled w b n t n) f z
+    e ∙ ap₂ (λ (n : ℕ) (t : List ℕ). rulesPut w b n t n) f z
 
 -- a load ends in one of three ways: its fields are wrong, the table meant fails 3 or 4, or that table is written
 module _ (w : ℕ) (b t : List ℕ) where

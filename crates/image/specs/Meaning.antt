@@ -1,4 +1,4 @@
--- The table that an image means, slot by slot: a rule's slot has the record of its entry and body, every other slot is empty.
+-- End theorems: the table that an image means, slot by slot: a rule's slot has the record of its entry and body, every other slot is empty.
 -- An image's slots rise, so that no record overwrites another.
 use mathlib.Core.Path.{_≡_, refl, sym, ap, ap₂, _∙_}
 use mathlib.Core.Bool.{Bool, true, false, not, _&&_, true≢false}
@@ -14,22 +14,26 @@ use lib.Dec.{eqb, leb}
 use lib.ListN.{length, getD, replicate, length-replicate, List·getD-append}
 use lib.Seq.{getD-at, getD-append-add, ext-getD}
 use borrow.Author.Tests.{eq-eqb, eqb-true}
-use Rattle.search.specs.Search.{any, any-yes, any-no, decided}
-use Rattle.ternary.specs.Pattern.{Words, Within, within-cong}
+use Rattle.search.specs.Search.{any}
+use Rattle.search.specs.SearchLaws.{any-yes, any-no, decided}
+use Rattle.ternary.specs.Pattern.{Words, Within}
+use Rattle.ternary.specs.PatternLaws.{within-cong}
 use Rattle.records.specs.Record.{word, listed, recordWords, slotWords, ident, action, rank, sound, soundParts, value, mask}
 use Rattle.records.specs.Order.{slots}
 use Rattle.records.specs.Laws.{empty-law, sound-law}
-use Rattle.records.specs.Rules.{length-listed, word-listed}
 use Rattle.records.specs.declared.Check.the-variants.{Pass}
-use Rattle.records.specs.Entries.{SameRecord, occupied-cong, ident-occupied}
-use Rattle.records.specs.PutSlot.{put-length, put-here, put-other}
-use Rattle.image.specs.Bytes.{numberAt}
-use Rattle.image.specs.ByteLaws.{Bytes, number-small}
-use Rattle.image.specs.Indices.{indices, indices-row}
-use Rattle.image.specs.Format.{bodyPlace, rulesIn, idAt, slotAt, recordAt, holds, ruleCount, ruleSlot}
-use Rattle.image.specs.Checks.{checkBody, filled, meant}
-use Rattle.image.specs.CheckLaws.{Sound, field-law}
+use Rattle.records.specs.Entries.{SameRecord}
+use Rattle.records.specs.RulesLaws.{length-listed, word-listed}
+use Rattle.records.specs.EntriesLaws.{occupied-cong, ident-occupied}
+use Rattle.records.specs.PutSlotLaws.{put-length, put-here, put-other}
+use Rattle.image.specs.Bytes.{numberAt, Bytes}
+use Rattle.image.specs.Indices.{indices}
+use Rattle.image.specs.Format.{bodyPlace, rulesIn, idAt, entrySlot, recordAt, holds, ruleCount, ruleSlot}
+use Rattle.image.specs.Checks.{checkBody, rulesPut, meant, Sound}
 use Rattle.image.specs.LoadLaws.{record-at-length}
+use Rattle.image.specs.BytesLaws.{number-small}
+use Rattle.image.specs.IndicesLaws.{indices-row}
+use Rattle.image.specs.ChecksLaws.{field-law}
 
 -- the words of an image's record
 module _ (w : ℕ) (b : List ℕ) (e k : ℕ) where
@@ -47,16 +51,16 @@ module _ (w : ℕ) (b : List ℕ) (e k : ℕ) where
   unfolding recordAt words
   record-both = getD-at (listed (2 * w) words) _ _ 0 (2 * w) front
 
-  pub record-rank : rank w (word (recordAt w b e k)) ≡ numberAt b (bodyPlace w e k + 2 * w * 8) 4
+  pub loaded-rank : rank w (word (recordAt w b e k)) ≡ numberAt b (bodyPlace w e k + 2 * w * 8) 4
   unfolding recordAt words
-  record-rank =
+  loaded-rank =
       ap (λ (i : ℕ). getD (recordAt w b e k) (i + 1) 0) (sym front) ∙ getD-append-add (listed (2 * w) words) _ 1 0
 
-  pub record-ident : Bytes b → ident w (word (recordAt w b e k)) ≡ idAt b k
-  record-ident h = ap (λ (n : ℕ). n / 4294967296) record-both ∙ digits-div (idAt b k) (number-small 4 b (bodyPlace w e k + (2 * w * 8 + 4)) h)
+  pub loaded-ident : Bytes b → ident w (word (recordAt w b e k)) ≡ idAt b k
+  loaded-ident h = ap (λ (n : ℕ). n / 4294967296) record-both ∙ digits-div (idAt b k) (number-small 4 b (bodyPlace w e k + (2 * w * 8 + 4)) h)
 
-  pub record-action : Bytes b → action w (word (recordAt w b e k)) ≡ numberAt b (bodyPlace w e k + (2 * w * 8 + 4)) 4
-  record-action h = ap (λ (n : ℕ). n % 4294967296) record-both ∙ digits-mod (idAt b k) (number-small 4 b (bodyPlace w e k + (2 * w * 8 + 4)) h)
+  pub loaded-action : Bytes b → action w (word (recordAt w b e k)) ≡ numberAt b (bodyPlace w e k + (2 * w * 8 + 4)) 4
+  loaded-action h = ap (λ (n : ℕ). n % 4294967296) record-both ∙ digits-mod (idAt b k) (number-small 4 b (bodyPlace w e k + (2 * w * 8 + 4)) h)
 
   -- each has 64 bits
   pub record-small : Bytes b → (j : ℕ) → j < recordWords w → word (recordAt w b e k) j < 18446744073709551616
@@ -74,7 +78,7 @@ module _ (w : ℕ) (b : List ℕ) (e k : ℕ) where
           )
       pick (no r) (no f) =
           let last : j ≡ 2 * w + 1 = omega arith in
-          omega (arith, ap (word (recordAt w b e k)) last, record-rank, number-small 4 b (bodyPlace w e k + 2 * w * 8) h)
+          omega (arith, ap (word (recordAt w b e k)) last, loaded-rank, number-small 4 b (bodyPlace w e k + 2 * w * 8) h)
 
   -- document 01: an unsound value or priority, in a body whose entry has an id
   pub body-law : Bytes b → (idAt b k ≡ 0 → ⊥)
@@ -88,7 +92,7 @@ module _ (w : ℕ) (b : List ℕ) (e k : ℕ) where
       let mask-words : Words = λ j. numberAt b (bodyPlace w e k + (w + j) * 8) 8 in
       let priority = numberAt b (bodyPlace w e k + 2 * w * 8) 4 in
       let same : sound w x ≡ soundParts w (idAt b k) priority value-words mask-words =
-      ap₂ (λ (i p : ℕ). soundParts w i p (value x) (mask w x)) (record-ident h) record-rank
+      ap₂ (λ (i p : ℕ). soundParts w i p (value x) (mask w x)) (loaded-ident h) loaded-rank
       ∙ ap (λ (q : Bool). not (eqb (idAt b k) 0) && leb priority 65535 && q)
       (within-cong w (λ j l. record-word j (omega arith)) (λ j l. record-word (w + j) (omega arith))) in
       let law = sound-law w (idAt b k) priority value-words mask-words in (
@@ -98,48 +102,48 @@ module _ (w : ℕ) (b : List ℕ) (e k : ℕ) where
 
 -- an image's slots rise
 module _ {w : ℕ} {b : List ℕ} {n : ℕ} (s : Sound w b n) where
-  pub slots-rise : (j k : ℕ) → j < k → k < rulesIn b → slotAt b j < slotAt b k
+  pub slots-rise : (j k : ℕ) → j < k → k < rulesIn b → entrySlot b j < entrySlot b k
   slots-rise j zero l h = absurd (omega arith)
   slots-rise j (suc k) l h = pick (ℕ-discrete j k) (slots-rise j k)
     where
-      pick : Dec (j ≡ k) → (j < k → k < rulesIn b → slotAt b j < slotAt b k) → slotAt b j < slotAt b (suc k)
-      pick (yes f) back = let a = s .above (suc k) h in omega (arith, ap (slotAt b) f)
+      pick : Dec (j ≡ k) → (j < k → k < rulesIn b → entrySlot b j < entrySlot b k) → entrySlot b j < entrySlot b (suc k)
+      pick (yes f) back = let a = s .above (suc k) h in omega (arith, ap (entrySlot b) f)
       pick (no f) back = let a = s .above (suc k) h in let c = back (omega arith) (omega arith) in omega arith
 
 -- a table into which rules are put, one by one, each into a slot of its own
-module _ (w : ℕ) (b : List ℕ) (e : ℕ) (t : List ℕ) (below : (k : ℕ) → k < e → slotAt b k < slots w t) where
-  pub filled-length : (k : ℕ) → k ≤ e → length (filled w b e t k) ≡ length t
-  unfolding filled
+module _ (w : ℕ) (b : List ℕ) (e : ℕ) (t : List ℕ) (below : (k : ℕ) → k < e → entrySlot b k < slots w t) where
+  pub filled-length : (k : ℕ) → k ≤ e → length (rulesPut w b e t k) ≡ length t
+  unfolding rulesPut
   filled-length zero h = refl
   filled-length (suc k) h =
-      put-length w (filled w b e t k) (slotAt b k) (recordAt w b e k)
+      put-length w (rulesPut w b e t k) (entrySlot b k) (recordAt w b e k)
       (let l = below k h in omega (arith, ap (λ (n : ℕ). n / recordWords w) (filled-length k (omega arith)))) (record-at-length w b e k)
       ∙ filled-length k (omega arith)
 
-  inside : (k : ℕ) → k < e → slotAt b k < slots w (filled w b e t k)
+  inside : (k : ℕ) → k < e → entrySlot b k < slots w (rulesPut w b e t k)
   inside k h = let l = below k h in omega (arith, ap (λ (n : ℕ). n / recordWords w) (filled-length k (omega arith)))
 
-  pub filled-other : (k slot : ℕ) → k ≤ e → ((j : ℕ) → j < k → slotAt b j ≢ slot) → SameRecord w (slotWords w (filled w b e t k) slot) (slotWords w t slot)
-  unfolding filled
+  pub filled-other : (k slot : ℕ) → k ≤ e → ((j : ℕ) → j < k → entrySlot b j ≢ slot) → SameRecord w (slotWords w (rulesPut w b e t k) slot) (slotWords w t slot)
+  unfolding rulesPut
   filled-other zero slot h d i l = refl
   filled-other (suc k) slot h d i l =
-      put-other w (filled w b e t k) (slotAt b k) (recordAt w b e k) (inside k h) (record-at-length w b e k) slot (λ f. d k (omega arith) (sym f)) i l
+      put-other w (rulesPut w b e t k) (entrySlot b k) (recordAt w b e k) (inside k h) (record-at-length w b e k) slot (λ f. d k (omega arith) (sym f)) i l
       ∙ filled-other k slot (omega arith) (λ j r. d j (omega arith)) i l
 
-  pub filled-here : ((j k : ℕ) → j < k → k < e → slotAt b j < slotAt b k) → (k j : ℕ) → k ≤ e → j < k
-      → SameRecord w (slotWords w (filled w b e t k) (slotAt b j)) (word (recordAt w b e j))
-  unfolding filled
+  pub filled-here : ((j k : ℕ) → j < k → k < e → entrySlot b j < entrySlot b k) → (k j : ℕ) → k ≤ e → j < k
+      → SameRecord w (slotWords w (rulesPut w b e t k) (entrySlot b j)) (word (recordAt w b e j))
+  unfolding rulesPut
   filled-here rises zero j h l i r = absurd (omega arith)
   filled-here rises (suc k) j h l i r = pick (ℕ-discrete j k) (filled-here rises k j)
     where
-      pick : Dec (j ≡ k) → (k ≤ e → j < k → SameRecord w (slotWords w (filled w b e t k) (slotAt b j)) (word (recordAt w b e j)))
-          → slotWords w (filled w b e t (suc k)) (slotAt b j) i ≡ word (recordAt w b e j) i
+      pick : Dec (j ≡ k) → (k ≤ e → j < k → SameRecord w (slotWords w (rulesPut w b e t k) (entrySlot b j)) (word (recordAt w b e j)))
+          → slotWords w (rulesPut w b e t (suc k)) (entrySlot b j) i ≡ word (recordAt w b e j) i
       pick (yes f) back =
-          ap (λ (m : ℕ). slotWords w (filled w b e t (suc k)) (slotAt b m) i) f
-          ∙ (put-here w (filled w b e t k) (slotAt b k) (recordAt w b e k) (inside k h) (record-at-length w b e k) i r
+          ap (λ (m : ℕ). slotWords w (rulesPut w b e t (suc k)) (entrySlot b m) i) f
+          ∙ (put-here w (rulesPut w b e t k) (entrySlot b k) (recordAt w b e k) (inside k h) (record-at-length w b e k) i r
           ∙ ap (λ (m : ℕ). word (recordAt w b e m) i) (sym f))
       pick (no f) back =
-          put-other w (filled w b e t k) (slotAt b k) (recordAt w b e k) (inside k h) (record-at-length w b e k) (slotAt b j)
+          put-other w (rulesPut w b e t k) (entrySlot b k) (recordAt w b e k) (inside k h) (record-at-length w b e k) (entrySlot b j)
           (λ g. let a = rises j k (omega arith) h in omega arith) i r
           ∙ back (omega arith) (omega arith) i r
 
@@ -168,7 +172,7 @@ module _ (w : ℕ) (b : List ℕ) (n : ℕ) (s : Sound w b n) where
   zero-slots =
       ap (λ (m : ℕ). m / recordWords w) (meant-zeros ∙ sym (add-zero (n * recordWords w))) ∙ digits-div n (omega arith)
 
-  inside-zeros : (k : ℕ) → k < rulesIn b → slotAt b k < slots w (replicate (n * recordWords w) 0)
+  inside-zeros : (k : ℕ) → k < rulesIn b → entrySlot b k < slots w (replicate (n * recordWords w) 0)
   inside-zeros k h = let l = s .below k h in omega (arith, zero-slots)
 
   pub meant-length : length (meant w b (n * recordWords w)) ≡ n * recordWords w
@@ -179,44 +183,44 @@ module _ (w : ℕ) (b : List ℕ) (n : ℕ) (s : Sound w b n) where
   meant-slots = ap (λ (m : ℕ). m / recordWords w) (meant-length ∙ sym (add-zero (n * recordWords w))) ∙ digits-div n (omega arith)
 
   -- a rule's slot has its record
-  pub meant-here : (k : ℕ) → k < rulesIn b → SameRecord w (slotWords w (meant w b (n * recordWords w)) (slotAt b k)) (word (recordAt w b (rulesIn b) k))
+  pub meant-here : (k : ℕ) → k < rulesIn b → SameRecord w (slotWords w (meant w b (n * recordWords w)) (entrySlot b k)) (word (recordAt w b (rulesIn b) k))
   unfolding meant
   meant-here k h = filled-here w b (rulesIn b) (replicate (n * recordWords w) 0) inside-zeros (slots-rise s) (rulesIn b) k (omega arith) h
 
   -- a slot of no rule is empty
-  pub meant-other : (slot : ℕ) → ((k : ℕ) → k < rulesIn b → slotAt b k ≢ slot) → (j : ℕ) → j < recordWords w → slotWords w (meant w b (n * recordWords w)) slot j ≡ 0
+  pub meant-other : (slot : ℕ) → ((k : ℕ) → k < rulesIn b → entrySlot b k ≢ slot) → (j : ℕ) → j < recordWords w → slotWords w (meant w b (n * recordWords w)) slot j ≡ 0
   unfolding meant
   meant-other slot d j h =
       filled-other w b (rulesIn b) (replicate (n * recordWords w) 0) inside-zeros (rulesIn b) slot (omega arith) d j h
       ∙ zero-at (n * recordWords w) (slot * recordWords w + j)
 
   -- so the slots that hold a rule are the image's
-  pub meant-holds : (k : ℕ) → k < rulesIn b → holds w (meant w b (n * recordWords w)) (slotAt b k) ≡ true
+  pub meant-holds : (k : ℕ) → k < rulesIn b → holds w (meant w b (n * recordWords w)) (entrySlot b k) ≡ true
   meant-holds k h =
       occupied-cong w (meant-here k h)
       ∙ ident-occupied w (word (recordAt w b (rulesIn b) k)) (sound-law w _ _ _ _ .0 (s .records k h) .0)
 
-  pub meant-rule : (slot : ℕ) → holds w (meant w b (n * recordWords w)) slot ≡ true → (k : ℕ) × (k < rulesIn b) × (slotAt b k ≡ slot)
-  meant-rule slot t = pick (decided (any (λ (k : ℕ). eqb (slotAt b k) slot) (rulesIn b)))
+  pub meant-rule : (slot : ℕ) → holds w (meant w b (n * recordWords w)) slot ≡ true → (k : ℕ) × (k < rulesIn b) × (entrySlot b k ≡ slot)
+  meant-rule slot t = pick (decided (any (λ (k : ℕ). eqb (entrySlot b k) slot) (rulesIn b)))
     where
       named : ℕ → Bool
-      named k = eqb (slotAt b k) slot
+      named k = eqb (entrySlot b k) slot
 
-      pick : (any named (rulesIn b) ≡ true) ⊎ (any named (rulesIn b) ≡ false) → (k : ℕ) × (k < rulesIn b) × (slotAt b k ≡ slot)
+      pick : (any named (rulesIn b) ≡ true) ⊎ (any named (rulesIn b) ≡ false) → (k : ℕ) × (k < rulesIn b) × (entrySlot b k ≡ slot)
       pick (inl f) = let r = any-yes named (rulesIn b) f in (r .0, r .1, eqb-true _ _ (r .2))
       pick (inr f) =
           absurd (true≢false (sym t ∙ ap not (empty-law w (slotWords w (meant w b (n * recordWords w)) slot) .1
           (meant-other slot (λ k h same. true≢false (sym (eq-eqb _ _ same) ∙ any-no named (rulesIn b) f k h))))))
 
-  pub meant-row : indices (holds w (meant w b (n * recordWords w))) n ≡ listed (rulesIn b) (slotAt b)
-  meant-row = indices-row (holds w (meant w b (n * recordWords w))) (slotAt b) (rulesIn b) (slots-rise s) meant-holds meant-rule n (s .below)
+  pub meant-row : indices (holds w (meant w b (n * recordWords w))) n ≡ listed (rulesIn b) (entrySlot b)
+  meant-row = indices-row (holds w (meant w b (n * recordWords w))) (entrySlot b) (rulesIn b) (slots-rise s) meant-holds meant-rule n (s .below)
 
   pub meant-rules : ruleCount w (meant w b (n * recordWords w)) ≡ rulesIn b
   meant-rules =
       ap (λ (m : ℕ). length (indices (holds w (meant w b (n * recordWords w))) m)) meant-slots
-      ∙ (ap length meant-row ∙ length-listed (rulesIn b) (slotAt b))
+      ∙ (ap length meant-row ∙ length-listed (rulesIn b) (entrySlot b))
 
-  pub meant-slot : (k : ℕ) → k < rulesIn b → ruleSlot w (meant w b (n * recordWords w)) k ≡ slotAt b k
+  pub meant-slot : (k : ℕ) → k < rulesIn b → ruleSlot w (meant w b (n * recordWords w)) k ≡ entrySlot b k
   meant-slot k h =
       ap (λ (m : ℕ). getD (indices (holds w (meant w b (n * recordWords w))) m) k 0) meant-slots
-      ∙ (ap (λ (l : List ℕ). getD l k 0) meant-row ∙ word-listed (rulesIn b) (slotAt b) k h)
+      ∙ (ap (λ (l : List ℕ). getD l k 0) meant-row ∙ word-listed (rulesIn b) (entrySlot b) k h)

@@ -1,4 +1,4 @@
--- Sizes of an image and its parts, and how stores rule by rule become the image of a table.
+-- End theorems: sizes of an image and its parts, and how stores rule by rule become the image of a table.
 -- A rule's entry and body go to places of their own, so that the stores of one pass over the slots may be read as two rows.
 use mathlib.Core.Path.{_≡_, refl, sym, ap, _∙_}
 use mathlib.Core.Bool.{true}
@@ -12,14 +12,16 @@ use Rattle.records.specs.Record.{slotWords, ident, action, rank}
 use Rattle.records.specs.Order.{slots}
 use Rattle.records.specs.Checks.{orElse, checkShape, checkRecords, checkTwice, checkOrder, slotChecks, tableChecks}
 use Rattle.records.specs.Laws.{or-else-pass}
-use Rattle.records.specs.Entries.{shaped-slots}
 use Rattle.records.specs.declared.Check.the-variants.{Pass}
+use Rattle.records.specs.EntriesLaws.{shaped-slots}
 use Rattle.buffers.specs.Buffers.{bufferAnswer}
 use Rattle.image.specs.Answers.{saveAnswer}
 use Rattle.image.specs.Bytes.{bytesOf, store, pieces}
-use Rattle.image.specs.ByteLaws.{length-bytes, pieces-length, store-none, store-length, store-next, store-then, store-swap}
-use Rattle.image.specs.Indices.{indices, index, count-high, index-at}
-use Rattle.image.specs.Format.{bodyBytes, imageBytes, entryPlace, bodyPlace, entryOf, bodyOf, holds, ruleCount, ruleSlot, entryBytes, ruleBytes, imageOf}
+use Rattle.image.specs.Indices.{indices, index}
+use Rattle.image.specs.Format.{bodyBytes, imageBytes, entryPlace, bodyPlace, entryOf, bodyOf, holds, ruleCount, ruleSlot, entryBytes, ruleBytes}
+use Rattle.image.specs.Format.{imageOf}
+use Rattle.image.specs.BytesLaws.{length-bytes, pieces-length, store-none, store-length, store-next, store-then, store-swap}
+use Rattle.image.specs.IndicesLaws.{count-high, index-at}
 
 pub entry-length : (id slot body : ℕ) → length (entryOf id slot body) ≡ 10
 unfolding entryOf

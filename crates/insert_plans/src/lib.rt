@@ -1,5 +1,7 @@
 // Planning an insert: costs in both directions, the choice between them, and the words of its chain.
 // The table is never changed, and a call that declines leaves the plan buffer as it was.
+use buffers::PlanAnswer;
+use buffers::PlanInfo;
 use costs::fill_costs;
 use neighbours::checks::after_a;
 use neighbours::checks::check_insert;
@@ -8,8 +10,6 @@ use planner::PositionChoice;
 use planner::SlotRange;
 use planner::choose;
 use planner::write_plan;
-use buffers::PlanAnswer;
-use buffers::PlanInfo;
 use records::Cause;
 use records::Check;
 use records::Rule;
@@ -19,15 +19,15 @@ ghost use mathlib.Core.Path.{_≡_};
 ghost use mathlib.Core.Bool.{true, false, cond};
 ghost use Prim.Native.Nat.{_+_, _-_, _≤_, _<_, _/_};
 ghost use lib.ListN.{length};
-ghost use Rattle.costs.specs.Costs.{costOf};
-ghost use Rattle.planner.specs.Emit.{Stays};
-ghost use Rattle.planner.specs.Choice.{choiceOf, choiceWords};
 ghost use Rattle.records.specs.Record.{slotWords};
 ghost use Rattle.records.specs.Checks.{checkRecords};
 ghost use Rattle.records.specs.declared.Check.the-variants.{Pass};
-ghost use Rattle.insert_plans.specs.Joined.{Costed};
 ghost use Rattle.buffers.specs.Buffers.{planTold, bufferAnswer, bufferAfter};
+ghost use Rattle.costs.specs.Costs.{costOf};
+ghost use Rattle.planner.specs.Emit.{Stays};
+ghost use Rattle.planner.specs.Choice.{choiceOf, choiceWords};
 ghost use Rattle.neighbours.specs.Neighbours.{afterA, slotB, insertChecks};
+ghost use Rattle.insert_plans.specs.Joined.{Costed};
 ghost use Rattle.insert_plans.specs.Insertable.{Insertable};
 ghost use Rattle.insert_plans.specs.Demand3.{Demand3};
 ghost use Rattle.insert_plans.specs.Inserts.{insertWords, insertAnswer, insertPlan};

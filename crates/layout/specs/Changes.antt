@@ -1,4 +1,4 @@
--- What a plan does to replies: each key keeps its old reply until the last write, and then has that of the changed set of rules.
+-- End theorems: what a plan does to replies: each key keeps its old reply until the last write, and then has that of the changed set of rules.
 -- A delete is one emptying write.
 use mathlib.Core.Path.{_≡_}
 use mathlib.Core.Bool.{Bool, false}
@@ -6,10 +6,13 @@ use mathlib.Core.Logic.{_↔_, _⊎_}
 use mathlib.Core.List.{List}
 use Prim.Native.Nat.{ℕ, _<_}
 use lib.ListN.{length, getD}
-use Rattle.layout.specs.Order.{Laws, InOrder, in-order-emptied}
-use Rattle.layout.specs.Held.{Held, Unique, Coherent, emptied, unique-coherent, unique-emptied, held-removed}
-use Rattle.layout.specs.Replies.{Answers, ConflictOrAlike, reply, reply-answers, answers-equal, equal-replies}
+use Rattle.layout.specs.Order.{Laws, InOrder}
+use Rattle.layout.specs.Held.{Held, Unique, Coherent, emptied}
+use Rattle.layout.specs.Replies.{Answers, ConflictOrAlike, reply}
 use Rattle.layout.specs.Valid.{Between, Placed}
+use Rattle.layout.specs.OrderLaws.{in-order-emptied}
+use Rattle.layout.specs.HeldLaws.{unique-coherent, unique-emptied, held-removed}
+use Rattle.layout.specs.RepliesLaws.{reply-answers, answers-equal, equal-replies}
 
 module _
     {S O : Type 0} {empty : S} {occupied : S → Bool} {same misordered : S → S → Bool} (laws : Laws empty occupied same misordered)

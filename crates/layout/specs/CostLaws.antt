@@ -1,172 +1,124 @@
--- Down and up costs by slot number, each as document 01 words it, and the walks that they give.
--- Costs of N or more are infinite: a finite cost is below N, and it is finite exactly where there is a chain.
-use mathlib.Core.Path.{_≡_, refl, sym, ap, _∙_, subst}
+-- End theorems on the definitions of Cost: the cost of a slot: how many moves empty it, each entry moving within its window. Document 01, "How a plan is found".
+use mathlib.Core.Path.{_≡_, sym, ap, _∙_}
 use mathlib.Core.Bool.{Bool, true, false, cond, true≢false}
-use mathlib.Core.Logic.{_↔_, _⊎_}
+use mathlib.Core.Logic.{_↔_, _⊎_, ⊎-elim}
 use mathlib.Core.Logic._⊎_.{inl, inr}
-use mathlib.Core.List.{List, reverse}
-use Prim.Native.Nat.{ℕ, zero, suc, _+_, _-_, _≤_, _<_, pred}
+use mathlib.Core.List.{List, [], _∷_}
+use Prim.Native.Nat.{ℕ, zero, suc, _+_, _-_, _≤_, _<_}
 use native.Mathlib.Omega.{arith}
-use native.Mathlib.Decide.{decLt, decLe}
-use lib.ListN.{length, getD, length-reverse}
-use Rattle.search.specs.Search.{afterLast, AfterLast, after-last-law, decided}
-use Rattle.layout.specs.Order.{Higher, Lower, swapped}
-use Rattle.layout.specs.Minimum.{minimum, Minimum, minimum-law, minimum-unique, minimum-cong}
-use Rattle.layout.specs.Cost.{InWindow, Costs, WindowOrPast, costs-law, window-or-past, windowEnd, window-end-high, cost-at}
-use Rattle.layout.specs.Mirror.{mirror, mirror-twice, costs-mirrored, past-mirrored}
-use Rattle.layout.specs.Chain.{Chain, Walk, chain-cost, chain-below, walk-chain, walk-length, walk-below, walk-mirrored, steps-walk}
-use Rattle.layout.specs.Plan.{windowStart, downCost, upCost, downChain, upChain}
+use native.Mathlib.Decide.{decLt}
+use lib.ListN.{length, getD}
+use Rattle.search.specs.Search.{least, Least}
+use Rattle.search.specs.SearchLaws.{least-law, least-shift, decided}
+use Rattle.layout.specs.Order.{Higher}
+use Rattle.layout.specs.Minimum.{minimum}
+use Rattle.layout.specs.Cost.{InWindow, Costs, WindowOrPast, windowEnd, nextSlot, slotCost, costs}
+use Rattle.layout.specs.MinimumLaws.{Minimum, minimum-law, minimum-shift, lowest-law}
 
--- where the window is a stretch of slots, a cost is 0 or 1 + the least over it
-cost-stretch :
-    {S : Type 0} {empty : S} {occupied : S → Bool} {toward : ℕ → ℕ → Type 0} {misplaced : S → S → Bool} {t : List S} {top : ℕ} {c : ℕ → ℕ}
-    → Costs empty occupied toward misplaced t top c → (i : ℕ) → i < length t → (lo hi : ℕ) → lo ≤ hi
-    → ((j : ℕ) → InWindow empty toward misplaced t i j ↔ ((lo ≤ j) × (j < hi)))
-    → c i ≡ cond (occupied (getD t i empty)) (suc (minimum c top (hi - lo) lo)) 0
-cost-stretch {empty = empty} {occupied} {t = t} {top = top} {c = c} law i b lo hi l f = pick (decided (occupied (getD t i empty)))
-  where
-    whole : lo + (hi - lo) ≡ hi
-    whole = omega arith
-
-    positive : occupied (getD t i empty) ≡ true → Dec (c i ≤ top) → c i ≡ suc (pred (c i))
-    positive o (yes h) = let r = law .next i b o h in omega (arith, r .2)
-    positive o (no h) = omega arith
-
-    least-of : occupied (getD t i empty) ≡ true → Minimum c top lo hi (pred (c i))
-    least-of o = record {
-      low = λ j a r. omega (arith, law .within i j b o (f j .1 (a, r)));
-      high = omega (arith, law .bounded i b);
-      hit = λ h.
-          let r = law .next i b o (omega (arith, positive o (decLe (c i) top))) in
-          let w = f (r .0) .0 (r .1) in
-          (r .0, w .0, w .1, omega (arith, r .2));
-    }
-
-    pick : (occupied (getD t i empty) ≡ true) ⊎ (occupied (getD t i empty) ≡ false) → c i ≡ cond (occupied (getD t i empty)) (suc (minimum c top (hi - lo) lo)) 0
-    pick (inl o) =
-        rw o (positive o (decLe (c i) top) ∙ ap suc (minimum-unique (least-of o) (rw whole at (minimum-law c top (hi - lo) lo))))
-    pick (inr o) = rw o (law .vacant i b o)
-
-module _ {S : Type 0} (empty : S) (misordered : S → S → Bool) (t : List S) where
-  module _ (i : ℕ) (b : i < length t) where
-    -- the window of slot i going up: the slots from there up to i − 1
-    pub window-start : (j : ℕ) → InWindow empty Lower (swapped misordered) t i j ↔ ((windowStart empty misordered t i ≤ j) × (j < i))
-    unfolding windowStart
-    window-start j = (forth, λ h. record { inside = omega (arith, h .1); after = h .1; between = λ y a u v. law .after y (omega (arith, h .0)) u })
-      where
-        test : ℕ → Bool
-        test y = misordered (getD t i empty) (getD t y empty)
-
-        past : ℕ
-        past = afterLast test i
-
-        law : AfterLast test i past
-        law = after-last-law test i
-
-        forth : InWindow empty Lower (swapped misordered) t i j → (windowStart empty misordered t i ≤ j) × (j < i)
-        forth w = pick (decLt j (pred past))
-          where
-            pick : Dec (j < pred past) → (windowStart empty misordered t i ≤ j) × (j < i)
-            pick (yes h) =
-                absurd (true≢false (sym (law .hit (pred past) (omega arith)) ∙ w .between (pred past) (omega (arith, law .high)) (omega (arith, law .high)) h))
-            pick (no h) = (omega arith, w .after)
-
-    pub window-start-high : windowStart empty misordered t i ≤ i
-    unfolding windowStart
-    window-start-high = omega (arith, after-last-law (λ y. misordered (getD t i empty) (getD t y empty)) i .high)
-
-  pub down-past : WindowOrPast empty Higher misordered t
-  down-past = window-or-past empty misordered t
-
-  pub up-past : WindowOrPast empty Lower (swapped misordered) t
-  up-past = past-mirrored empty t (swapped misordered) (window-or-past empty (swapped misordered) (reverse t))
-
-module _ {S : Type 0} (empty : S) (occupied : S → Bool) (misordered : S → S → Bool) (t : List S) where
-  pub down-costs : Costs empty occupied Higher misordered t (length t) (downCost empty occupied misordered t)
-  unfolding downCost
-  down-costs = costs-law empty occupied misordered (length t) t
-
-  pub up-costs : Costs empty occupied Lower (swapped misordered) t (length t) (upCost empty occupied misordered t)
-  unfolding upCost
-  up-costs = costs-mirrored empty t (swapped misordered) occupied (length t) _ (costs-law empty occupied (swapped misordered) (length t) (reverse t))
-
-  -- the chains that the definitions walk are the tie rule's
-  pub down-walk : (s : ℕ) → s < length t → downCost empty occupied misordered t s ≤ length t
-      → Walk empty occupied Higher misordered t (downCost empty occupied misordered t) s (downChain empty occupied misordered t s)
-  unfolding downCost downChain
-  down-walk s b h = steps-walk empty occupied misordered (length t) t _ s b refl h
-
-  pub up-walk : (s : ℕ) → s < length t → upCost empty occupied misordered t s ≤ length t
-      → Walk empty occupied Lower (swapped misordered) t (upCost empty occupied misordered t) s (upChain empty occupied misordered t s)
-  unfolding upCost upChain
-  up-walk s b h =
-      subst (λ (z : ℕ). Walk empty occupied Lower (swapped misordered) t (upCost empty occupied misordered t) z (upChain empty occupied misordered t s))
-      (mirror-twice (length t) s b)
-      (walk-mirrored (steps-walk empty occupied (swapped misordered) (length t) (reverse t) _ (mirror (length t) s) (omega (arith, length-reverse t)) refl h))
-
-  -- a finite cost is attained by that chain, and no chain is shorter
-  pub down-attained : (s : ℕ) → s < length t → downCost empty occupied misordered t s < length t
-      → Chain empty occupied Higher misordered t s (downChain empty occupied misordered t s)
-      × (length (downChain empty occupied misordered t s) ≡ downCost empty occupied misordered t s)
-  down-attained s b h = let w = down-walk s b (omega arith) in (walk-chain down-costs w, walk-length down-costs w)
-
-  pub up-attained : (s : ℕ) → s < length t → upCost empty occupied misordered t s < length t
-      → Chain empty occupied Lower (swapped misordered) t s (upChain empty occupied misordered t s)
-      × (length (upChain empty occupied misordered t s) ≡ upCost empty occupied misordered t s)
-  up-attained s b h = let w = up-walk s b (omega arith) in (walk-chain up-costs w, walk-length up-costs w)
-
-  pub down-shortest : {s : ℕ} {rest : List ℕ} → Chain empty occupied Higher misordered t s rest → downCost empty occupied misordered t s ≤ length rest
-  down-shortest = chain-cost down-costs
-
-  pub up-shortest : {s : ℕ} {rest : List ℕ} → Chain empty occupied Lower (swapped misordered) t s rest → upCost empty occupied misordered t s ≤ length rest
-  up-shortest = chain-cost up-costs
-
-  -- a cost that is not above N is below it, and leaves room for the slots on the other side
-  pub down-below : (s : ℕ) → s < length t → downCost empty occupied misordered t s ≤ length t → downCost empty occupied misordered t s + s < length t
-  down-below s b h = walk-below down-costs (λ i. i) (λ i l. l) (λ i j l r u. u) (down-walk s b h)
-
-  pub up-below : (s : ℕ) → s < length t → upCost empty occupied misordered t s ≤ length t → upCost empty occupied misordered t s ≤ s
-  up-below s b h = omega (arith, walk-below up-costs (mirror (length t)) (λ i l. omega arith) (λ i j l r u. omega arith) (up-walk s b h))
-
-  -- a cost is finite, below N, exactly where there is a chain
-  pub down-finite : (s : ℕ) → s < length t
-      → (downCost empty occupied misordered t s < length t) ↔ ((rest : List ℕ) × Chain empty occupied Higher misordered t s rest)
-  down-finite s b = (
-    λ h. (downChain empty occupied misordered t s, down-attained s b h .0),
-    λ w. chain-below down-costs (λ i. i) (λ i l. l) (λ i j l r u. u) (w .1),
-  )
-
-  pub up-finite : (s : ℕ) → s < length t
-      → (upCost empty occupied misordered t s < length t) ↔ ((rest : List ℕ) × Chain empty occupied Lower (swapped misordered) t s rest)
-  up-finite s b = (
-    λ h. (upChain empty occupied misordered t s, up-attained s b h .0),
-    λ w. chain-below up-costs (mirror (length t)) (λ i l. omega arith) (λ i j l r u. omega arith) (w .1),
-  )
-
-  -- "0 if empty, else 1 + the least down cost of the slots after it, up to and including the nearest dependant of its rule, or up to N − 1"
-  pub down-cost-at : (i : ℕ) → i < length t
-      → downCost empty occupied misordered t i
-      ≡ cond (occupied (getD t i empty))
-      (suc (minimum (downCost empty occupied misordered t) (length t) (windowEnd empty misordered t i - suc i) (suc i))) 0
-  unfolding downCost
-  down-cost-at i b = cost-at empty occupied misordered (length t) t i b
-
-  -- "the mirror: slots before it, back to and including the nearest rule that precedes it, or to 0"
-  pub up-cost-at : (i : ℕ) → i < length t
-      → upCost empty occupied misordered t i
-      ≡ cond (occupied (getD t i empty))
-      (suc (minimum (upCost empty occupied misordered t) (length t) (i - windowStart empty misordered t i) (windowStart empty misordered t i))) 0
-  up-cost-at i b = cost-stretch up-costs i b (windowStart empty misordered t i) i (window-start-high empty misordered t i b) (window-start empty misordered t i b)
-
-  -- these equations settle the costs, so that numbers computed by them from the ends of the windows are the costs
-  pub down-cost-only : (c : ℕ → ℕ)
-      → ((i : ℕ) → i < length t → c i ≡ cond (occupied (getD t i empty)) (suc (minimum c (length t) (windowEnd empty misordered t i - suc i) (suc i))) 0)
-      → (i : ℕ) → i < length t → c i ≡ downCost empty occupied misordered t i
-  down-cost-only c f i b = from (length t) i b (omega arith)
+module _ {S : Type 0} (empty : S) (misplaced : S → S → Bool) where
+  -- the slots from i + 1 up to there are those of the window
+  pub window-end : (t : List S) (i j : ℕ) → InWindow empty Higher misplaced t i j ↔ ((i < j) × (j < windowEnd empty misplaced t i))
+  unfolding windowEnd
+  window-end t i j = (forth, λ h. record { inside = omega (arith, h .1); after = h .0; between = λ y a u v. law .before y u (omega (arith, h .1)) })
     where
-      from : (n i : ℕ) → i < length t → length t ≤ n + i → c i ≡ downCost empty occupied misordered t i
-      from zero i b h = absurd (omega arith)
-      from (suc n) i b h =
-          let e = minimum-cong (length t) (windowEnd empty misordered t i - suc i) (suc i)
-          (λ j l r. from n j (omega (arith, window-end-high empty misordered t i)) (omega arith)) in
-          f i b ∙ (ap (λ (m : ℕ). cond (occupied (getD t i empty)) (suc m) 0) e ∙ sym (down-cost-at i b))
+      test : ℕ → Bool
+      test y = misplaced (getD t y empty) (getD t i empty)
+
+      nearest : ℕ
+      nearest = least test (length t - suc i) (suc i)
+
+      law : Least test (suc i) (suc i + (length t - suc i)) nearest
+      law = least-law test (length t - suc i) (suc i)
+
+      forth : InWindow empty Higher misplaced t i j → (i < j) × (j < windowEnd empty misplaced t i)
+      forth w = pick (decLt nearest j)
+        where
+          pick : Dec (nearest < j) → (i < j) × (j < windowEnd empty misplaced t i)
+          pick (yes h) = absurd (true≢false (sym (law .hit (omega (arith, w .inside))) ∙ w .between nearest (omega (arith, w .inside)) (law .low) h))
+          pick (no h) = (w .after, omega (arith, w .inside))
+
+  pub window-end-low : (t : List S) (i : ℕ) → i < length t → i < windowEnd empty misplaced t i
+  unfolding windowEnd
+  window-end-low t i b = omega (arith, least-law (λ y. misplaced (getD t y empty) (getD t i empty)) (length t - suc i) (suc i) .low)
+
+  pub window-end-high : (t : List S) (i : ℕ) → windowEnd empty misplaced t i ≤ length t
+  unfolding windowEnd
+  window-end-high t i = omega arith
+
+  -- slots may be counted from one further on
+  window-shift : (e : S) (rest : List S) (i : ℕ) → windowEnd empty misplaced (e ∷ rest) (suc i) ≡ suc (windowEnd empty misplaced rest i)
+  unfolding windowEnd
+  window-shift e rest i =
+      let n : suc (length rest) - suc (suc i) ≡ length rest - suc i = omega arith in
+      rw (n, least-shift (λ y. misplaced (getD (e ∷ rest) y empty) (getD rest i empty)) (length rest - suc i) (suc i)) (omega arith)
+
+module _ {S : Type 0} (empty : S) (occupied : S → Bool) (misplaced : S → S → Bool) where
+  -- the same by slot number
+  pub cost-at : (top : ℕ) (t : List S) (i : ℕ) → i < length t
+      → slotCost empty occupied misplaced top t i ≡ cond (occupied (getD t i empty)) (suc (minimum (slotCost empty occupied misplaced top t) top (windowEnd empty misplaced t i - suc i) (suc i))) 0
+  unfolding costs
+  cost-at top [] i h = absurd (omega arith)
+  cost-at top (e ∷ rest) zero h = rw minimum-shift
+  cost-at top (e ∷ rest) (suc i) h =
+      let w = windowEnd empty misplaced rest i in
+      let n : suc w - suc (suc i) ≡ w - suc i = omega arith in
+      rw (window-shift empty misplaced e rest i, n, minimum-shift (slotCost empty occupied misplaced top (e ∷ rest)) top (w - suc i) (suc i)) (cost-at top rest i (omega arith))
+
+pub window-or-past : {S : Type 0} (empty : S) (misplaced : S → S → Bool) (t : List S) → WindowOrPast empty Higher misplaced t
+window-or-past empty misplaced t i j a b l = pick (decLt place j)
+  where
+    test : ℕ → Bool
+    test y = misplaced (getD t y empty) (getD t i empty)
+
+    place : ℕ
+    place = least test (j - suc i) (suc i)
+
+    nearest : Least test (suc i) (suc i + (j - suc i)) place
+    nearest = least-law test (j - suc i) (suc i)
+
+    pick : Dec (place < j)
+        → InWindow empty Higher misplaced t i j ⊎ ((y : ℕ) × InWindow empty Higher misplaced t i y × (y < j) × (test y ≡ true))
+    pick (yes h) =
+        inr (place, record { inside = omega arith; after = nearest .low; between = λ y a u v. nearest .before y u v }, h, nearest .hit (omega arith))
+    pick (no h) = inl (record { inside = b; after = l; between = λ y a u v. nearest .before y u (omega arith) })
+
+module _ {S : Type 0} (empty : S) (occupied : S → Bool) (misplaced : S → S → Bool) (top : ℕ) (t : List S) where
+  -- the least cost in the window of slot s
+  abbrev least-after : ℕ → ℕ
+  least-after s = minimum (slotCost empty occupied misplaced top t) top (windowEnd empty misplaced t s - suc s) (suc s)
+
+  least-after-law : (s : ℕ) → s < length t → Minimum (slotCost empty occupied misplaced top t) top (suc s) (windowEnd empty misplaced t s) (least-after s)
+  least-after-law s b =
+      let whole : suc s + (windowEnd empty misplaced t s - suc s) ≡ windowEnd empty misplaced t s = omega (arith, window-end-low empty misplaced t s b) in
+      rw whole at (minimum-law (slotCost empty occupied misplaced top t) top (windowEnd empty misplaced t s - suc s) (suc s))
+
+  cost-vacant : (s : ℕ) → s < length t → occupied (getD t s empty) ≡ false → slotCost empty occupied misplaced top t s ≡ 0
+  cost-vacant s b o = cost-at empty occupied misplaced top t s b ∙ ap (λ (x : Bool). cond x (suc (least-after s)) 0) o
+
+  cost-occupied : (s : ℕ) → s < length t → occupied (getD t s empty) ≡ true → slotCost empty occupied misplaced top t s ≡ suc (least-after s)
+  cost-occupied s b o = cost-at empty occupied misplaced top t s b ∙ ap (λ (x : Bool). cond x (suc (least-after s)) 0) o
+
+  pub next-law : (s : ℕ) → s < length t → occupied (getD t s empty) ≡ true → slotCost empty occupied misplaced top t s ≤ top
+      → InWindow empty Higher misplaced t s (nextSlot empty occupied misplaced top t s)
+      × (slotCost empty occupied misplaced top t s ≡ suc (slotCost empty occupied misplaced top t (nextSlot empty occupied misplaced top t s)))
+      × ((y : ℕ) → y < length t → s < y → y < nextSlot empty occupied misplaced top t s → slotCost empty occupied misplaced top t (nextSlot empty occupied misplaced top t s) < slotCost empty occupied misplaced top t y)
+  unfolding nextSlot
+  next-law s b o h =
+      let e = cost-occupied s b o in
+      let r = lowest-law (slotCost empty occupied misplaced top t) top (windowEnd empty misplaced t s - suc s) (suc s) (omega arith) in (
+        window-end empty misplaced t s (nextSlot empty occupied misplaced top t s) .1 (r .from, omega (arith, r .below, r .from)),
+        e ∙ ap suc (sym (r .value)),
+        λ y a l u. omega (arith, r .tie y l (omega (arith, r .below)) u, r .value),
+      )
+
+  pub costs-law : Costs empty occupied Higher misplaced t top (slotCost empty occupied misplaced top t)
+  costs-law = record {
+    vacant = cost-vacant;
+    within = λ i j b o w.
+        let v = window-end empty misplaced t i j .0 w in
+        omega (arith, cost-occupied i b o, least-after-law i b .low j (v .0) (v .1));
+    bounded = λ i b. ⊎-elim
+        (λ o. omega (arith, cost-occupied i b o, least-after-law i b .high))
+        (λ o. omega (arith, cost-vacant i b o)) (decided (occupied (getD t i empty)));
+    next = λ i b o h. let r = next-law i b o h in (nextSlot empty occupied misplaced top t i, r .0, r .1, r .2);
+  }

@@ -1,4 +1,4 @@
--- Small layouts, evaluated: the definitions compute, and give document 01's plans.
+-- Worked examples: small layouts, evaluated: the definitions compute, and give document 01's plans.
 -- The last two show what is not claimed: mixed directions may do with fewer writes, and a crossed rule may have a sequence in the class.
 use mathlib.Core.Path.{_≡_, refl, sym, ap, _∙_}
 use mathlib.Core.Bool.{Bool, true, false, not, _&&_, _||_, and-false}
@@ -8,17 +8,23 @@ use native.Mathlib.Omega.{arith}
 use lib.Dec.{eqb, ltb}
 use lib.ListN.{getD}
 use borrow.Author.Tests.{eqb-true, eq-eqb, not-true}
-use Rattle.search.specs.Search.{all, all-law, any, least, afterLast, and-both, and-left, and-right}
-use Rattle.layout.specs.Order.{Laws, inOrder, in-order-law}
-use Rattle.layout.specs.Held.{free, unique-earlier}
+use Rattle.search.specs.Search.{all, any, least, afterLast}
+use Rattle.search.specs.SearchLaws.{all-law, and-both, and-left, and-right}
+use Rattle.layout.specs.Order.{Laws, inOrder}
+use Rattle.layout.specs.Held.{free}
 use Rattle.layout.specs.Minimum.{minimum, lowest, highest}
 use Rattle.layout.specs.Cost.{windowEnd, costs, nextSlot}
 use Rattle.layout.specs.Chain.{steps}
 use Rattle.layout.specs.Write.{Write, copy, put, moves}
 use Rattle.layout.specs.Class.{Sequence}
-use Rattle.layout.specs.ClassTest.{copyFits, lastFits, sequence, tested-sequence}
-use Rattle.layout.specs.Plan.{downCost, upCost, downChain, upChain, bestDown, bestUp, slotDown, slotUp, choose, afterPreceding, firstDependant, insertChoice, writes}
-use Rattle.layout.specs.Insert.{LeastPlan, insert-plan}
+use Rattle.layout.specs.ClassTest.{copyFits, lastFits, sequence}
+use Rattle.layout.specs.Plan.{downCost, upCost, downChain, upChain, bestDown, bestUp, slotDown, slotUp, choose, afterPreceding, firstDependant}
+use Rattle.layout.specs.Plan.{insertChoice, writes}
+use Rattle.layout.specs.Insert.{LeastPlan}
+use Rattle.layout.specs.OrderLaws.{in-order-law}
+use Rattle.layout.specs.HeldLaws.{unique-earlier}
+use Rattle.layout.specs.ClassTestLaws.{tested-sequence}
+use Rattle.layout.specs.InsertLaws.{insert-plan}
 
 -- Entries are numbers, 0 for an empty slot. A list of pairs says which rule depends on which.
 pub record Pair : Type 0 where
@@ -34,12 +40,12 @@ occupied e = not (eqb e 0)
 abbrev same : ℕ → ℕ → Bool
 same a b = occupied a && eqb a b
 
-unfoldable pub listed : List Pair → ℕ → ℕ → Bool
-listed [] a b = false
-listed (p ∷ ps) a b = (eqb a (p .dependant) && eqb b (p .preceding)) || listed ps a b
+unfoldable pub listedSlots : List Pair → ℕ → ℕ → Bool
+listedSlots [] a b = false
+listedSlots (p ∷ ps) a b = (eqb a (p .dependant) && eqb b (p .preceding)) || listedSlots ps a b
 
 abbrev misordered : List Pair → ℕ → ℕ → Bool
-misordered ps a b = (occupied a && occupied b) && (not (eqb a b) && listed ps a b)
+misordered ps a b = (occupied a && occupied b) && (not (eqb a b) && listedSlots ps a b)
 
 same-equal : (a b : ℕ) → same a b ≡ true → a ≡ b
 same-equal a b s = eqb-true a b (and-right (occupied a) (eqb a b) s)
@@ -57,7 +63,7 @@ laws ps = record {
 }
 
 plan : List Pair → List ℕ → ℕ → List Write
-unfolding all any least afterLast minimum lowest highest windowEnd costs nextSlot steps moves downCost upCost downChain upChain bestDown bestUp slotDown slotUp choose afterPreceding firstDependant insertChoice listed
+unfolding all any least afterLast minimum lowest highest windowEnd costs nextSlot steps moves downCost upCost downChain upChain bestDown bestUp slotDown slotUp choose afterPreceding firstDependant insertChoice listedSlots
 plan ps t new = writes (insertChoice 0 occupied (misordered ps) t new)
 
 -- one empty slot: one write, to 0

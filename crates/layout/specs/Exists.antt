@@ -1,4 +1,4 @@
--- Existence: with an empty slot and A < B the choice is finite, so the plan has at most N writes.
+-- End theorems: existence: with an empty slot and A < B the choice is finite, so the plan has at most N writes.
 -- An empty slot after A serves a down plan, one at or before A an up plan.
 use mathlib.Core.Path.{_≡_, sym, _∙_, subst}
 use mathlib.Core.Bool.{Bool, true, false, true≢false}
@@ -9,12 +9,13 @@ use native.Mathlib.Nat.{zero-add, add-zero, sub-zero}
 use native.Mathlib.Omega.{arith}
 use native.Mathlib.Decide.{decLe}
 use lib.ListN.{length, getD}
-use Rattle.search.specs.Search.{Least, least-law, AfterLast, after-last-law, and-both, decided}
+use Rattle.search.specs.Search.{Least, AfterLast}
+use Rattle.search.specs.SearchLaws.{least-law, after-last-law, and-both, decided}
 use Rattle.layout.specs.Order.{ties}
 use Rattle.layout.specs.Cost.{InWindow, Costs}
 use Rattle.layout.specs.Plan.{downCost, upCost, bestDown, bestUp, afterPreceding, firstDependant, rangeDown, rangeUp, Uncrossed, insertChoice}
-use Rattle.layout.specs.CostLaws.{down-costs, up-costs}
-use Rattle.layout.specs.Choose.{best-down, best-up, choose-least}
+use Rattle.layout.specs.ChooseLaws.{best-down, best-up, choose-least}
+use Rattle.layout.specs.PlanCostLaws.{down-costs, up-costs}
 
 -- Slots at 0, 1, 2, .. steps from an empty one, each in the window of the next, cost no more than their steps.
 near :

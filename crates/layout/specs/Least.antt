@@ -1,4 +1,4 @@
--- The lower bound: no sequence of the comparison class has fewer writes than the cost of the new rule's slot plus 1.
+-- End theorems: the lower bound: no sequence of the comparison class has fewer writes than the cost of the new rule's slot plus 1.
 -- Nothing is asked of the first layout but that its ids are unique: neither its order nor what its entries are.
 use mathlib.Core.Path.{_≡_, refl, sym, ap, _∙_, subst}
 use mathlib.Core.Bool.{Bool, true, false, true≢false}
@@ -10,13 +10,15 @@ use native.Mathlib.Omega.{arith}
 use native.Mathlib.Decide.{ℕ-discrete, decLe}
 use lib.ListN.{length, getD, set, length-set}
 use lib.Seq.{getD-set-other}
-use Rattle.search.specs.Search.{decided}
-use Rattle.layout.specs.Written.{entry-written}
-use Rattle.layout.specs.Order.{Laws, InOrder, Direction, distinct, in-order-shows}
-use Rattle.layout.specs.Held.{Held, Unique, Coherent, Free, copied, unique-coherent, coherent-copied, held-outside, held-copied}
+use Rattle.search.specs.SearchLaws.{decided}
+use Rattle.layout.specs.Order.{Laws, InOrder, Direction}
+use Rattle.layout.specs.Held.{Held, Unique, Coherent, Free, copied}
 use Rattle.layout.specs.Cost.{InWindow, Costs, WindowOrPast}
 use Rattle.layout.specs.Write.{Write}
 use Rattle.layout.specs.Class.{Sequence}
+use Rattle.layout.specs.WrittenLaws.{entry-written}
+use Rattle.layout.specs.OrderLaws.{distinct, in-order-shows}
+use Rattle.layout.specs.HeldLaws.{unique-coherent, coherent-copied, held-outside, held-copied}
 
 module _
     {S : Type 0} {empty : S} {occupied : S → Bool} {same misordered misplaced : S → S → Bool} {toward : ℕ → ℕ → Type 0}

@@ -1,23 +1,35 @@
 -- The mathematics of moving rules, over any entries with tests for "occupied", "same id" and "out of order", and any number of slots.
--- Definitions: Order, Held, Replies, Cost, Chain, Write, Class, Plan. Insert has the theorems on an insert's plan, Changes what it does to replies.
-pub mod Written
+-- Order, Held, Replies, Cost, Chain, Write, Class, Plan: the definitions. InsertLaws: the theorems on an insert's plan. Changes: what it does to replies.
+pub mod WrittenLaws
 pub mod Order
+pub mod OrderLaws
 pub mod Held
+pub mod HeldLaws
 pub mod Replies
+pub mod RepliesLaws
 pub mod Minimum
+pub mod MinimumLaws
 pub mod Cost
 pub mod Mirror
+pub mod MirrorLaws
 pub mod Chain
+pub mod ChainLaws
 pub mod Write
+pub mod WriteLaws
 pub mod Class
 pub mod ClassTest
+pub mod ClassTestLaws
 pub mod Plan
 pub mod Least
 pub mod Valid
+pub mod ValidLaws
 pub mod CostLaws
+pub mod PlanCostLaws
 pub mod Choose
-pub mod InPlace
+pub mod ChooseLaws
+pub mod InPlaceLaws
 pub mod Exists
 pub mod Insert
+pub mod InsertLaws
 pub mod Changes
 pub mod Examples

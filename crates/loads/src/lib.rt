@@ -13,15 +13,15 @@ ghost use Prim.Native.Nat.{ℕ, _/_, _≤_, _<_};
 ghost use lib.ListN.{length, replicate};
 ghost use Rattle.records.specs.Checks.{orElse, checkShape, checkRecords, checkTwice, checkOrder};
 ghost use Rattle.records.specs.declared.Check.the-variants.{Pass};
-ghost use Rattle.image.specs.Format.{imageBytes, slotAt};
-ghost use Rattle.image.specs.Checks.{imageChecks, filled};
+ghost use Rattle.image.specs.Format.{imageBytes, entrySlot};
+ghost use Rattle.image.specs.Checks.{imageChecks, rulesPut};
 ghost use Rattle.image.specs.Answers.{loadTold, loadAnswer, loadTable};
 
 // Puts each rule's record into its slot.
 fn fill(image: &[u8], rules: usize, table: &mut [u64])
     requires { ⌜ (rules ≤ 1024) × (imageBytes 2 rules ≤ length (now image)) ⌝ }
-    requires { ⌜ ((k : ℕ) → k < rules → slotAt (now image) k < length (now table) / 6) ⌝ }
-    ensures { λ _. ⌜ now (table .exit) ≡ filled 2 (now (image .entry)) rules (now (table .entry)) rules ⌝ }
+    requires { ⌜ ((k : ℕ) → k < rules → entrySlot (now image) k < length (now table) / 6) ⌝ }
+    ensures { λ _. ⌜ now (table .exit) ≡ rulesPut 2 (now (image .entry)) rules (now (table .entry)) rules ⌝ }
 {
     let mut entry = 0;
     while entry < rules {

@@ -1,14 +1,11 @@
 -- Lent cells after a call: on a success its data stands in the data cells, on a refusal its spot in the cell for it.
 -- A success leaves the spot and a refusal leaves the data as they were; a miss, a success without data, puts 0 into the data cells.
-use mathlib.Core.Path.{_≡_, ap, _∙_}
 use mathlib.Core.Bool.{cond}
 use Prim.Native.Nat.{ℕ}
 use lib.Dec.{eqb}
 use lib.ListN.{getD}
-use mathlib.Core.List.{List, [], _∷_}
-use Rattle.records.specs.Checks.{Told, causeNumber, success, refusal}
-use Rattle.records.specs.Laws.{cause-not-zero}
-use Rattle.records.specs.declared.Cause.{Cause}
+use mathlib.Core.List.{[], _∷_}
+use Rattle.records.specs.Checks.{Told}
 use Rattle.records.specs.declared.Rule.{Rule}
 
 -- a rule that crosses as seven numbers
@@ -28,31 +25,3 @@ dataCell told k before = cond (eqb (told .number) 0) (getD (told .values) k 0) b
 -- the cell for a refusal's spot
 abbrev pub spotCell : Told → ℕ → ℕ
 spotCell told before = cond (eqb (told .number) 0) before (getD (told .values) 0 0)
-
--- equal answers leave equal cells
-pub success-cells : (values : List ℕ) {told : Told} (slot id action spot : ℕ) → success values ≡ told
-    → (0 ≡ told .number)
-    × ((getD values 0 0 ≡ dataCell told 0 slot)
-    × ((getD values 1 0 ≡ dataCell told 1 id) × ((getD values 2 0 ≡ dataCell told 2 action) × (spot ≡ spotCell told spot))))
-success-cells values slot id action spot e = (
-  ap (λ (t : Told). t .number) e,
-  (
-    ap (λ (t : Told). dataCell t 0 slot) e,
-    (ap (λ (t : Told). dataCell t 1 id) e, (ap (λ (t : Told). dataCell t 2 action) e, ap (λ (t : Told). spotCell t spot) e)),
-  ),
-)
-
--- a refusal leaves the data cells, and puts its spot into the spot cell
-pub refusal-kept : (cause : Cause) (place k before : ℕ) {told : Told} → refusal cause place ≡ told → before ≡ dataCell told k before
-refusal-kept cause place k before e = (rw (cause-not-zero cause)) ∙ ap (λ (t : Told). dataCell t k before) e
-
-pub refusal-put : (cause : Cause) (place spot : ℕ) {told : Told} → refusal cause place ≡ told → place ≡ spotCell told spot
-refusal-put cause place spot e = (rw (cause-not-zero cause)) ∙ ap (λ (t : Told). spotCell t spot) e
-
-pub refusal-cells : (cause : Cause) (place : ℕ) {told : Told} (slot id action spot : ℕ) → refusal cause place ≡ told
-    → (causeNumber cause ≡ told .number)
-    × ((slot ≡ dataCell told 0 slot) × ((id ≡ dataCell told 1 id) × ((action ≡ dataCell told 2 action) × (place ≡ spotCell told spot))))
-refusal-cells cause place slot id action spot e = (
-  ap (λ (t : Told). t .number) e,
-  (refusal-kept cause place 0 slot e, (refusal-kept cause place 1 id e, (refusal-kept cause place 2 action e, refusal-put cause place spot e))),
-)

@@ -1,4 +1,6 @@
 -- Rules and answers as numbers and lent cells.
 -- Cells: of planning calls and lookups. Carried: of a step.
 pub mod Cells
+pub mod CellsLaws
 pub mod Carried
+pub mod CarriedLaws

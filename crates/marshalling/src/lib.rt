@@ -1,13 +1,13 @@
 // What crosses between the C interface and the calls: a rule as seven numbers, a planning call's answer as its number and lent cells.
 // A step takes its progress as two numbers, and its answer crosses as one: the cause's number in the lower half, the spot in the upper.
-use carrying::StepAnswer;
 use buffers::PlanAnswer;
+use carrying::StepAnswer;
 use records::Rule;
 use records::cause_number;
 use steps::step::step;
 ghost use mathlib.Core.Path.{_≡_};
-ghost use Rattle.carrying.specs.Carrying.{stepTable};
 ghost use Rattle.buffers.specs.Buffers.{planTold};
+ghost use Rattle.carrying.specs.Carrying.{stepTable};
 ghost use Rattle.marshalling.specs.Cells.{dataCell, spotCell, ruleFrom};
 ghost use Rattle.marshalling.specs.Carried.{carriedStep};
 

@@ -1,3 +1,3 @@
 -- The neighbours of a new rule, as functions of a table's words: A and B, with checks 5, 6 and 8 to 10.
--- Laws on each, for the proofs of the searches.
 pub mod Neighbours
+pub mod NeighboursLaws

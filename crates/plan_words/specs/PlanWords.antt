@@ -1,10 +1,8 @@
 -- Document 01's write as one plan word of 32 bits, and the write that a word stands for.
 -- A write is that of layouts, so that a plan found there is carried out on words.
 use mathlib.Core.Bool.{cond}
-use mathlib.Core.List.{List}
 use Prim.Native.Nat.{ℕ, _+_, _*_, _/_, _%_, _<_}
 use lib.Dec.{eqb}
-use lib.ListN.{length, getD}
 use Rattle.layout.specs.Write.{Write, copy, put, clear}
 use Rattle.plan_words.specs.declared.PlanWrite.{PlanWrite}
 use Rattle.plan_words.specs.declared.PlanWrite.the-variants.{Copy, PutIn, Clear}
@@ -46,7 +44,3 @@ abbrev pub SlotsBelow : ℕ → Write → Type 0
 SlotsBelow n (copy from to) = (from < n) × (to < n)
 SlotsBelow n (put to) = to < n
 SlotsBelow n (clear to) = to < n
-
--- the slots of every write are below n
-abbrev pub WritesBelow : ℕ → List Write → Type 0
-WritesBelow n xs = (k : ℕ) → k < length xs → SlotsBelow n (getD xs k (clear 0))

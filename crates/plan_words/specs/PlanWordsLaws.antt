@@ -1,17 +1,22 @@
 -- End theorems: no word is lost in its write and no write in its word (word-of-write, write-of-word, word-once).
 -- With them what the code's decoder and encoder are proved by, and the words of lists of writes.
+use mathlib.Core.List.{List, [], _∷_, map}
+use Prim.Native.Nat.{ℕ, _<_, suc, _≤_}
+use lib.ListN.{length, getD}
 use mathlib.Core.Path.{_≡_, refl, sym, ap, ap₂, _∙_}
 use mathlib.Core.Logic.{_≢_}
-use mathlib.Core.List.{List, [], _∷_, map}
-use Prim.Native.Nat.{ℕ, suc, _≤_, _<_}
 use native.Mathlib.Nat.{div-add-mod'}
 use native.Mathlib.Decide.{ℕ-discrete}
 use native.Mathlib.Omega.{arith}
 use lib.Arith.{digits-div, digits-mod}
 use borrow.Author.Tests.{ne-eqb}
 use Rattle.layout.specs.Write.{Write, copy, put, clear}
-use Rattle.plan_words.specs.PlanWords.{putIn, emptying, wordOf, fromOf, toOf, writeWord, writeOf, writeMeant, SlotsBelow, WritesBelow}
 use Rattle.plan_words.specs.declared.PlanWrite.{PlanWrite}
+use Rattle.plan_words.specs.PlanWords.{putIn, emptying, wordOf, fromOf, toOf, writeWord, writeOf, writeMeant, SlotsBelow}
+
+-- the slots of every write are below n
+abbrev pub WritesBelow : ℕ → List Write → Type 0
+WritesBelow n xs = (k : ℕ) → k < length xs → SlotsBelow n (getD xs k (clear 0))
 
 pub slots-below-more : {n m : ℕ} → n ≤ m → (x : Write) → SlotsBelow n x → SlotsBelow m x
 slots-below-more l (copy from to) h = (omega arith, omega arith)

@@ -1,4 +1,4 @@
--- Tables of document 01, evaluated on their costs: the plan's words.
+-- Worked examples: tables of document 01, evaluated on their costs: the plan's words.
 -- Each is checked by computation alone.
 use mathlib.Core.Path.{_≡_, refl}
 use mathlib.Core.Bool.{cond}

@@ -13,9 +13,9 @@ ghost use lib.ListN.{length, drop};
 ghost use Rattle.search.specs.Search.{least};
 ghost use Rattle.layout.specs.Write.{copy};
 ghost use Rattle.plan_words.specs.PlanWords.{writeWord};
+ghost use Rattle.positions.specs.Positions.{slotAt};
 ghost use Rattle.costs.specs.Costs.{costOf};
 ghost use Rattle.planner.specs.Emit.{Walkable, emitted};
-ghost use Rattle.positions.specs.Positions.{slotAt};
 ghost use Rattle.planner.specs.Choice.{bestOf, preferred, choiceOf, choiceWords};
 
 // Slots from the one number up to, not including, the other.
@@ -114,7 +114,13 @@ fn prefer(down: Best, up: Best) -> PositionChoice
 }
 
 // The direction of least cost within the two ranges of slots, and the position from which its chain starts.
-pub fn choose(down: &[u16], up: &[u16], slots: usize, below: SlotRange, above: SlotRange) -> PositionChoice
+pub fn choose(
+    down: &[u16],
+    up: &[u16],
+    slots: usize,
+    below: SlotRange,
+    above: SlotRange,
+) -> PositionChoice
     requires { ⌜ slots ≤ 1024 ⌝ }
     requires { ⌜ slots ≤ length (now down) ⌝ }
     requires { ⌜ slots ≤ length (now up) ⌝ }

@@ -3,17 +3,16 @@
 use mathlib.Core.Path.{_≡_}
 use mathlib.Core.Bool.{Bool, true, false, not, cond, _&&_}
 use mathlib.Core.List.{List, [], _∷_}
-use Prim.Native.Nat.{ℕ, _%_, _<_}
+use Prim.Native.Nat.{ℕ, _%_, _*_, _≤_}
 use lib.Dec.{eqb, ltb, leb}
 use lib.ListN.{length}
-use native.Mathlib.Omega.{arith}
-use borrow.Author.Tests.{lt-ltb, le-ltb}
-use Rattle.search.specs.Search.{any, least, least-at, least-none}
+use Rattle.search.specs.Search.{any, least}
 use Rattle.ternary.specs.Pattern.{Words}
 use Rattle.records.specs.Record.{recordWords, slotWords, occupied, sound, slotMatches}
 use Rattle.records.specs.Order.{slots, sameId, misordered}
 use Rattle.records.specs.declared.Cause.{Cause}
-use Rattle.records.specs.declared.Cause.the-variants.{Shape, Record, Twice, Order, Rule, Known, Unknown, Tie, Full, Crossed, Short, Write, Line, Image}
+use Rattle.records.specs.declared.Cause.the-variants.{Shape, Record, Twice, Order, Rule, Known, Unknown, Tie, Full, Crossed, Short, Write, Line}
+use Rattle.records.specs.declared.Cause.the-variants.{Image}
 use Rattle.records.specs.declared.Check.{Check}
 use Rattle.records.specs.declared.Check.the-variants.{Pass, Fail}
 
@@ -63,15 +62,6 @@ orElse (Fail cause spot) next = Fail cause spot
 unfoldable pub lowest : Cause → (ℕ → Bool) → ℕ → Check
 lowest cause p n = cond (ltb (least p n 0) n) (Fail cause (least p n 0)) Pass
 
--- a loop over the slots ends in one of two ways
-pub lowest-at : (cause : Cause) (p : ℕ → Bool) (n i : ℕ) → i < n → ((j : ℕ) → j < i → p j ≡ false) → p i ≡ true → Fail cause i ≡ lowest cause p n
-unfolding lowest
-lowest-at cause p n i h f t = let e = least-at p n i h f t in rw (e, lt-ltb i n h)
-
-pub lowest-none : (cause : Cause) (p : ℕ → Bool) (n : ℕ) → ((j : ℕ) → j < n → p j ≡ false) → Pass ≡ lowest cause p n
-unfolding lowest
-lowest-none cause p n f = let e = least-none p n f in rw (e, le-ltb n n (omega arith))
-
 -- 1: the table's words are not a record's words × (1 to 1,024)
 unfoldable pub shaped : ℕ → List ℕ → Bool
 shaped w t = eqb (length t % recordWords w) 0 && leb 1 (slots w t) && leb (slots w t) 1024
@@ -114,3 +104,7 @@ matchesAt w t key i = slotMatches w key (slotWords w t i)
 -- the lowest-numbered slot that matches a key; the number of slots where none does
 unfoldable pub firstMatch : ℕ → List ℕ → Words → ℕ
 firstMatch w t key = least (matchesAt w t key) (slots w t) 0
+
+-- check 1: a record's words for each of 1 to 1,024 slots
+abbrev pub Shaped : ℕ → List ℕ → Type 0
+Shaped w t = (n : ℕ) × (1 ≤ n) × (n ≤ 1024) × (length t ≡ n * recordWords w)

@@ -1,4 +1,4 @@
--- What the checks say, in document 01's words: shape, records, ids and order, each exactly, and each spot the lowest.
+-- End theorems: what the checks say, in document 01's words: shape, records, ids and order, each exactly, and each spot the lowest.
 -- These are the sentences a reader goes by; callers cite them and not the text of the definitions.
 use mathlib.Core.Path.{_≡_, refl, sym, ap, _∙_, fun-ext}
 use mathlib.Core.Bool.{Bool, true, false, not, cond, _&&_, false≢true, true≢false}
@@ -13,15 +13,21 @@ use lib.Arith.{digits-div, digits-mod}
 use lib.Dec.{eqb, ltb, leb}
 use lib.ListN.{length, getD}
 use borrow.Author.Tests.{eqb-true, eqb-false, eq-eqb, ne-eqb, leb-true, le-leb, lt-ltb, ltb-true, ltb-false, not-true}
-use Rattle.search.specs.Search.{all, all-law, all-not, least, Least, least-law, any, any-no, any-none, decided, and-law, and-left, and-right, and-both}
-use Rattle.ternary.specs.Pattern.{Words, Overlap, overlaps-law, Matches, matches-law, matches-cong, Within, within, within-law}
-use Rattle.records.specs.Record.{recordWords, slotWords, value, mask, ident, rank, empty, occupied, sound, soundParts, slotMatches, patternMatches}
-use Rattle.records.specs.Order.{slots, overlapping, sameId, distinct, precedes, tied, misordered, Ordered, InOrder}
-use Rattle.records.specs.Checks.{causeNumber, Told, refusal, unless, orElse, lowest, lowest-at, lowest-none, shaped, checkShape, slotChecks, tableChecks, unsoundAt, checkRecords, twiceAt, checkTwice, disorderAt, checkOrder, firstMatch}
+use Rattle.search.specs.Search.{all, least, Least, any}
+use Rattle.search.specs.SearchLaws.{all-law, all-not, least-law, any-no, any-none, decided, and-law, and-left, and-right, and-both}
+use Rattle.ternary.specs.Pattern.{Words, Matches, Within, within}
+use Rattle.ternary.specs.PatternLaws.{overlaps-law, matches-law, matches-cong, within-law}
+use Rattle.records.specs.Record.{recordWords, slotWords, value, mask, ident, rank, empty, occupied, sound, soundParts, slotMatches}
+use Rattle.records.specs.Record.{patternMatches}
+use Rattle.records.specs.Order.{slots, overlapping, sameId, distinct, precedes, tied, misordered, Ordered, InOrder, Overlapping}
+use Rattle.records.specs.Checks.{causeNumber, Told, refusal, unless, orElse, lowest, shaped, checkShape, slotChecks, tableChecks, unsoundAt}
+use Rattle.records.specs.Checks.{checkRecords, twiceAt, checkTwice, disorderAt, checkOrder, firstMatch, Shaped}
 use Rattle.records.specs.declared.Cause.{Cause}
-use Rattle.records.specs.declared.Cause.the-variants.{Shape, Record, Twice, Order, Rule, Known, Unknown, Tie, Full, Crossed, Short, Write, Line, Image}
+use Rattle.records.specs.declared.Cause.the-variants.{Shape, Record, Twice, Order, Rule, Known, Unknown, Tie, Full, Crossed, Short, Write, Line}
+use Rattle.records.specs.declared.Cause.the-variants.{Image}
 use Rattle.records.specs.declared.Check.{Check}
 use Rattle.records.specs.declared.Check.the-variants.{Pass, Fail}
+use Rattle.records.specs.ChecksLaws.{lowest-at, lowest-none}
 
 -- a row of checks, as code returns from it
 pub failed : {x y : Check} {cause : Cause} {spot : ℕ} (next : Check) → x ≡ y → x ≡ Fail cause spot → Fail cause spot ≡ orElse y next
@@ -31,11 +37,11 @@ pub passed : {x y : Check} {answer next : Check} → x ≡ y → x ≡ Pass → 
 passed {next = next} e f h = h ∙ ap (λ (z : Check). orElse z next) (sym f ∙ e)
 
 -- an answer behind a row of checks, as code returns it
-pub refused : {x y : Check} {cause : Cause} {spot : ℕ} (answer : Told) → x ≡ y → x ≡ Fail cause spot → refusal cause spot ≡ unless y answer
-refused answer e f = ap (λ (z : Check). unless z answer) (sym f ∙ e)
+pub told-refused : {x y : Check} {cause : Cause} {spot : ℕ} (answer : Told) → x ≡ y → x ≡ Fail cause spot → refusal cause spot ≡ unless y answer
+told-refused answer e f = ap (λ (z : Check). unless z answer) (sym f ∙ e)
 
-pub answered : {x y : Check} {told answer : Told} → x ≡ y → x ≡ Pass → told ≡ answer → told ≡ unless y answer
-answered {answer = answer} e f h = h ∙ ap (λ (z : Check). unless z answer) (sym f ∙ e)
+pub told-answered : {x y : Check} {told answer : Told} → x ≡ y → x ≡ Pass → told ≡ answer → told ≡ unless y answer
+told-answered {answer = answer} e f h = h ∙ ap (λ (z : Check). unless z answer) (sym f ∙ e)
 
 pass-fail : {cause : Cause} {spot : ℕ} → Fail cause spot ≡ Pass → ⊥
 pass-fail e = let z : _≡_ {A = ℕ} 0 1 = cc in omega arith
@@ -85,10 +91,6 @@ cause-not-zero Image = refl
 
 pub cause-number-once : (c d : Cause) → causeNumber c ≡ causeNumber d → c ≡ d
 cause-number-once c d e = sym (cause-back c) ∙ (ap causeOf e ∙ cause-back d)
-
--- check 1: a record's words for each of 1 to 1,024 slots
-abbrev pub Shaped : ℕ → List ℕ → Type 0
-Shaped w t = (n : ℕ) × (1 ≤ n) × (n ≤ 1024) × (length t ≡ n * recordWords w)
 
 three : (a b d : Bool) → (a && b && d ≡ true) ↔ ((a ≡ true) × (b ≡ true) × (d ≡ true))
 three a b d = (
@@ -308,11 +310,6 @@ same-id-law w a b =
       λ e. let r = and-right i o e in (and-left (occupied w a) (occupied w b) r, and-right (occupied w a) (occupied w b) r, eqb-true _ _ (and-left i o e)),
       λ s. and-both i o (eq-eqb _ _ (s .2)) (and-both (occupied w a) (occupied w b) (s .0) (s .1)),
     )
-
--- Two rules of different ids that overlap: what every comparison of two slots asks besides their priorities.
-abbrev pub Overlapping : ℕ → Words → Words → Type 0
-Overlapping w a b =
-    (occupied w a ≡ true) × (occupied w b ≡ true) × (ident w a ≡ ident w b → ⊥) × Overlap w (value a) (mask w a) (value b) (mask w b)
 
 pair-law : (w : ℕ) (a b : Words) (test : Bool)
     → ((overlapping w a b && test) && distinct w a b ≡ true) ↔ (Overlapping w a b × (test ≡ true))

@@ -1,12 +1,19 @@
 -- What the words of a lent table mean: slot records, rules, order, the first match, and the checks that refuse a table.
--- Record, Order, Checks: the definitions. Laws, Rules: what they say. Entries, PutSlot, Writes, ClassWords, Inserts: tables as layouts.
+-- Record, Order, Checks: the definitions; Laws: what they say. Rules: rules as records. Entries, Writes, ClassWords, Inserts: tables as layouts.
 pub mod Record
 pub mod Order
+pub mod OrderLaws
 pub mod Checks
+pub mod ChecksLaws
 pub mod Laws
 pub mod Rules
+pub mod RulesLaws
 pub mod Entries
-pub mod PutSlot
+pub mod EntriesLaws
+pub mod PutSlotLaws
 pub mod Writes
+pub mod WritesLaws
 pub mod ClassWords
+pub mod ClassWordsLaws
 pub mod Inserts
+pub mod InsertsLaws

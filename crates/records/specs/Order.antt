@@ -1,14 +1,13 @@
 -- Two records side by side: overlap, precedence, one id in two slots, and which pair is out of order. A table's order.
 -- Copies of one id are not compared with each other, so that these definitions hold in the middle of a plan too.
 use mathlib.Core.Path.{_≡_}
-use mathlib.Core.Bool.{Bool, true, false, not, _&&_, and-false}
+use mathlib.Core.Bool.{Bool, true, not, _&&_}
 use mathlib.Core.List.{List}
 use Prim.Native.Nat.{ℕ, _/_, _<_}
 use lib.Dec.{eqb, ltb, leb}
 use lib.ListN.{length}
-use Rattle.search.specs.Search.{and-turned, and-middle}
-use Rattle.ternary.specs.Pattern.{Words, Overlap, overlaps, overlaps-turned}
-use Rattle.records.specs.Record.{recordWords, slotWords, value, mask, ident, rank, empty, occupied}
+use Rattle.ternary.specs.Pattern.{Words, Overlap, overlaps}
+use Rattle.records.specs.Record.{recordWords, slotWords, value, mask, ident, rank, occupied}
 
 -- how many slots a table has
 abbrev pub slots : ℕ → List ℕ → ℕ
@@ -37,24 +36,6 @@ sameId w a b = eqb (ident w a) (ident w b) && (occupied w a && occupied w b)
 unfoldable pub misordered : ℕ → Words → Words → Bool
 misordered w a b = (overlapping w a b && leb (rank w a) (rank w b)) && distinct w a b
 
--- the test with the priorities asked first
-pub misordered-asked : (w : ℕ) (a b : Words) {r : Bool} → leb (rank w a) (rank w b) ≡ true → r ≡ distinct w a b && overlapping w a b → r ≡ misordered w a b
-unfolding misordered
-misordered-asked w a b l e = and-turned (overlapping w a b) (leb (rank w a) (rank w b)) (distinct w a b) l e
-
-pub misordered-higher : (w : ℕ) (a b : Words) → leb (rank w a) (rank w b) ≡ false → false ≡ misordered w a b
-unfolding misordered
-misordered-higher w a b l = and-middle (overlapping w a b) (distinct w a b) l
-
--- where two patterns do not overlap, neither rule's standing is out of order; nor is an empty slot's
-pub misordered-apart : (w : ℕ) (a b : Words) → overlapping w a b ≡ false → (misordered w a b ≡ false) × (misordered w b a ≡ false)
-unfolding misordered
-misordered-apart w a b e = (rw e, rw (overlaps-turned w (value a) (mask w a) (value b) (mask w b) e))
-
-pub misordered-empty : (w : ℕ) (a b : Words) → empty w b ≡ true → (misordered w a b ≡ false) × (misordered w b a ≡ false)
-unfolding misordered distinct
-misordered-empty w a b e = (rw (e, and-false, and-false, and-false), rw (e, and-false, and-false))
-
 -- a may stand before b
 abbrev pub Ordered : ℕ → Words → Words → Type 0
 Ordered w a b =
@@ -65,3 +46,8 @@ Ordered w a b =
 -- copies of one id are not compared with each other
 abbrev pub InOrder : ℕ → List ℕ → Type 0
 InOrder w t = (x y : ℕ) → x < y → y < slots w t → Ordered w (slotWords w t x) (slotWords w t y)
+
+-- Two rules of different ids that overlap: what every comparison of two slots asks besides their priorities.
+abbrev pub Overlapping : ℕ → Words → Words → Type 0
+Overlapping w a b =
+    (occupied w a ≡ true) × (occupied w b ≡ true) × (ident w a ≡ ident w b → ⊥) × Overlap w (value a) (mask w a) (value b) (mask w b)

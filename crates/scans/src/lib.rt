@@ -8,12 +8,14 @@ ghost use mathlib.Core.Bool.{_||_, _&&_};
 ghost use mathlib.Core.List.{[], _∷_};
 ghost use Prim.Native.Nat.{_+_, _-_, _≤_, _<_, _/_, min};
 ghost use lib.ListN.{length};
-ghost use Rattle.search.specs.Search.{least, afterLast, NoneFrom, NoneAbove};
-ghost use Rattle.search.specs.Parts.{lastOf};
+ghost use Rattle.search.specs.Search.{least, afterLast};
+ghost use Rattle.search.specs.SearchLaws.{NoneFrom, NoneAbove};
+ghost use Rattle.search.specs.PartsLaws.{lastOf};
 ghost use Rattle.records.specs.Record.{word, slotWords};
 ghost use Rattle.records.specs.Checks.{checkRecords};
 ghost use Rattle.records.specs.declared.Check.the-variants.{Pass};
-ghost use Rattle.scans.specs.Scans.{notBefore, notAfter, higher, meets, meetsSlot};
+ghost use Rattle.scans.specs.Scans.{notBefore, notAfter};
+ghost use Rattle.scans.specs.ScansLaws.{higherThan, meets, meetsSlot};
 
 // Whether the rule in a slot overlaps a pattern whose words are at hand. A slot whose word of id and action is 0 holds none where check 2 passes.
 fn rule_overlaps(
@@ -103,8 +105,8 @@ fn skip_down(table: &[u64], slot: usize, end: usize) -> usize
 // Whether four slots' priorities are all higher than one at hand.
 fn all_higher(table: &[u64], from: usize, rank: u64) -> bool
     requires { ⌜ from + 4 ≤ length (now table) / 6 ⌝ }
-    ensures { λ r. ⌜ r ≡ (higher 2 (now (table .entry)) rank from && higher 2 (now (table .entry)) rank (from + 1)
-        && higher 2 (now (table .entry)) rank (from + 2) && higher 2 (now (table .entry)) rank (from + 3)) ⌝ }
+    ensures { λ r. ⌜ r ≡ (higherThan 2 (now (table .entry)) rank from && higherThan 2 (now (table .entry)) rank (from + 1)
+        && higherThan 2 (now (table .entry)) rank (from + 2) && higherThan 2 (now (table .entry)) rank (from + 3)) ⌝ }
 {
     if slot_word(table, from, 5) <= rank {
         return false;

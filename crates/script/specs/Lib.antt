@@ -1,5 +1,6 @@
 -- What each line of a script does to the table and prints.
--- Told, Script: the definitions. Laws: how the code meets them.
+-- Told: what each is answered. Script: what it does.
 pub mod Told
+pub mod ToldLaws
 pub mod Script
-pub mod Laws
+pub mod ScriptLaws

@@ -12,10 +12,10 @@ use Rattle.records.specs.declared.Cause.the-variants.{Shape, Line}
 use Rattle.lookups.specs.Lookup.{lookupAnswer}
 use Rattle.histories.specs.Histories.{emptyTable}
 use Rattle.script_lines.specs.Blocks.{Outcome}
+use Rattle.script_printing.specs.Printing.{Shown}
 use Rattle.script_commands.specs.Commands.{commandOf, ruleOf, keyOf}
 use Rattle.script_commands.specs.declared.Command.{Command}
 use Rattle.script_commands.specs.declared.Command.the-variants.{Table, Insert, Delete, Lookup, Malformed}
-use Rattle.script_printing.specs.Printing.{Shown}
 use Rattle.script_answers.specs.Answers.{tableBytes}
 use Rattle.script_operations.specs.Outcomes.{outcome, refused, lookupBytes, insertOutcome, deleteOutcome}
 use Rattle.script.specs.declared.Ran.{Ran}

@@ -1,7 +1,6 @@
 -- What each command is answered on the table that it finds: letter, number and values.
 -- A plan's buffer of 1,024 words is never too short.
-use mathlib.Core.Path.{_≡_}
-use mathlib.Core.Bool.{true, false, cond, _&&_}
+use mathlib.Core.Bool.{cond, _&&_}
 use mathlib.Core.List.{List, [], _∷_}
 use Prim.Native.Nat.{ℕ}
 use lib.Dec.{leb}
@@ -9,8 +8,8 @@ use Rattle.records.specs.Record.{word}
 use Rattle.records.specs.Checks.{success, refusal}
 use Rattle.records.specs.declared.Cause.the-variants.{Shape, Line}
 use Rattle.lookups.specs.Lookup.{lookupAnswer}
-use Rattle.insert_plans.specs.Inserts.{insertAnswer}
 use Rattle.delete_plans.specs.Deletes.{deleteAnswer}
+use Rattle.insert_plans.specs.Inserts.{insertAnswer}
 use Rattle.script_commands.specs.Commands.{ruleOf, keyOf}
 use Rattle.script_commands.specs.declared.Command.{Command}
 use Rattle.script_commands.specs.declared.Command.the-variants.{Table, Insert, Delete, Lookup, Malformed}
@@ -27,11 +26,3 @@ commandTold t number (Insert insertion) = changeTold (insertAnswer 2 t (ruleOf i
 commandTold t number (Delete deletion) = changeTold (deleteAnswer 2 t (deletion .id) 1024)
 commandTold t number (Lookup query) = lookedTold (lookupAnswer 2 t (word (keyOf query)))
 commandTold t number Malformed = lettered 82 (refusal Line number)
-
-pub table-told : (slots : ℕ) → leb 1 slots && leb slots 1024 ≡ true → lettered 78 (success (slots ∷ [])) ≡ tableTold slots
-unfolding tableTold
-table-told slots e = rw e
-
-pub table-untold : (slots : ℕ) → leb 1 slots && leb slots 1024 ≡ false → lettered 82 (refusal Shape 0) ≡ tableTold slots
-unfolding tableTold
-table-untold slots e = rw e

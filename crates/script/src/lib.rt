@@ -1,5 +1,8 @@
 // One line of a script on lent buffers: the table changes as the line says, and the answer is written as bytes.
 // The memory has room for the largest table, the output for the longest answer; the table is the words at the memory's start.
+use records::Cause;
+use records::Rule;
+use records::cause_number;
 use script_answers::print_refusal;
 use script_answers::print_table;
 use script_commands::Command;
@@ -12,9 +15,6 @@ use script_operations::delete_line;
 use script_operations::insert_line;
 use script_operations::look_up;
 use script_operations::refuse;
-use records::Cause;
-use records::Rule;
-use records::cause_number;
 ghost use mathlib.Core.Path.{_≡_};
 ghost use Prim.Native.Nat.{_≤_, min};
 ghost use lib.ListN.{length, replicate};
@@ -22,10 +22,10 @@ ghost use Rattle.records.specs.Checks.{refusal};
 ghost use Rattle.records.specs.declared.Cause.the-variants.{Line};
 ghost use Rattle.records.specs.Record.{word};
 ghost use Rattle.lookups.specs.Lookup.{lookupAnswer};
-ghost use Rattle.insert_plans.specs.Inserts.{insertAnswer};
 ghost use Rattle.delete_plans.specs.Deletes.{deleteAnswer};
-ghost use Rattle.script_commands.specs.Commands.{commandOf};
+ghost use Rattle.insert_plans.specs.Inserts.{insertAnswer};
 ghost use Rattle.script_printing.specs.Printing.{Shown};
+ghost use Rattle.script_commands.specs.Commands.{commandOf};
 ghost use Rattle.script_answers.specs.Answers.{refusalBytes};
 ghost use Rattle.script_operations.specs.Told.{lettered, lineTold, changeTold, lookedTold};
 ghost use Rattle.script_operations.specs.Outcomes.{insertOutcome, deleteOutcome};

@@ -7,7 +7,7 @@ use lib.Dec.{leb}
 use lib.ListN.{length}
 use Rattle.layout.specs.Write.{Write, copy, put, clear}
 use Rattle.plan_words.specs.PlanWords.{writeOf}
-use Rattle.script_printing.specs.Lines.{fields, printed}
+use Rattle.script_printing.specs.PrintedLines.{printedFields, printed}
 
 -- `N slots`, `A slot id action`, `M` for a miss, `R number spot`
 abbrev pub tableBytes : ℕ → List ℕ
@@ -29,7 +29,7 @@ dash = 32 ∷ 45 ∷ []
 -- `W from to` per copy, `W - to` for the new rule, `E slot` for emptying
 abbrev pub printedWrite : Write → List ℕ
 printedWrite (copy from to) = printed 87 (from ∷ to ∷ [])
-printedWrite (put to) = 87 ∷ (dash ++ fields (to ∷ []))
+printedWrite (put to) = 87 ∷ (dash ++ printedFields (to ∷ []))
 printedWrite (clear slot) = printed 69 (slot ∷ [])
 
 unfoldable pub printedWrites : List ℕ → List ℕ

@@ -1,10 +1,10 @@
--- Worked answers, by computation: those of document 01's script, and the largest line number.
+-- Worked examples: answers, by computation: those of document 01's script, and the largest line number.
 -- Each is the list of the bytes printed.
 use mathlib.Core.Path.{_≡_, refl}
 use mathlib.Core.List.{[], _∷_}
 use Prim.Native.Nat.{_+_, _*_}
-use Rattle.script_text.specs.Decimal.{digitsOf, digitsIn}
 use Rattle.plan_words.specs.PlanWords.{writeOf}
+use Rattle.script_text.specs.Decimal.{digitsOf, digitsIn}
 use Rattle.script_answers.specs.Answers.{tableBytes, planBytes, printedWrites, hitBytes, missBytes, refusalBytes}
 
 -- `N 6`

@@ -1,5 +1,5 @@
--- Printed answers: the lines of document 01 (Answers) and how long they can get, and with it how large the buffer is (Room).
--- Examples: worked answers.
+-- Printed answers: the lines of document 01.
+-- RoomLaws: how long they can get, and with it how large the buffer is.
 pub mod Answers
-pub mod Room
+pub mod RoomLaws
 pub mod Examples

@@ -6,7 +6,7 @@ ghost use lib.ListN.{length};
 ghost use Rattle.layout.specs.Write.{put};
 ghost use Rattle.plan_words.specs.PlanWords.{writeOf};
 ghost use Rattle.script_printing.specs.Printing.{Printed};
-ghost use Rattle.script_printing.specs.Lines.{fields};
+ghost use Rattle.script_printing.specs.PrintedLines.{printedFields};
 ghost use Rattle.script_answers.specs.Answers.{missBytes, dash, printedWrite, printedWrites, planBytes};
 use plan_words::PlanWrite;
 use plan_words::write_of;
@@ -26,8 +26,8 @@ fn put_dash(out: &mut [u8], at: usize) -> usize
 
 // The dash, and the slot that the new rule goes to.
 fn dash_to(out: &mut [u8], at: usize, to: u64) -> usize
-    requires { ⌜ at + length (dash ++ fields (to ∷ [])) ≤ length (now out) ⌝ }
-    ensures { λ r. ⌜ Printed (now (out .entry)) at (dash ++ fields (to ∷ [])) r (now (out .exit)) ⌝ }
+    requires { ⌜ at + length (dash ++ printedFields (to ∷ [])) ≤ length (now out) ⌝ }
+    ensures { λ r. ⌜ Printed (now (out .entry)) at (dash ++ printedFields (to ∷ [])) r (now (out .exit)) ⌝ }
 {
     let next = put_dash(out, at);
     last_field(out, next, to)

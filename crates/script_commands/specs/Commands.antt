@@ -5,10 +5,10 @@ use mathlib.Core.List.{List, [], _∷_}
 use Prim.Native.Nat.{ℕ}
 use lib.Dec.{eqb, leb}
 use lib.ListN.{length, getD}
+use Rattle.records.specs.declared.Rule.{Rule}
 use Rattle.script_text.specs.Parts.{parts}
 use Rattle.script_text.specs.Decimal.{decimal}
 use Rattle.script_fields.specs.Fields.{isNumber, isPattern, isKey, symbolWords, valueBit, maskBit}
-use Rattle.records.specs.declared.Rule.{Rule}
 use Rattle.script_commands.specs.declared.Insertion.{Insertion}
 use Rattle.script_commands.specs.declared.Query.{Query}
 use Rattle.script_commands.specs.declared.Command.{Command}

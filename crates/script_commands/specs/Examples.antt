@@ -1,11 +1,12 @@
--- Worked lines, good ones and malformed ones, by computation.
+-- Worked examples: lines, good ones and malformed ones, by computation.
 -- Those of document 01's script, and the edges of numbers, spaces and fields.
 use mathlib.Core.Path.{_≡_, refl}
 use mathlib.Core.List.{[], _∷_}
 use Rattle.script_text.specs.Parts.{parts}
 use Rattle.script_text.specs.Decimal.{every, decimalOn}
 use Rattle.script_fields.specs.Fields.{isNumber, symbolWord, binary}
-use Rattle.script_commands.specs.Commands.{commandOf, letterOf, tableCommand, insertCommand, deleteCommand, lookupCommand, shortCommand, longCommand}
+use Rattle.script_commands.specs.Commands.{commandOf, letterOf, tableCommand, insertCommand, deleteCommand, lookupCommand, shortCommand}
+use Rattle.script_commands.specs.Commands.{longCommand}
 use Rattle.script_commands.specs.declared.Command.the-variants.{Table, Insert, Lookup, Malformed}
 
 -- `I 1 30 11* 7`

@@ -1,6 +1,6 @@
--- Script lines: what each means (Commands), in document 01's words.
--- LineLaws: for the code's proofs. Laws: what the definitions say. Examples: worked lines.
+-- Script lines: what each means, in document 01's words.
+-- CommandsLaws: what the definitions say. LineLaws: for the code's proofs.
 pub mod Commands
 pub mod LineLaws
-pub mod Laws
+pub mod CommandsLaws
 pub mod Examples

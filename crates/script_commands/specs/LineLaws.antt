@@ -9,12 +9,13 @@ use lib.Dec.{ltb}
 use lib.ListN.{length, take, drop, length-drop}
 use lib.Seq.{take-all}
 use borrow.Author.Tests.{lt-leb, le-leb, ltb-true}
-use Rattle.search.specs.Search.{and-left, and-right}
-use Rattle.script_text.specs.Parts.{firstPart, first-take, parts, parts-last, parts-more, parts-some}
+use Rattle.search.specs.SearchLaws.{and-left, and-right}
+use Rattle.script_text.specs.Parts.{firstPart, parts}
+use Rattle.script_text.specs.PartsLaws.{first-take, parts-last, parts-more, parts-some}
 use Rattle.script_fields.specs.Fields.{isNumber, numberIn, isPattern, isKey, symbolWords, valueBit, maskBit}
-use Rattle.script_fields.specs.FieldLaws.{number-told, number-test}
-use Rattle.script_commands.specs.Commands.{afterLetter, insertCommand, lookupCommand, letterOf, commandOf}
 use Rattle.script_fields.specs.declared.TwoWords.{TwoWords}
+use Rattle.script_fields.specs.FieldsLaws.{number-told, number-test}
+use Rattle.script_commands.specs.Commands.{afterLetter, insertCommand, lookupCommand, letterOf, commandOf}
 use Rattle.script_commands.specs.declared.Command.the-variants.{Insert, Lookup, Malformed}
 
 -- what stands after the space at a place

@@ -3,12 +3,13 @@
 ghost use mathlib.Core.Path.{_≡_};
 ghost use mathlib.Core.List.{_∷_};
 ghost use Rattle.script_text.specs.Parts.{parts};
-ghost use Rattle.script_commands.specs.Commands.{ruleOf, keyOf, letterOf, tableCommand, insertCommand, deleteCommand, lookupCommand, shortCommand, afterLetter, commandOf};
+ghost use Rattle.script_commands.specs.Commands.{ruleOf, keyOf, letterOf, tableCommand, insertCommand, deleteCommand, lookupCommand};
+ghost use Rattle.script_commands.specs.Commands.{shortCommand, afterLetter, commandOf};
+use records::Rule;
 use script_fields::TwoWords;
 use script_fields::is_symbol_field;
 use script_fields::number_in;
 use script_fields::symbol_words;
-use records::Rule;
 use script_text::part_end;
 
 // What a T line tells: the slots of the new table.

@@ -2,9 +2,10 @@
 -- Symbols are bytes: the digits 0 to 9 are 48 to 57, the star is 42.
 use mathlib.Core.Bool.{Bool, true, false, cond, _&&_, _||_}
 use mathlib.Core.List.{List}
-use Prim.Native.Nat.{ℕ, zero, suc, _+_, _*_}
+use Prim.Native.Nat.{ℕ, zero, suc, _+_, _*_, _<_}
 use lib.Dec.{eqb, leb, ltb}
 use lib.ListN.{length, getD}
+use mathlib.Core.Path.{_≡_}
 use Rattle.script_text.specs.Decimal.{every, digit, decimal}
 use Rattle.script_fields.specs.declared.TwoWords.{TwoWords}
 
@@ -61,3 +62,9 @@ symbolWord test field from = binary (λ (j : ℕ). test (getD field (from + j) 0
 -- 128 symbols as two words
 abbrev pub symbolWords : (ℕ → Bool) → List ℕ → TwoWords
 symbolWords test field = record { high = symbolWord test field 0; low = symbolWord test field 64 }
+
+-- What a pattern's symbols ask of a key's, so many of them from a place on: the same where the pattern has 0 or 1. Past its end a pattern asks
+-- nothing, and a key has 0.
+abbrev pub Asks : List ℕ → List ℕ → ℕ → ℕ → Type 0
+Asks pattern key from count =
+    (k : ℕ) → k < count → maskBit (getD pattern (from + k) 0) ≡ true → valueBit (getD key (from + k) 0) ≡ valueBit (getD pattern (from + k) 0)

@@ -1,4 +1,4 @@
--- Patterns and keys, bit by bit: symbol j is bit 127 − j of the 128, highest first; a value bit outside the mask is 0.
+-- End theorems: patterns and keys, bit by bit: symbol j is bit 127 − j of the 128, highest first; a value bit outside the mask is 0.
 -- A star has neither bit, and so have the places past the field's end.
 use mathlib.Core.Path.{_≡_, refl, sym, ap, _∙_}
 use mathlib.Core.Bool.{Bool, true, false, _||_}
@@ -10,9 +10,10 @@ use native.Mathlib.Nat.{pow-suc, mul-comm, div-one, div-div-eq-div-mul}
 use native.Mathlib.Decide.{decLt}
 use lib.Dec.{eqb}
 use lib.ListN.{getD}
-use Rattle.ternary.specs.Bit.{bit, bit-zero}
-use Rattle.script_fields.specs.Fields.{oneIf, binary, valueBit, maskBit, symbolWord}
-use Rattle.script_fields.specs.FieldLaws.{one-if-small}
+use Rattle.ternary.specs.Bit.{bit}
+use Rattle.ternary.specs.BitLaws.{bit-zero}
+use Rattle.script_fields.specs.Fields.{oneIf, binary, valueBit, maskBit, symbolWord, Asks}
+use Rattle.script_fields.specs.FieldsLaws.{one-if-small}
 
 -- the bits of a number with one digit more
 double-low : (b c : ℕ) → c ≤ 1 → bit (b * 2 + c) 0 ≡ c
@@ -87,12 +88,6 @@ one-if-same true true e = refl
 one-if-same true false e = absurd (omega arith)
 one-if-same false true e = absurd (omega arith)
 one-if-same false false e = refl
-
--- What a pattern's symbols ask of a key's, so many of them from a place on: the same where the pattern has 0 or 1. Past its end a pattern asks
--- nothing, and a key has 0.
-abbrev pub Asks : List ℕ → List ℕ → ℕ → ℕ → Type 0
-Asks pattern key from count =
-    (k : ℕ) → k < count → maskBit (getD pattern (from + k) 0) ≡ true → valueBit (getD key (from + k) 0) ≡ valueBit (getD pattern (from + k) 0)
 
 -- it is what the words of value and mask ask of the key's word
 pub word-asks : (pattern key : List ℕ) (from : ℕ)

@@ -1,5 +1,6 @@
 -- What an insert, a delete and a lookup of a script do to the table, are answered and print.
--- Told, Outcomes: the definitions. Laws: how the code meets them.
+-- Told: what each is answered. Outcomes: what it does.
 pub mod Told
+pub mod ToldLaws
 pub mod Outcomes
-pub mod Laws
+pub mod OutcomesLaws

@@ -1,33 +1,34 @@
 // What one command does to a table: a rule is inserted or deleted, or a key looked up, and the answer is written as bytes.
 // The table is lent as its own words, and nothing else of the memory; the output has room for the longest answer.
+use buffers::PlanAnswer;
+use buffers::PlanInfo;
+use delete_plans::plan_delete;
+use insert_plans::plan_insert;
+use lookups::Hit;
+use lookups::LookupAnswer;
+use lookups::lookup::lookup;
+use records::Cause;
+use records::Rule;
+use records::cause_number;
 use script_answers::print_hit;
 use script_answers::print_miss;
 use script_answers::print_plan;
 use script_answers::print_refusal;
 use script_commands::NewTable;
-use lookups::Hit;
-use lookups::LookupAnswer;
-use lookups::lookup::lookup;
-use buffers::PlanAnswer;
-use buffers::PlanInfo;
-use delete_plans::plan_delete;
-use records::Cause;
-use records::Rule;
-use records::cause_number;
 use steps::whole::carry_whole;
-use insert_plans::plan_insert;
 ghost use mathlib.Core.Path.{_≡_};
 ghost use lib.ListN.{length};
 ghost use Rattle.records.specs.Checks.{causeNumber};
 ghost use Rattle.records.specs.Record.{word};
-ghost use Rattle.lookups.specs.Lookup.{lookupAnswer, lookupTold};
-ghost use Rattle.insert_plans.specs.Inserts.{insertAnswer};
-ghost use Rattle.delete_plans.specs.Deletes.{deleteAnswer};
 ghost use Rattle.buffers.specs.Buffers.{planTold};
+ghost use Rattle.lookups.specs.Lookup.{lookupAnswer, lookupTold};
+ghost use Rattle.delete_plans.specs.Deletes.{deleteAnswer};
+ghost use Rattle.insert_plans.specs.Inserts.{insertAnswer};
 ghost use Rattle.script_printing.specs.Printing.{Shown};
 ghost use Rattle.script_answers.specs.Answers.{refusalBytes};
 ghost use Rattle.script_operations.specs.Told.{lineTold, changeTold, lookedTold};
-ghost use Rattle.script_operations.specs.Outcomes.{lookupBytes, planOutcome, insertOutcome, deleteOutcome, Within, Changed};
+ghost use Rattle.script_operations.specs.Outcomes.{lookupBytes, insertOutcome, deleteOutcome, Changed};
+ghost use Rattle.script_operations.specs.OutcomesLaws.{planOutcome, WithinRoom};
 
 // What a line is answered: the slots of the new table, a plan's count, a hit or a miss, or a refusal.
 pub enum LineAnswer {
@@ -105,7 +106,7 @@ fn carry_and_print(
     rule: Rule,
     out: &mut [u8; 14343],
 ) -> usize
-    requires { ⌜ Within (planTold answer) (length (now plan)) ⌝ }
+    requires { ⌜ WithinRoom (planTold answer) (length (now plan)) ⌝ }
     ensures { λ r. ⌜ Changed (planOutcome (planTold answer) (now (table .entry)) (now (plan .entry)) rule) r (now (table .exit)) (now (out .entry)) (now (out .exit)) ⌝ }
 {
     match answer {

@@ -5,7 +5,7 @@ ghost use Prim.Native.Nat.{_+_, _≤_, _<_};
 ghost use lib.ListN.{length};
 ghost use Rattle.script_text.specs.Decimal.{digitsOf};
 ghost use Rattle.script_printing.specs.Printing.{Printed};
-ghost use Rattle.script_printing.specs.Lines.{field, fields, printed};
+ghost use Rattle.script_printing.specs.PrintedLines.{printedField, printedFields, printed};
 
 // One byte.
 pub fn put_byte(out: &mut [u8], at: usize, byte: u8) -> usize
@@ -30,8 +30,8 @@ fn put_number(out: &mut [u8], at: usize, number: u64) -> usize
 
 // A space and a number.
 fn put_field(out: &mut [u8], at: usize, number: u64) -> usize
-    requires { ⌜ at + length (field number) ≤ length (now out) ⌝ }
-    ensures { λ r. ⌜ Printed (now (out .entry)) at (field number) r (now (out .exit)) ⌝ }
+    requires { ⌜ at + length (printedField number) ≤ length (now out) ⌝ }
+    ensures { λ r. ⌜ Printed (now (out .entry)) at (printedField number) r (now (out .exit)) ⌝ }
 {
     let next = put_byte(out, at, 32);
     put_number(out, next, number)
@@ -39,8 +39,8 @@ fn put_field(out: &mut [u8], at: usize, number: u64) -> usize
 
 // The last field of a line, and its newline.
 pub fn last_field(out: &mut [u8], at: usize, number: u64) -> usize
-    requires { ⌜ at + length (fields (number ∷ [])) ≤ length (now out) ⌝ }
-    ensures { λ r. ⌜ Printed (now (out .entry)) at (fields (number ∷ [])) r (now (out .exit)) ⌝ }
+    requires { ⌜ at + length (printedFields (number ∷ [])) ≤ length (now out) ⌝ }
+    ensures { λ r. ⌜ Printed (now (out .entry)) at (printedFields (number ∷ [])) r (now (out .exit)) ⌝ }
 {
     let next = put_field(out, at, number);
     put_byte(out, next, 10)
@@ -48,8 +48,8 @@ pub fn last_field(out: &mut [u8], at: usize, number: u64) -> usize
 
 // The last two fields.
 fn last_fields(out: &mut [u8], at: usize, first: u64, second: u64) -> usize
-    requires { ⌜ at + length (fields (first ∷ second ∷ [])) ≤ length (now out) ⌝ }
-    ensures { λ r. ⌜ Printed (now (out .entry)) at (fields (first ∷ second ∷ [])) r (now (out .exit)) ⌝ }
+    requires { ⌜ at + length (printedFields (first ∷ second ∷ [])) ≤ length (now out) ⌝ }
+    ensures { λ r. ⌜ Printed (now (out .entry)) at (printedFields (first ∷ second ∷ [])) r (now (out .exit)) ⌝ }
 {
     let next = put_field(out, at, first);
     last_field(out, next, second)
@@ -75,8 +75,8 @@ pub fn line_of_two(out: &mut [u8], at: usize, letter: u8, first: u64, second: u6
 
 // The last three fields.
 fn last_three(out: &mut [u8], at: usize, first: u64, second: u64, third: u64) -> usize
-    requires { ⌜ at + length (fields (first ∷ second ∷ third ∷ [])) ≤ length (now out) ⌝ }
-    ensures { λ r. ⌜ Printed (now (out .entry)) at (fields (first ∷ second ∷ third ∷ [])) r (now (out .exit)) ⌝ }
+    requires { ⌜ at + length (printedFields (first ∷ second ∷ third ∷ [])) ≤ length (now out) ⌝ }
+    ensures { λ r. ⌜ Printed (now (out .entry)) at (printedFields (first ∷ second ∷ third ∷ [])) r (now (out .exit)) ⌝ }
 {
     let next = put_field(out, at, first);
     last_fields(out, next, second, third)

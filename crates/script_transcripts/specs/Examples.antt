@@ -1,26 +1,28 @@
--- Document 01's script, by computation: what the definitions of lines, plans and answers come to on its bytes.
+-- Worked examples: document 01's script, by computation: what the definitions of lines, plans and answers come to on its bytes.
 -- The same bytes are the program's files stdin and stdout.
 use mathlib.Core.Path.{_≡_, refl}
 use mathlib.Core.List.{List, [], _∷_}
 use Prim.Native.Nat.{ℕ}
 use Rattle.search.specs.Search.{all, any, least, afterLast}
-use Rattle.script_text.specs.Parts.{firstPart, parts}
-use Rattle.script_text.specs.Decimal.{every, decimalOn, digitsOf, digitsIn}
 use Rattle.ternary.specs.Word.{agree, inside, both}
 use Rattle.ternary.specs.Pattern.{overlaps, within, matches}
 use Rattle.layout.specs.Minimum.{minimum, lowest as lowestOf, highest as highestOf}
 use Rattle.layout.specs.Cost.{windowEnd, costs, nextSlot}
 use Rattle.layout.specs.Chain.{steps}
 use Rattle.layout.specs.Write.{moves}
-use Rattle.layout.specs.Plan.{downCost, upCost, downChain, upChain, bestDown, bestUp, slotDown, slotUp, choose, afterPreceding, firstDependant, insertChoice}
+use Rattle.layout.specs.Plan.{downCost, upCost, downChain, upChain, bestDown, bestUp, slotDown, slotUp, choose, afterPreceding, firstDependant}
+use Rattle.layout.specs.Plan.{insertChoice}
+use Rattle.plan_words.specs.PlanWords.{writeOf}
 use Rattle.records.specs.Record.{listed, empty, soundParts, recordOf, putSlot, slotMatches}
 use Rattle.records.specs.Order.{distinct, precedes, tied, sameId, misordered}
-use Rattle.records.specs.Checks.{lowest, shaped, checkShape, unsoundAt, checkRecords, twiceAt, checkTwice, disorderAt, checkOrder, slotChecks, tableChecks, firstMatch}
+use Rattle.records.specs.Checks.{lowest, shaped, checkShape, unsoundAt, checkRecords, twiceAt, checkTwice, disorderAt, checkOrder, slotChecks}
+use Rattle.records.specs.Checks.{tableChecks, firstMatch}
 use Rattle.records.specs.Entries.{entries}
-use Rattle.plan_words.specs.PlanWords.{writeOf}
-use Rattle.neighbours.specs.Neighbours.{checkRule, checkKnown, checkTie, checkFull, afterA, slotB, checkCrossed, newChecks, insertChecks}
 use Rattle.lookups.specs.Lookup.{hitAt, matchTold, lookupAnswer}
+use Rattle.neighbours.specs.Neighbours.{checkRule, checkKnown, checkTie, checkFull, afterA, slotB, checkCrossed, newChecks, insertChecks}
 use Rattle.delete_plans.specs.Deletes.{hasId, slotOfId, checkId, checkUnknown, deleteChecks}
+use Rattle.script_text.specs.Parts.{firstPart, parts}
+use Rattle.script_text.specs.Decimal.{every, decimalOn, digitsOf, digitsIn}
 use Rattle.script_lines.specs.Lines.{lastKept, linesOf}
 use Rattle.script_lines.specs.Blocks.{answered}
 use Rattle.script_fields.specs.Fields.{isNumber, binary, symbolWord}

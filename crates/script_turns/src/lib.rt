@@ -1,10 +1,10 @@
 // Reading a script block by block: each turn takes bytes out of a block, and runs the line that they complete.
 // What is held between turns is a few numbers, the table's memory and the line's buffer; however the input is cut, the answers are the same.
+use script::run_line;
+use script::slots_present;
 use script_lines::line_stands;
 use script_lines::next_number;
 use script_lines::take_bytes;
-use script::run_line;
-use script::slots_present;
 ghost use mathlib.Core.Path.{_≡_};
 ghost use Prim.Native.Nat.{_*_, min};
 ghost use lib.ListN.{length, drop};

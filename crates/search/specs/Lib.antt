@@ -1,4 +1,5 @@
 -- Searches over indices, and the laws by which loops are proved.
 -- Everything is over a test p : ℕ → Bool and a count.
 pub mod Search
-pub mod Parts
+pub mod SearchLaws
+pub mod PartsLaws

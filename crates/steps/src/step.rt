@@ -9,12 +9,12 @@ use records::Check;
 use records::Rule;
 use slots::rules::rule_sound;
 use table_checks::check_slots;
-use writes::word_fits;
 use writes::make_write;
+use writes::word_fits;
 ghost use mathlib.Core.Path.{_≡_};
 ghost use lib.ListN.{length};
-ghost use Rattle.carrying.specs.Carrying.{stepTold, progressChecks, putSound, writeChecks, stepAnswer, stepTable};
 ghost use Rattle.plan_words.specs.PlanWords.{writeOf};
+ghost use Rattle.carrying.specs.Carrying.{stepTold, progressChecks, putSound, writeChecks, stepAnswer, stepTable};
 
 // Checks 1 and 2, and 12 for more writes done than in all or more in all than the plan has words.
 fn check_progress(table: &[u64], plan: &[u32], done: u32, total: u32) -> Check

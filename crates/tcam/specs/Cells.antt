@@ -8,8 +8,8 @@ use Rattle.records.specs.Record.{word}
 use Rattle.records.specs.Checks.{Told}
 use Rattle.records.specs.declared.Rule.{Rule}
 use Rattle.lookups.specs.Lookup.{lookupAnswer}
-use Rattle.insert_plans.specs.Inserts.{insertAnswer, insertPlan}
 use Rattle.delete_plans.specs.Deletes.{deleteAnswer, deletePlan}
+use Rattle.insert_plans.specs.Inserts.{insertAnswer, insertPlan}
 use Rattle.insert_plans.specs.Insertable.{Insertable}
 use Rattle.insert_plans.specs.Demand3.{Demand3}
 use Rattle.marshalling.specs.Cells.{dataCell, spotCell}

@@ -2,4 +2,6 @@
 -- The answers themselves are the table library's and the step's.
 pub mod Cells
 pub mod Carried
+pub mod CarriedLaws
 pub mod Images
+pub mod ImagesLaws

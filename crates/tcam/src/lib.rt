@@ -7,14 +7,14 @@ ghost use mathlib.Core.Path.{_≡_};
 ghost use Rattle.lookups.specs.Lookup.{partStart, partLength};
 ghost use Rattle.marshalling.specs.Cells.{dataCell, spotCell, ruleFrom};
 ghost use Rattle.tcam.specs.Cells.{keyAnswer, InsertLeft, DeleteLeft};
+use delete_plans::plan_delete;
+use insert_plans::plan_insert;
 use lookups::LookupAnswer;
 use lookups::lookup::lookup;
 use lookups::lookup::slot_record;
 use marshalling::rule_from;
 use marshalling::spread;
-use delete_plans::plan_delete;
 use records::cause_number;
-use insert_plans::plan_insert;
 
 // Slot, id and action of the lowest-numbered slot that matches a key; all 0 for a miss.
 #[no_mangle]

@@ -1,3 +1,4 @@
 -- What the program makes of the answers of its reads and writes.
 -- Which bytes are read and written is the C library's: no contract tells it.
 pub mod Reads
+pub mod ReadsLaws

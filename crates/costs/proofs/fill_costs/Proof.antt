@@ -7,7 +7,8 @@ use borrow.Author.Needs.{needs}
 use lib.ListN.{length, drop, length-set}
 use lib.Seq.{drop-set-lt}
 use Rattle.layout.specs.Minimum.{minimum}
-use Rattle.costs.specs.Costs.{costOf, SolvedFrom, solved-more, minimum-over, minimum-stored}
+use Rattle.costs.specs.Costs.{costOf, SolvedFrom}
+use Rattle.costs.specs.CostsLaws.{solved-more, minimum-over, minimum-stored}
 use Rattle.costs.proofs.fill_costs.Statement.{statement}
 use Rattle.costs.proofs.fill_costs.Tie as tie
 

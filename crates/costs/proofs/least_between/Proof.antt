@@ -4,8 +4,10 @@ use mathlib.Core.Path.{_≡_}
 use Prim.Native.Nat.{_-_, _≤_, min}
 use borrow.Author.Needs.{needs}
 use native.Mathlib.Omega.{arith}
-use Rattle.layout.specs.Minimum.{minimum, minimum-law}
-use Rattle.costs.specs.Costs.{costOf, minimum-further, minimum-over}
+use Rattle.layout.specs.Minimum.{minimum}
+use Rattle.layout.specs.MinimumLaws.{minimum-law}
+use Rattle.costs.specs.Costs.{costOf}
+use Rattle.costs.specs.CostsLaws.{minimum-further, minimum-over}
 use Rattle.costs.proofs.least_between.Statement.{statement}
 use Rattle.costs.proofs.least_between.Tie as tie
 

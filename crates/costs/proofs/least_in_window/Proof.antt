@@ -3,7 +3,8 @@
 use mathlib.Core.Path.{sym}
 use native.Mathlib.Omega.{arith}
 use borrow.Author.Needs.{needs}
-use Rattle.costs.specs.Costs.{costOf, minimum-further, minimum-over}
+use Rattle.costs.specs.Costs.{costOf}
+use Rattle.costs.specs.CostsLaws.{minimum-further, minimum-over}
 use Rattle.costs.proofs.least_in_window.Statement.{statement}
 use Rattle.costs.proofs.least_in_window.Tie as tie
 

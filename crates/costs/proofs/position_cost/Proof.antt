@@ -3,7 +3,7 @@
 use mathlib.Core.Path.{sym}
 use native.Mathlib.Omega.{arith}
 use borrow.Author.Needs.{needs}
-use Rattle.costs.specs.Costs.{cost-vacant, cost-found, cost-to-last, minimum-high}
+use Rattle.costs.specs.CostsLaws.{cost-vacant, cost-found, cost-to-last, minimum-high}
 use Rattle.costs.proofs.position_cost.Statement.{statement}
 use Rattle.costs.proofs.position_cost.Tie as tie
 

@@ -2,7 +2,8 @@
 -- Each check is made where those before it pass.
 use borrow.Author.Needs.{needs}
 use Rattle.records.specs.Laws.{failed, passed}
-use Rattle.delete_plans.specs.Deletes.{deleteChecks, id-refused, id-accepted, id-found, id-absent}
+use Rattle.delete_plans.specs.Deletes.{deleteChecks}
+use Rattle.delete_plans.specs.DeletesLaws.{id-refused, id-accepted, id-found, id-absent}
 use Rattle.delete_plans.proofs.check_delete.Statement.{statement}
 use Rattle.delete_plans.proofs.check_delete.Tie as tie
 

@@ -8,10 +8,11 @@ use lib.ListN.{drop}
 use lib.Seq.{set-split}
 use denote.Ref.{now}
 use borrow.Author.Needs.{needs}
-use Rattle.buffers.specs.Buffers.{buffer-refused, buffer-short, buffer-written}
 use Rattle.layout.specs.Write.{clear}
 use Rattle.plan_words.specs.PlanWords.{writeWord}
-use Rattle.delete_plans.specs.Deletes.{deleteWords, delete-small}
+use Rattle.buffers.specs.BuffersLaws.{buffer-refused, buffer-short, buffer-written}
+use Rattle.delete_plans.specs.Deletes.{deleteWords}
+use Rattle.delete_plans.specs.DeletesLaws.{delete-small}
 use Rattle.delete_plans.proofs.plan_delete.Statement.{statement}
 use Rattle.delete_plans.proofs.plan_delete.Tie as tie
 

@@ -3,7 +3,7 @@
 use Prim.Native.Nat.{_-_}
 use mathlib.Core.Path.{sym, _∙_}
 use native.Mathlib.Omega.{arith}
-use Rattle.search.specs.Search.{NoneBelow, none-start, none-more, least-at, least-none}
+use Rattle.search.specs.SearchLaws.{NoneBelow, none-start, none-more, least-at, least-none}
 use Rattle.delete_plans.specs.Deletes.{hasId, slotOfId}
 use Rattle.delete_plans.proofs.slot_of_id.Statement.{statement}
 use Rattle.delete_plans.proofs.slot_of_id.Tie as tie

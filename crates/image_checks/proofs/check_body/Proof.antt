@@ -3,12 +3,12 @@
 use mathlib.Core.Path.{sym, ap, _∙_}
 use mathlib.Core.List.{List}
 use Prim.Native.Nat.{ℕ}
-use Rattle.ternary.specs.Pattern.{within}
+use borrow.Author.Needs.{needs}
 use Rattle.search.specs.Search.{all}
+use Rattle.ternary.specs.Pattern.{within}
 use Rattle.records.specs.Record.{word, soundParts, sound}
 use Rattle.image.specs.Checks.{checkBody}
-use Rattle.image.specs.CheckLaws.{field-last, field-last-wrong}
-use borrow.Author.Needs.{needs}
+use Rattle.image.specs.ChecksLaws.{field-last, field-last-wrong}
 use Rattle.image_checks.proofs.check_body.Statement.{statement}
 use Rattle.image_checks.proofs.check_body.Tie as tie
 

@@ -4,7 +4,7 @@ use Prim.Native.Nat.{_-_}
 use native.Mathlib.Omega.{arith}
 use borrow.Author.Needs.{needs}
 use Rattle.image.specs.Checks.{checkEntry, checkContents}
-use Rattle.image.specs.CheckLaws.{PassBelow, pass-start, pass-more, turn-fails, turn-passes}
+use Rattle.image.specs.ChecksLaws.{PassBelow, pass-start, pass-more, turn-fails, turn-passes}
 use Rattle.image_checks.proofs.check_contents.Statement.{statement}
 use Rattle.image_checks.proofs.check_contents.Tie as tie
 

@@ -5,9 +5,9 @@ use mathlib.Core.Bool.{Bool, not, _&&_}
 use Prim.Native.Nat.{ℕ}
 use lib.Dec.{ltb, leb}
 use borrow.Author.Tests.{eq-eqb, ne-eqb, not-true, not-false}
-use Rattle.image.specs.Checks.{checkEntry}
-use Rattle.image.specs.CheckLaws.{field-wrong, field-right, field-last, field-last-wrong}
 use borrow.Author.Needs.{needs}
+use Rattle.image.specs.Checks.{checkEntry}
+use Rattle.image.specs.ChecksLaws.{field-wrong, field-right, field-last, field-last-wrong}
 use Rattle.image_checks.proofs.check_entry.Statement.{statement}
 use Rattle.image_checks.proofs.check_entry.Tie as tie
 

@@ -2,8 +2,8 @@
 -- The image is looked at where the table has a shape.
 use mathlib.Core.Path.{sym, _∙_}
 use native.Mathlib.Omega.{arith}
-use Rattle.records.specs.Laws.{failed, passed, shape-length}
 use borrow.Author.Needs.{needs}
+use Rattle.records.specs.Laws.{failed, passed, shape-length}
 use Rattle.image_checks.proofs.check_fields.Statement.{statement}
 use Rattle.image_checks.proofs.check_fields.Tie as tie
 

@@ -6,13 +6,13 @@ use native.Mathlib.Omega.{arith}
 use lib.Dec.{eqb, leb}
 use lib.ListN.{length}
 use borrow.Author.Tests.{eq-eqb, ne-eqb, le-leb, lt-leb}
-use Rattle.search.specs.Search.{and-both}
+use borrow.Author.Needs.{needs}
+use Rattle.search.specs.SearchLaws.{and-both}
 use Rattle.image.specs.Bytes.{numberAt}
-use Rattle.image.specs.ByteLaws.{number-small}
 use Rattle.image.specs.Checks.{field, checkHeader}
 use Rattle.image.specs.Format.{rulesIn, imageBytes}
-use Rattle.image.specs.CheckLaws.{field-wrong, field-right, field-last, field-last-wrong}
-use borrow.Author.Needs.{needs}
+use Rattle.image.specs.BytesLaws.{number-small}
+use Rattle.image.specs.ChecksLaws.{field-wrong, field-right, field-last, field-last-wrong}
 use Rattle.image_checks.proofs.check_header.Statement.{statement}
 use Rattle.image_checks.proofs.check_header.Tie as tie
 

@@ -3,10 +3,10 @@
 use mathlib.Core.Path.{sym, ap, _∙_}
 use Prim.Native.Nat.{ℕ}
 use native.Mathlib.Omega.{arith}
+use borrow.Author.Needs.{needs}
 use Rattle.records.specs.Laws.{failed, passed}
 use Rattle.image.specs.Checks.{checkContents, checkBodies, imageChecks}
-use Rattle.image.specs.CheckLaws.{header-law}
-use borrow.Author.Needs.{needs}
+use Rattle.image.specs.ChecksLaws.{header-law}
 use Rattle.image_checks.proofs.check_image.Statement.{statement}
 use Rattle.image_checks.proofs.check_image.Tie as tie
 

@@ -3,9 +3,9 @@
 use mathlib.Core.Path.{_≡_, ap}
 use Prim.Native.Nat.{suc, _+_, _-_, _*_}
 use native.Mathlib.Omega.{arith}
-use Rattle.image.specs.ByteLaws.{number-small}
-use Rattle.image.specs.Checks.{lowestSlot}
 use borrow.Author.Needs.{needs}
+use Rattle.image.specs.Checks.{lowestSlot}
+use Rattle.image.specs.BytesLaws.{number-small}
 use Rattle.image_checks.proofs.lowest_slot.Statement.{statement}
 use Rattle.image_checks.proofs.lowest_slot.Tie as tie
 

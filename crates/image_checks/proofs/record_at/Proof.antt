@@ -2,11 +2,11 @@
 -- Each word is the number read at its place.
 use Prim.Native.Nat.{_+_, _*_}
 use native.Mathlib.Omega.{arith}
-use Rattle.image.specs.ByteLaws.{number-small}
 use native.Mathlib.Nat.{add-zero}
+use borrow.Author.Needs.{needs}
 use Rattle.records.specs.Record.{listed}
 use Rattle.image.specs.Format.{recordAt}
-use borrow.Author.Needs.{needs}
+use Rattle.image.specs.BytesLaws.{number-small}
 use Rattle.image_checks.proofs.record_at.Statement.{statement}
 use Rattle.image_checks.proofs.record_at.Tie as tie
 

@@ -5,7 +5,7 @@ use native.Mathlib.Omega.{arith}
 use denote.Ref.{now}
 use borrow.Author.Needs.{needs}
 use Rattle.records.specs.Record.{slotWords}
-use Rattle.neighbours.specs.Neighbours.{slot-b-high}
+use Rattle.neighbours.specs.NeighboursLaws.{slot-b-high}
 use Rattle.insert_plans.proofs.choose_insert.Statement.{statement}
 use Rattle.insert_plans.proofs.choose_insert.Tie as tie
 

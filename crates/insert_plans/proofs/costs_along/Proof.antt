@@ -7,8 +7,9 @@ use native.Mathlib.Omega.{arith}
 use lib.ListN.{length, getD, drop}
 use denote.Ref.{now}
 use borrow.Author.Needs.{needs}
-use Rattle.windows.specs.Windows.{endAt, end-high}
-use Rattle.insert_plans.specs.Joined.{numbers-front, costed}
+use Rattle.windows.specs.Windows.{endAt}
+use Rattle.windows.specs.WindowsLaws.{end-high}
+use Rattle.insert_plans.specs.JoinedLaws.{numbers-front, costed}
 use Rattle.insert_plans.proofs.costs_along.Statement.{statement}
 use Rattle.insert_plans.proofs.costs_along.Tie as tie
 

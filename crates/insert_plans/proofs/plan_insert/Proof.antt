@@ -6,9 +6,10 @@ use lib.ListN.{length}
 use denote.Ref.{now}
 use borrow.Author.Needs.{needs}
 use Rattle.records.specs.declared.Check.{Check}
-use Rattle.buffers.specs.Buffers.{bufferAnswer, bufferAfter, buffer-refused}
+use Rattle.buffers.specs.Buffers.{bufferAnswer, bufferAfter}
+use Rattle.buffers.specs.BuffersLaws.{buffer-refused}
 use Rattle.insert_plans.specs.Inserts.{insertWords}
-use Rattle.insert_plans.specs.Demand3.{demand-3-call}
+use Rattle.insert_plans.specs.Demand3Laws.{demand-3-call}
 use Rattle.insert_plans.proofs.plan_insert.Statement.{statement}
 use Rattle.insert_plans.proofs.plan_insert.Tie as tie
 

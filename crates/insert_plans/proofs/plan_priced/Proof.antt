@@ -7,14 +7,15 @@ use native.Mathlib.Omega.{arith}
 use lib.ListN.{length}
 use denote.Ref.{now}
 use borrow.Author.Needs.{needs}
+use Rattle.records.specs.Record.{slotWords}
+use Rattle.records.specs.declared.Check.the-variants.{Pass}
+use Rattle.records.specs.RulesLaws.{record-length}
+use Rattle.buffers.specs.Buffers.{bufferAnswer, bufferAfter}
 use Rattle.costs.specs.Costs.{costOf}
 use Rattle.planner.specs.Choice.{choiceOf}
-use Rattle.records.specs.Record.{slotWords}
-use Rattle.records.specs.Rules.{record-length}
-use Rattle.records.specs.declared.Check.the-variants.{Pass}
 use Rattle.neighbours.specs.Neighbours.{afterA, slotB}
-use Rattle.buffers.specs.Buffers.{bufferAnswer, bufferAfter}
-use Rattle.insert_plans.specs.Inserts.{Joined, choice-joined, insert-length}
+use Rattle.insert_plans.specs.Inserts.{Joined}
+use Rattle.insert_plans.specs.InsertsLaws.{choice-joined, insert-length}
 use Rattle.insert_plans.proofs.plan_priced.Statement.{statement}
 use Rattle.insert_plans.proofs.plan_priced.Tie as tie
 

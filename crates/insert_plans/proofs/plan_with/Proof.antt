@@ -3,7 +3,7 @@
 use native.Mathlib.Omega.{arith}
 use denote.Ref.{now}
 use borrow.Author.Needs.{needs}
-use Rattle.insert_plans.specs.Inserts.{insert-length, insert-records}
+use Rattle.insert_plans.specs.InsertsLaws.{insert-length, insert-records}
 use Rattle.insert_plans.proofs.plan_with.Statement.{statement}
 use Rattle.insert_plans.proofs.plan_with.Tie as tie
 

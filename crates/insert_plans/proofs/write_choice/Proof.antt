@@ -11,7 +11,7 @@ use borrow.Author.Needs.{needs}
 use Rattle.costs.specs.Costs.{costOf}
 use Rattle.planner.specs.Choice.{choiceWords}
 use Rattle.planner.specs.Emit.{Stays}
-use Rattle.insert_plans.specs.Inserts.{write-short, write-done}
+use Rattle.insert_plans.specs.InsertsLaws.{write-short, write-done}
 use Rattle.insert_plans.proofs.write_choice.Statement.{statement}
 use Rattle.insert_plans.proofs.write_choice.Tie as tie
 

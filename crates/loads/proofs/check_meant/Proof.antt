@@ -1,7 +1,7 @@
 -- `loads::check_meant` meets its contract.
 -- Check 4 is made where check 3 passes.
-use Rattle.records.specs.Laws.{failed, passed}
 use borrow.Author.Needs.{needs}
+use Rattle.records.specs.Laws.{failed, passed}
 use Rattle.loads.proofs.check_meant.Statement.{statement}
 use Rattle.loads.proofs.check_meant.Tie as tie
 

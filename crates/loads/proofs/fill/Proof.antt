@@ -7,21 +7,21 @@ use native.Mathlib.Numerals.{add-one}
 use native.Mathlib.Omega.{arith}
 use lib.ListN.{length}
 use Rattle.records.specs.Record.{listed, word, putSlot}
-use Rattle.records.specs.Rules.{listed-words}
+use Rattle.records.specs.RulesLaws.{listed-words}
 use Rattle.image.specs.Format.{recordAt}
-use Rattle.image.specs.Checks.{filled}
+use Rattle.image.specs.Checks.{rulesPut}
 use Rattle.image.specs.LoadLaws.{record-at-length}
 use Rattle.loads.proofs.fill.Statement.{statement}
 use Rattle.loads.proofs.fill.Tie as tie
 
 abbrev Inv-loop : tie.InvT-loop
-Inv-loop image rules table₀ entry₀ table entry = (entry ≤ rules) × (length table ≡ length table₀) × (table ≡ filled 2 image rules table₀ entry)
+Inv-loop image rules table₀ entry₀ table entry = (entry ≤ rules) × (length table ≡ length table₀) × (table ≡ rulesPut 2 image rules table₀ entry)
 
 abbrev μ-loop : tie.MeasureT-loop
 μ-loop image rules table₀ entry₀ table entry = rules - entry
 
 loop-holds : tie.Need-loop-holds Inv-loop μ-loop
-unfolding filled
+unfolding rulesPut
 loop-holds c = (omega arith, refl, refl)
 
 mul-number-at : tie.Need-mul-number-at Inv-loop μ-loop
@@ -49,7 +49,7 @@ loop-less : tie.Need-loop-less Inv-loop μ-loop
 loop-less c = omega arith
 
 loop-again : tie.Need-loop-again Inv-loop μ-loop
-unfolding filled
+unfolding rulesPut
 loop-again c =
     let turn = c .before .before .before .before .before .before .before .loop in
     let a = c .before .before .before .before .before .before .before .before .before .before .args in
@@ -59,8 +59,8 @@ loop-again c =
       omega (arith, c .before .before .put-record .kept, turn .inv .1),
       c .before .before .put-record .ensures
           ∙ (ap₂ (λ (t x : List ℕ). putSlot 2 t (c .before .before .before .before .before .number-at .result) x) (turn .inv .2) (whole ∙ c .before .before .before .record-at .ensures)
-          ∙ (ap (λ (slot : ℕ). putSlot 2 (filled 2 (a .image .now) (a .rules) (a .table .now) (turn .entry)) slot (recordAt 2 (a .image .now) (a .rules) (turn .entry))) (c .before .before .before .before .before .number-at .ensures)
-          ∙ ap (filled 2 (a .image .now) (a .rules) (a .table .now)) (sym (add-one (turn .entry))))),
+          ∙ (ap (λ (slot : ℕ). putSlot 2 (rulesPut 2 (a .image .now) (a .rules) (a .table .now) (turn .entry)) slot (recordAt 2 (a .image .now) (a .rules) (turn .entry))) (c .before .before .before .before .before .number-at .ensures)
+          ∙ ap (rulesPut 2 (a .image .now) (a .rules) (a .table .now)) (sym (add-one (turn .entry))))),
     )
 
 same-length : tie.Need-same-length Inv-loop μ-loop
@@ -70,7 +70,7 @@ returns : tie.Need-returns Inv-loop μ-loop
 returns c =
     let a = c .before .before .before .before .args in
     let end : c .before .loop .entry ≡ a .rules = omega arith in
-    c .before .loop .inv .2 ∙ ap (filled 2 (a .image .now) (a .rules) (a .table .now)) end
+    c .before .loop .inv .2 ∙ ap (rulesPut 2 (a .image .now) (a .rules) (a .table .now)) end
 
 pub fill-spec : {M : Type 1} → statement M
 fill-spec =

@@ -4,11 +4,11 @@ use mathlib.Core.Path.{sym, _∙_}
 use Prim.Native.Nat.{_/_}
 use native.Mathlib.Omega.{arith}
 use lib.ListN.{length}
+use borrow.Author.Needs.{needs}
 use Rattle.records.specs.Checks.{checkShape}
 use Rattle.records.specs.Laws.{or-else-pass, shape-length}
 use Rattle.image.specs.Checks.{imageChecks}
 use Rattle.image.specs.LoadLaws.{load-wrong, front-zeros}
-use borrow.Author.Needs.{needs}
 use Rattle.loads.proofs.load.Statement.{statement}
 use Rattle.loads.proofs.load.Tie as tie
 

@@ -5,13 +5,13 @@ use mathlib.Core.List.{List}
 use Prim.Native.Nat.{ℕ, _/_}
 use native.Mathlib.Omega.{arith}
 use lib.ListN.{length, length-replicate}
-use Rattle.records.specs.Checks.{orElse, checkRecords, checkTwice, checkOrder}
-use Rattle.records.specs.Entries.{shaped-slots}
-use Rattle.records.specs.Laws.{shape-length}
-use Rattle.image.specs.Checks.{meant}
-use Rattle.image.specs.Resaving.{meant-records}
-use Rattle.image.specs.LoadLaws.{fields-shape, fields-sound, meant-built, load-unsound, load-written}
 use borrow.Author.Needs.{needs}
+use Rattle.records.specs.Checks.{orElse, checkRecords, checkTwice, checkOrder}
+use Rattle.records.specs.Laws.{shape-length}
+use Rattle.records.specs.EntriesLaws.{shaped-slots}
+use Rattle.image.specs.Checks.{meant}
+use Rattle.image.specs.LoadLaws.{fields-shape, fields-sound, meant-built, load-unsound, load-written}
+use Rattle.image.specs.ResavingLaws.{meant-records}
 use Rattle.loads.proofs.load_through.Statement.{statement}
 use Rattle.loads.proofs.load_through.Tie as tie
 

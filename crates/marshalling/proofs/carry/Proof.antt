@@ -4,7 +4,7 @@ use mathlib.Core.Path.{refl, sym, ap, _∙_}
 use denote.Ref.{now}
 use borrow.Author.Needs.{needs}
 use Rattle.carrying.specs.Carrying.{stepTold}
-use Rattle.marshalling.specs.Carried.{carried-refused, carry-ends}
+use Rattle.marshalling.specs.CarriedLaws.{carried-refused, carry-ends}
 use Rattle.marshalling.proofs.carry.Statement.{statement}
 use Rattle.marshalling.proofs.carry.Tie as tie
 

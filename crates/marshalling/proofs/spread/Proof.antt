@@ -5,7 +5,8 @@ use denote.Ref.{now}
 use borrow.Author.Needs.{needs}
 use Rattle.records.specs.Checks.{Told}
 use Rattle.buffers.specs.Buffers.{planTold}
-use Rattle.marshalling.specs.Cells.{dataCell, spotCell, refusal-kept, refusal-put}
+use Rattle.marshalling.specs.Cells.{dataCell, spotCell}
+use Rattle.marshalling.specs.CellsLaws.{refusal-kept, refusal-put}
 use Rattle.marshalling.proofs.spread.Statement.{statement}
 use Rattle.marshalling.proofs.spread.Tie as tie
 

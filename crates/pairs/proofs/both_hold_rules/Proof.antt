@@ -7,8 +7,8 @@ use native.Mathlib.Omega.{arith}
 use lib.Dec.{eqb}
 use borrow.Author.Tests.{eq-eqb, ne-eqb}
 use denote.Ref.{now}
-use Rattle.records.specs.Laws.{id-word}
 use borrow.Author.Needs.{needs}
+use Rattle.records.specs.Laws.{id-word}
 use Rattle.pairs.proofs.both_hold_rules.Statement.{statement}
 use Rattle.pairs.proofs.both_hold_rules.Tie as tie
 

@@ -2,8 +2,8 @@
 -- The ids are compared where both slots are occupied.
 use mathlib.Core.Path.{sym, _∙_}
 use mathlib.Core.Bool.{and-true, and-false}
-use Rattle.records.specs.Order.{distinct}
 use borrow.Author.Needs.{needs}
+use Rattle.records.specs.Order.{distinct}
 use Rattle.pairs.proofs.distinct_rules.Statement.{statement}
 use Rattle.pairs.proofs.distinct_rules.Tie as tie
 

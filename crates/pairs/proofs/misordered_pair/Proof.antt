@@ -3,8 +3,8 @@
 use mathlib.Core.Path.{sym, ap₂, _∙_}
 use lib.Dec.{leb}
 use borrow.Author.Tests.{le-leb, lt-leb}
-use Rattle.records.specs.Order.{misordered-asked, misordered-higher}
 use borrow.Author.Needs.{needs}
+use Rattle.records.specs.OrderLaws.{misordered-asked, misordered-higher}
 use Rattle.pairs.proofs.misordered_pair.Statement.{statement}
 use Rattle.pairs.proofs.misordered_pair.Tie as tie
 

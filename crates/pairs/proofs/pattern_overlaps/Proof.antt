@@ -2,10 +2,11 @@
 -- The words read are the slot's; the low ones are asked where the high ones overlap.
 use mathlib.Core.Path.{ap₂, _∙_}
 use Prim.Native.Nat.{ℕ}
+use borrow.Author.Needs.{needs}
+use Rattle.search.specs.Search.{all}
+use Rattle.search.specs.SearchLaws.{and-more, and-stop}
 use Rattle.ternary.specs.Word.{agree, both}
 use Rattle.ternary.specs.Pattern.{overlaps}
-use Rattle.search.specs.Search.{all, and-more, and-stop}
-use borrow.Author.Needs.{needs}
 use Rattle.pairs.proofs.pattern_overlaps.Statement.{statement}
 use Rattle.pairs.proofs.pattern_overlaps.Tie as tie
 

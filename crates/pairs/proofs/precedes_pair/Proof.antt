@@ -4,7 +4,7 @@ use mathlib.Core.Bool.{_&&_}
 use mathlib.Core.Path.{ap₂}
 use lib.Dec.{ltb}
 use borrow.Author.Needs.{needs}
-use Rattle.search.specs.Search.{and-more, and-stop}
+use Rattle.search.specs.SearchLaws.{and-more, and-stop}
 use Rattle.records.specs.Order.{precedes}
 use Rattle.pairs.proofs.precedes_pair.Statement.{statement}
 use Rattle.pairs.proofs.precedes_pair.Tie as tie

@@ -4,8 +4,8 @@ use mathlib.Core.Path.{sym, ap₂, _∙_}
 use mathlib.Core.Bool.{and-false}
 use lib.Dec.{eqb}
 use borrow.Author.Tests.{eq-eqb, ne-eqb, not-true, not-false}
-use Rattle.records.specs.Order.{distinct}
 use borrow.Author.Needs.{needs}
+use Rattle.records.specs.Order.{distinct}
 use Rattle.pairs.proofs.rules_overlap.Statement.{statement}
 use Rattle.pairs.proofs.rules_overlap.Tie as tie
 

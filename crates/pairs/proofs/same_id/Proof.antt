@@ -4,7 +4,7 @@ use mathlib.Core.Path.{ap₂}
 use lib.Dec.{eqb}
 use borrow.Author.Tests.{eq-eqb, ne-eqb}
 use borrow.Author.Needs.{needs}
-use Rattle.search.specs.Search.{and-more, and-stop}
+use Rattle.search.specs.SearchLaws.{and-more, and-stop}
 use Rattle.records.specs.Order.{sameId}
 use Rattle.pairs.proofs.same_id.Statement.{statement}
 use Rattle.pairs.proofs.same_id.Tie as tie

@@ -1,9 +1,9 @@
 -- `pairs::slots_overlap` meets its contract.
 -- The words at hand are the other slot's.
 use mathlib.Core.Path.{_∙_}
-use Rattle.ternary.specs.Pattern.{overlaps}
-use Rattle.search.specs.Search.{all}
 use borrow.Author.Needs.{needs}
+use Rattle.search.specs.Search.{all}
+use Rattle.ternary.specs.Pattern.{overlaps}
 use Rattle.pairs.proofs.slots_overlap.Statement.{statement}
 use Rattle.pairs.proofs.slots_overlap.Tie as tie
 

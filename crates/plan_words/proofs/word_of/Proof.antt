@@ -2,9 +2,9 @@
 -- Each case of a write is joined from its halves.
 use mathlib.Core.Path.{sym, ap, subst, _∙_}
 use native.Mathlib.Omega.{arith}
+use borrow.Author.Needs.{needs}
 use Rattle.plan_words.specs.PlanWords.{writeWord, writeMeant, SlotsBelow}
 use Rattle.plan_words.specs.declared.PlanWrite.{PlanWrite}
-use borrow.Author.Needs.{needs}
 use Rattle.plan_words.proofs.word_of.Statement.{statement}
 use Rattle.plan_words.proofs.word_of.Tie as tie
 

@@ -3,12 +3,13 @@
 use mathlib.Core.Path.{_≡_}
 use lib.ListN.{length-set}
 use native.Mathlib.Omega.{arith}
-use Rattle.layout.specs.Chain.{firstOfCost}
-use Rattle.costs.specs.Costs.{costOf}
-use Rattle.planner.specs.Emit.{emitted, emitted-stored, first-after, stays-here, stays-next}
 use Prim.Native.Nat.{ℕ, _-_, _<_}
 use borrow.Fn.Kinds.{In}
 use borrow.Fn.PlainCycle.{Measures, is, falls, and}
+use Rattle.layout.specs.Chain.{firstOfCost}
+use Rattle.costs.specs.Costs.{costOf}
+use Rattle.planner.specs.Emit.{emitted}
+use Rattle.planner.specs.EmitLaws.{emitted-stored, first-after, stays-here, stays-next}
 use Rattle.planner.proofs.emit.Reads as emit
 use Rattle.planner.proofs.emit.Kinds as emit-kinds
 use Rattle.planner.proofs.+emit.Lts-emit as emit-lts

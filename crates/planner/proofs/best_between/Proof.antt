@@ -1,7 +1,7 @@
 -- `planner::best_between` meets its contract.
 -- The first position of least cost is searched for once that cost is known.
-use Rattle.planner.specs.Choice.{best-found}
 use borrow.Author.Needs.{needs}
+use Rattle.planner.specs.ChoiceLaws.{best-found}
 use Rattle.planner.proofs.best_between.Statement.{statement}
 use Rattle.planner.proofs.best_between.Tie as tie
 

@@ -1,7 +1,7 @@
 -- `planner::choose` meets its contract.
 -- Each range is cut to the slots there are, and the range going up is turned to positions.
-use Rattle.planner.specs.Choice.{choice-found}
 use borrow.Author.Needs.{needs}
+use Rattle.planner.specs.ChoiceLaws.{choice-found}
 use Rattle.planner.proofs.choose.Statement.{statement}
 use Rattle.planner.proofs.choose.Tie as tie
 

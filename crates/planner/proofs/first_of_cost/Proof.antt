@@ -6,7 +6,7 @@ use native.Mathlib.Omega.{arith}
 use lib.Dec.{eqb}
 use borrow.Author.Tests.{eq-eqb, ne-eqb}
 use Rattle.search.specs.Search.{least}
-use Rattle.search.specs.Parts.{least-at-start, least-further, least-over}
+use Rattle.search.specs.PartsLaws.{least-at-start, least-further, least-over}
 use Rattle.costs.specs.Costs.{costOf}
 use Rattle.planner.proofs.first_of_cost.Statement.{statement}
 use Rattle.planner.proofs.first_of_cost.Tie as tie

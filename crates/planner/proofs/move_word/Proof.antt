@@ -2,8 +2,8 @@
 -- Both slots are below 1,024.
 use Prim.Native.Nat.{_<_}
 use native.Mathlib.Omega.{arith}
-use Rattle.positions.specs.PositionsLaws.{slot-below}
 use borrow.Author.Needs.{needs}
+use Rattle.positions.specs.PositionsLaws.{slot-below}
 use Rattle.planner.proofs.move_word.Statement.{statement}
 use Rattle.planner.proofs.move_word.Tie as tie
 

@@ -2,7 +2,7 @@
 -- The two returns are the two outcomes of the definition's test.
 use mathlib.Core.Path.{sym}
 use native.Mathlib.Omega.{arith}
-use Rattle.planner.specs.Choice.{preferred-down, preferred-up}
+use Rattle.planner.specs.ChoiceLaws.{preferred-down, preferred-up}
 use Rattle.planner.proofs.prefer.Statement.{statement}
 use Rattle.planner.proofs.prefer.Tie as tie
 

@@ -3,12 +3,12 @@
 use mathlib.Core.Path.{ap, _∙_}
 use Prim.Native.Nat.{ℕ, _<_}
 use native.Mathlib.Omega.{arith}
+use borrow.Author.Needs.{needs}
 use Rattle.layout.specs.Write.{put}
 use Rattle.plan_words.specs.PlanWords.{writeWord}
-use Rattle.planner.specs.Emit.{stays-here}
 use Rattle.positions.specs.PositionsLaws.{slot-below}
-use Rattle.planner.specs.Choice.{plan-stored}
-use borrow.Author.Needs.{needs}
+use Rattle.planner.specs.EmitLaws.{stays-here}
+use Rattle.planner.specs.ChoiceLaws.{plan-stored}
 use Rattle.planner.proofs.write_plan.Statement.{statement}
 use Rattle.planner.proofs.write_plan.Tie as tie
 

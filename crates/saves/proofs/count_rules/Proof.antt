@@ -6,8 +6,9 @@ use Prim.Native.Nat.{ℕ, _-_, _/_, _≤_}
 use native.Mathlib.Omega.{arith}
 use mathlib.Core.Logic.{⊎-elim}
 use lib.ListN.{length}
-use Rattle.image.specs.Indices.{indices, count-high, count-more, count-same}
+use Rattle.image.specs.Indices.{indices}
 use Rattle.image.specs.Format.{holds}
+use Rattle.image.specs.IndicesLaws.{count-high, count-more, count-same}
 use Rattle.saves.proofs.count_rules.Statement.{statement}
 use Rattle.saves.proofs.count_rules.Tie as tie
 

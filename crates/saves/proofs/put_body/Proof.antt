@@ -5,12 +5,12 @@ use mathlib.Core.List.{_++_}
 use Prim.Native.Nat.{ℕ, _+_, _%_}
 use native.Mathlib.Omega.{arith}
 use lib.ListN.{length-append}
+use borrow.Author.Needs.{needs}
 use Rattle.records.specs.Record.{slotWords}
 use Rattle.image.specs.Bytes.{bytesOf, pieces, store}
-use Rattle.image.specs.ByteLaws.{length-bytes, store-then}
 use Rattle.image.specs.Format.{bodyOf}
 use Rattle.image.specs.SaveLaws.{words-length}
-use borrow.Author.Needs.{needs}
+use Rattle.image.specs.BytesLaws.{length-bytes, store-then}
 use Rattle.saves.proofs.put_body.Statement.{statement}
 use Rattle.saves.proofs.put_body.Tie as tie
 

@@ -4,10 +4,10 @@ use mathlib.Core.List.{_++_}
 use Prim.Native.Nat.{_+_}
 use native.Mathlib.Omega.{arith}
 use lib.ListN.{length-append}
-use Rattle.image.specs.Bytes.{bytesOf}
-use Rattle.image.specs.ByteLaws.{length-bytes, store-then}
-use Rattle.image.specs.Format.{entryOf}
 use borrow.Author.Needs.{needs}
+use Rattle.image.specs.Bytes.{bytesOf}
+use Rattle.image.specs.Format.{entryOf}
+use Rattle.image.specs.BytesLaws.{length-bytes, store-then}
 use Rattle.saves.proofs.put_entry.Statement.{statement}
 use Rattle.saves.proofs.put_entry.Tie as tie
 

@@ -3,9 +3,9 @@
 use mathlib.Core.Path.{ap, _∙_}
 use Prim.Native.Nat.{ℕ}
 use native.Mathlib.Omega.{arith}
+use borrow.Author.Needs.{needs}
 use Rattle.image.specs.Bytes.{bytesOf, store}
 use Rattle.image.specs.SaveLaws.{stored, image-stored}
-use borrow.Author.Needs.{needs}
 use Rattle.saves.proofs.put_image.Statement.{statement}
 use Rattle.saves.proofs.put_image.Tie as tie
 

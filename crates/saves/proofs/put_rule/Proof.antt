@@ -3,10 +3,10 @@
 use mathlib.Core.Path.{ap, _∙_}
 use mathlib.Core.List.{List}
 use Prim.Native.Nat.{ℕ}
+use borrow.Author.Needs.{needs}
 use Rattle.records.specs.Record.{slotWords}
 use Rattle.image.specs.Bytes.{store}
 use Rattle.image.specs.Format.{entryPlace, bodyPlace, entryOf, bodyOf}
-use borrow.Author.Needs.{needs}
 use Rattle.saves.proofs.put_rule.Statement.{statement}
 use Rattle.saves.proofs.put_rule.Tie as tie
 

@@ -8,7 +8,7 @@ use native.Mathlib.Omega.{arith}
 use lib.ListN.{length}
 use Rattle.records.specs.Record.{slotWords}
 use Rattle.image.specs.Bytes.{bytesOf, store, pieces}
-use Rattle.image.specs.ByteLaws.{length-bytes, pieces-length, store-none, store-then}
+use Rattle.image.specs.BytesLaws.{length-bytes, pieces-length, store-none, store-then}
 use Rattle.saves.proofs.put_words.Statement.{statement}
 use Rattle.saves.proofs.put_words.Tie as tie
 

@@ -5,15 +5,15 @@ use mathlib.Core.List.{List, [], _∷_}
 use Prim.Native.Nat.{ℕ, _≤_}
 use native.Mathlib.Omega.{arith}
 use lib.ListN.{length}
+use borrow.Author.Needs.{needs}
 use Rattle.records.specs.Checks.{success, refusal, tableChecks}
 use Rattle.records.specs.Laws.{table-checks-length}
 use Rattle.records.specs.declared.Check.the-variants.{Pass}
 use Rattle.records.specs.declared.Check.{Check}
 use Rattle.records.specs.declared.Cause.the-variants.{Short}
-use Rattle.buffers.specs.Buffers.{buffer-refused, buffer-short, buffer-written}
+use Rattle.buffers.specs.BuffersLaws.{buffer-refused, buffer-short, buffer-written}
 use Rattle.image.specs.Format.{imageBytes, ruleCount, imageOf}
 use Rattle.image.specs.SaveLaws.{image-length, save-answer, rules-small}
-use borrow.Author.Needs.{needs}
 use Rattle.saves.proofs.save.Statement.{statement}
 use Rattle.saves.proofs.save.Tie as tie
 

@@ -2,8 +2,8 @@
 -- Four slots of higher priority are in order before the slot.
 use mathlib.Core.Path.{sym, _∙_}
 use denote.Ref.{now}
-use Rattle.scans.specs.Scans.{four-higher}
 use borrow.Author.Needs.{needs}
+use Rattle.scans.specs.ScansLaws.{four-higher}
 use Rattle.scans.proofs.first_of_four.Statement.{statement}
 use Rattle.scans.proofs.first_of_four.Tie as tie
 

@@ -4,9 +4,10 @@ use mathlib.Core.Path.{sym}
 use native.Mathlib.Omega.{arith}
 use denote.Ref.{now}
 use borrow.Author.Needs.{needs}
-use Rattle.search.specs.Search.{NoneAbove, none-above, after-last-none}
-use Rattle.search.specs.Parts.{none-above-weaker, none-above-join, none-above-part, last-in-part}
-use Rattle.scans.specs.Scans.{notAfter, apart}
+use Rattle.search.specs.SearchLaws.{NoneAbove, none-above, after-last-none}
+use Rattle.search.specs.PartsLaws.{none-above-weaker, none-above-join, none-above-part, last-in-part}
+use Rattle.scans.specs.Scans.{notAfter}
+use Rattle.scans.specs.ScansLaws.{apart}
 use Rattle.scans.proofs.last_not_after.Statement.{statement}
 use Rattle.scans.proofs.last_not_after.Tie as tie
 

@@ -4,8 +4,8 @@ use mathlib.Core.Path.{ap}
 use mathlib.Core.Bool.{not}
 use Prim.Native.Nat.{ℕ}
 use lib.Dec.{eqb}
-use Rattle.search.specs.Search.{and-more, and-stop}
 use borrow.Author.Needs.{needs}
+use Rattle.search.specs.SearchLaws.{and-more, and-stop}
 use Rattle.scans.proofs.rule_overlaps.Statement.{statement}
 use Rattle.scans.proofs.rule_overlaps.Tie as tie
 

@@ -6,7 +6,7 @@ use native.Mathlib.Omega.{arith}
 use lib.ListN.{length, getD, length-set}
 use denote.Ref.{now}
 use borrow.Author.Needs.{needs}
-use Rattle.script.specs.Laws.{zero-more, zeros}
+use Rattle.script.specs.ScriptLaws.{zero-more, zeros}
 use Rattle.script.proofs.clear_words.Statement.{statement}
 use Rattle.script.proofs.clear_words.Tie as tie
 

@@ -6,8 +6,8 @@ use Prim.Native.Nat.{_*_}
 use lib.ListN.{length, take}
 use lib.Seq.{length-take-le}
 use denote.Ref.{now}
-use Rattle.script.specs.Laws.{left-changed}
 use borrow.Author.Needs.{needs}
+use Rattle.script.specs.ScriptLaws.{left-changed}
 use Rattle.script.proofs.insert_in.Statement.{statement}
 use Rattle.script.proofs.insert_in.Tie as tie
 

@@ -4,8 +4,8 @@ use mathlib.Core.Path.{refl, sym}
 use native.Mathlib.Omega.{arith}
 use lib.Seq.{length-take-le}
 use denote.Ref.{now}
-use Rattle.script.specs.Laws.{left-kept}
 use borrow.Author.Needs.{needs}
+use Rattle.script.specs.ScriptLaws.{left-kept}
 use Rattle.script.proofs.lookup_in.Statement.{statement}
 use Rattle.script.proofs.lookup_in.Tie as tie
 

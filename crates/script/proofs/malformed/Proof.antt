@@ -2,9 +2,9 @@
 -- The cause is 13.
 use mathlib.Core.Path.{refl, ap}
 use Prim.Native.Nat.{ℕ}
-use Rattle.script_answers.specs.Answers.{refusalBytes}
-use Rattle.script_operations.specs.Laws.{shown-is}
 use borrow.Author.Needs.{needs}
+use Rattle.script_answers.specs.Answers.{refusalBytes}
+use Rattle.script_operations.specs.OutcomesLaws.{shown-is}
 use Rattle.script.proofs.malformed.Statement.{statement}
 use Rattle.script.proofs.malformed.Tie as tie
 

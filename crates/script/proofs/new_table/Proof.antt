@@ -5,9 +5,9 @@ use Prim.Native.Nat.{ℕ, _*_}
 use lib.ListN.{replicate}
 use lib.Seq.{length-take-le}
 use denote.Ref.{now}
-use Rattle.script.specs.Told.{table-told, table-untold}
-use Rattle.script.specs.Laws.{slots-fit, table-made, table-refused}
 use borrow.Author.Needs.{needs}
+use Rattle.script.specs.ToldLaws.{table-told, table-untold}
+use Rattle.script.specs.ScriptLaws.{slots-fit, table-made, table-refused}
 use Rattle.script.proofs.new_table.Statement.{statement}
 use Rattle.script.proofs.new_table.Tie as tie
 

@@ -4,6 +4,7 @@ use mathlib.Core.Path.{sym, ap, _∙_}
 use mathlib.Core.List.{List}
 use Prim.Native.Nat.{ℕ}
 use denote.Ref.{now}
+use borrow.Author.Needs.{needs}
 use Rattle.records.specs.Record.{word}
 use Rattle.records.specs.declared.Rule.{Rule}
 use Rattle.lookups.specs.Lookup.{lookupAnswer}
@@ -12,8 +13,7 @@ use Rattle.script_operations.specs.Told.{changeTold, lookedTold}
 use Rattle.script_operations.specs.Outcomes.{insertOutcome}
 use Rattle.script.specs.Told.{commandTold}
 use Rattle.script.specs.Script.{lookupOutcome, commandOutcome, tableIn}
-use Rattle.script.specs.Laws.{left-is, left-malformed}
-use borrow.Author.Needs.{needs}
+use Rattle.script.specs.ScriptLaws.{left-is, left-malformed}
 use Rattle.script.proofs.run_command.Statement.{statement}
 use Rattle.script.proofs.run_command.Tie as tie
 

@@ -5,11 +5,11 @@ use mathlib.Core.List.{List}
 use Prim.Native.Nat.{ℕ}
 use lib.ListN.{length}
 use denote.Ref.{now}
+use borrow.Author.Needs.{needs}
 use Rattle.script_commands.specs.declared.Command.{Command}
 use Rattle.script.specs.Script.{commandOutcome, tableIn}
 use Rattle.script.specs.Told.{commandTold}
-use Rattle.script.specs.Laws.{left-is, table-present}
-use borrow.Author.Needs.{needs}
+use Rattle.script.specs.ScriptLaws.{left-is, table-present}
 use Rattle.script.proofs.run_line.Statement.{statement}
 use Rattle.script.proofs.run_line.Tie as tie
 

@@ -1,9 +1,9 @@
 -- `script_answers::print_hit` meets its contract.
 -- Three numbers of 32 bits have at most 30 digits.
 use native.Mathlib.Omega.{arith}
+use Rattle.script_printing.specs.PrintingLaws.{printed-shown}
+use Rattle.script_printing.specs.PrintedLinesLaws.{length-three, digits-10}
 use Rattle.script_answers.specs.Answers.{hitBytes}
-use Rattle.script_printing.specs.Printing.{shown}
-use Rattle.script_printing.specs.Lines.{length-three, digits-10}
 use Rattle.script_answers.proofs.print_hit.Statement.{statement}
 use Rattle.script_answers.proofs.print_hit.Tie as tie
 
@@ -16,7 +16,7 @@ line-of-three-requires c κs =
 returns : tie.Need-returns
 returns c =
     let args = c .before .before .args in
-    shown (args .out .now) (hitBytes (args .slot) (args .id) (args .action)) (c .line-of-three .result) (c .line-of-three .last .0) (c .line-of-three .ensures)
+    printed-shown (args .out .now) (hitBytes (args .slot) (args .id) (args .action)) (c .line-of-three .result) (c .line-of-three .last .0) (c .line-of-three .ensures)
 
 pub print-hit-spec : {M : Type 1} → statement M
 print-hit-spec = tie.close (tie.spec line-of-three-requires returns)

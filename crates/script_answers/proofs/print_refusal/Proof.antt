@@ -1,9 +1,9 @@
 -- `script_answers::print_refusal` meets its contract.
 -- A number of 32 bits and one of 64 bits have at most 30 digits.
 use native.Mathlib.Omega.{arith}
+use Rattle.script_printing.specs.PrintingLaws.{printed-shown}
+use Rattle.script_printing.specs.PrintedLinesLaws.{length-two, digits-10, digits-20}
 use Rattle.script_answers.specs.Answers.{refusalBytes}
-use Rattle.script_printing.specs.Printing.{shown}
-use Rattle.script_printing.specs.Lines.{length-two, digits-10, digits-20}
 use Rattle.script_answers.proofs.print_refusal.Statement.{statement}
 use Rattle.script_answers.proofs.print_refusal.Tie as tie
 
@@ -16,7 +16,7 @@ line-of-two-requires c κs =
 returns : tie.Need-returns
 returns c =
     let args = c .before .before .args in
-    shown (args .out .now) (refusalBytes (args .number) (args .spot)) (c .line-of-two .result) (c .line-of-two .last .0) (c .line-of-two .ensures)
+    printed-shown (args .out .now) (refusalBytes (args .number) (args .spot)) (c .line-of-two .result) (c .line-of-two .last .0) (c .line-of-two .ensures)
 
 pub print-refusal-spec : {M : Type 1} → statement M
 print-refusal-spec = tie.close (tie.spec line-of-two-requires returns)

@@ -1,9 +1,9 @@
 -- `script_answers::print_table` meets its contract.
 -- A number of 32 bits has at most 10 digits.
 use native.Mathlib.Omega.{arith}
+use Rattle.script_printing.specs.PrintingLaws.{printed-shown}
+use Rattle.script_printing.specs.PrintedLinesLaws.{length-one, digits-10}
 use Rattle.script_answers.specs.Answers.{tableBytes}
-use Rattle.script_printing.specs.Printing.{shown}
-use Rattle.script_printing.specs.Lines.{length-one, digits-10}
 use Rattle.script_answers.proofs.print_table.Statement.{statement}
 use Rattle.script_answers.proofs.print_table.Tie as tie
 
@@ -16,7 +16,7 @@ line-of-one-requires c κs =
 returns : tie.Need-returns
 returns c =
     let args = c .before .before .args in
-    shown (args .out .now) (tableBytes (args .slots)) (c .line-of-one .result) (c .line-of-one .last .0) (c .line-of-one .ensures)
+    printed-shown (args .out .now) (tableBytes (args .slots)) (c .line-of-one .result) (c .line-of-one .last .0) (c .line-of-one .ensures)
 
 pub print-table-spec : {M : Type 1} → statement M
 print-table-spec = tie.close (tie.spec line-of-one-requires returns)

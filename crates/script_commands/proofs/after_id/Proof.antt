@@ -5,9 +5,9 @@ use mathlib.Core.Path.{sym, ap, _∙_}
 use mathlib.Core.List.{List, _∷_}
 use Prim.Native.Nat.{ℕ}
 use lib.Seq.{length-take-le}
+use borrow.Author.Needs.{needs}
 use Rattle.script_commands.specs.Commands.{afterLetter}
 use Rattle.script_commands.specs.LineLaws.{one-field, more-fields}
-use borrow.Author.Needs.{needs}
 use Rattle.script_commands.proofs.after_id.Statement.{statement}
 use Rattle.script_commands.proofs.after_id.Tie as tie
 

@@ -3,9 +3,9 @@
 use native.Mathlib.Omega.{arith}
 use mathlib.Core.Path.{sym, ap, _∙_}
 use lib.Seq.{length-take-le}
+use borrow.Author.Needs.{needs}
 use Rattle.script_commands.specs.Commands.{afterLetter}
 use Rattle.script_commands.specs.LineLaws.{one-field, more-fields}
-use borrow.Author.Needs.{needs}
 use Rattle.script_commands.proofs.after_letter.Statement.{statement}
 use Rattle.script_commands.proofs.after_letter.Tie as tie
 

@@ -6,9 +6,9 @@ use mathlib.Core.List.{List, _∷_}
 use Prim.Native.Nat.{ℕ}
 use borrow.Author.Tests.{eq-eqb, ne-eqb}
 use lib.Seq.{length-take-le}
+use borrow.Author.Needs.{needs}
 use Rattle.script_commands.specs.Commands.{afterLetter, longCommand}
 use Rattle.script_commands.specs.LineLaws.{one-field, last-field, field-more}
-use borrow.Author.Needs.{needs}
 use Rattle.script_commands.proofs.after_priority.Statement.{statement}
 use Rattle.script_commands.proofs.after_priority.Tie as tie
 

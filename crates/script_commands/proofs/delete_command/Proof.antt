@@ -1,9 +1,9 @@
 -- `script_commands::delete_command` meets its contract.
 -- A number that fits is the field's number.
-use Rattle.script_commands.specs.Commands.{deleteCommand}
-use Rattle.script_fields.specs.FieldLaws.{number-told, number-untold}
-use Rattle.script_commands.specs.declared.Command.the-variants.{Delete}
 use borrow.Author.Needs.{needs}
+use Rattle.script_fields.specs.FieldsLaws.{number-told, number-untold}
+use Rattle.script_commands.specs.Commands.{deleteCommand}
+use Rattle.script_commands.specs.declared.Command.the-variants.{Delete}
 use Rattle.script_commands.proofs.delete_command.Statement.{statement}
 use Rattle.script_commands.proofs.delete_command.Tie as tie
 

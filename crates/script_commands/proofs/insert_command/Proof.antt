@@ -1,8 +1,8 @@
 -- `script_commands::insert_command` meets its contract.
 -- The tests are the definition's in another order, and each number that fits is its field's.
-use Rattle.script_commands.specs.LineLaws.{insert-fits, insert-good, insert-bad}
 use native.Mathlib.Omega.{arith}
 use borrow.Author.Needs.{needs}
+use Rattle.script_commands.specs.LineLaws.{insert-fits, insert-good, insert-bad}
 use Rattle.script_commands.proofs.insert_command.Statement.{statement}
 use Rattle.script_commands.proofs.insert_command.Tie as tie
 

@@ -1,8 +1,8 @@
 -- `script_commands::letter_of` meets its contract.
 -- The test is the definition's.
 use borrow.Author.Tests.{eq-eqb, ne-eqb}
-use Rattle.script_commands.specs.Commands.{letterOf}
 use borrow.Author.Needs.{needs}
+use Rattle.script_commands.specs.Commands.{letterOf}
 use Rattle.script_commands.proofs.letter_of.Statement.{statement}
 use Rattle.script_commands.proofs.letter_of.Tie as tie
 

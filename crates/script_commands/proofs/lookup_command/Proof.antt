@@ -1,7 +1,7 @@
 -- `script_commands::lookup_command` meets its contract.
 -- The test and the words are the definition's.
-use Rattle.script_commands.specs.LineLaws.{lookup-good, lookup-bad}
 use borrow.Author.Needs.{needs}
+use Rattle.script_commands.specs.LineLaws.{lookup-good, lookup-bad}
 use Rattle.script_commands.proofs.lookup_command.Statement.{statement}
 use Rattle.script_commands.proofs.lookup_command.Tie as tie
 

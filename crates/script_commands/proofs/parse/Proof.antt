@@ -3,8 +3,8 @@
 use native.Mathlib.Omega.{arith}
 use mathlib.Core.Path.{sym, _∙_}
 use lib.Seq.{length-take-le}
-use Rattle.script_commands.specs.LineLaws.{line-long, line-one, line-more}
 use borrow.Author.Needs.{needs}
+use Rattle.script_commands.specs.LineLaws.{line-long, line-one, line-more}
 use Rattle.script_commands.proofs.parse.Statement.{statement}
 use Rattle.script_commands.proofs.parse.Tie as tie
 

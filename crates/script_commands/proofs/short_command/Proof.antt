@@ -1,8 +1,8 @@
 -- `script_commands::short_command` meets its contract.
 -- The letter decides, in the definition's order.
 use borrow.Author.Tests.{eq-eqb, ne-eqb}
-use Rattle.script_commands.specs.Commands.{shortCommand}
 use borrow.Author.Needs.{needs}
+use Rattle.script_commands.specs.Commands.{shortCommand}
 use Rattle.script_commands.proofs.short_command.Statement.{statement}
 use Rattle.script_commands.proofs.short_command.Tie as tie
 

@@ -1,9 +1,9 @@
 -- `script_commands::table_command` meets its contract.
 -- A number that fits is the field's number.
-use Rattle.script_commands.specs.Commands.{tableCommand}
-use Rattle.script_fields.specs.FieldLaws.{number-told, number-untold}
-use Rattle.script_commands.specs.declared.Command.the-variants.{Table}
 use borrow.Author.Needs.{needs}
+use Rattle.script_fields.specs.FieldsLaws.{number-told, number-untold}
+use Rattle.script_commands.specs.Commands.{tableCommand}
+use Rattle.script_commands.specs.declared.Command.the-variants.{Table}
 use Rattle.script_commands.proofs.table_command.Statement.{statement}
 use Rattle.script_commands.proofs.table_command.Tie as tie
 

@@ -8,7 +8,7 @@ use lib.ListN.{length, drop}
 use borrow.Author.Tests.{not-true, not-false}
 use Rattle.script_text.specs.Decimal.{every}
 use Rattle.script_fields.specs.Fields.{symbol}
-use Rattle.script_fields.specs.FieldLaws.{every-on, every-stop, every-end}
+use Rattle.script_fields.specs.FieldsLaws.{every-on, every-stop, every-end}
 use Rattle.script_fields.proofs.all_symbols.Statement.{statement}
 use Rattle.script_fields.proofs.all_symbols.Tie as tie
 

@@ -1,9 +1,9 @@
 -- `script_fields::bit_at` meets its contract.
 -- The test is the definition's; past the field's end there is no bit.
 use mathlib.Core.Path.{sym, ap}
-use Rattle.script_fields.specs.Fields.{oneIf}
-use Rattle.script_fields.specs.FieldLaws.{bit-past}
 use borrow.Author.Needs.{needs}
+use Rattle.script_fields.specs.Fields.{oneIf}
+use Rattle.script_fields.specs.FieldsLaws.{bit-past}
 use Rattle.script_fields.proofs.bit_at.Statement.{statement}
 use Rattle.script_fields.proofs.bit_at.Tie as tie
 

@@ -6,9 +6,10 @@ use mathlib.Core.Path.{_≡_, refl, sym, ap, _∙_}
 use Prim.Native.Nat.{ℕ, _+_, _*_, _-_}
 use lib.ListN.{length, getD, drop}
 use borrow.Author.Tests.{leb-true}
-use Rattle.search.specs.Search.{and-left}
-use Rattle.script_text.specs.Decimal.{decimalOn, decimal, digit, decimal-grows}
-use Rattle.script_fields.specs.FieldLaws.{every-at, decimal-on, decimal-end, decimal-small}
+use Rattle.search.specs.SearchLaws.{and-left}
+use Rattle.script_text.specs.Decimal.{decimalOn, decimal, digit}
+use Rattle.script_text.specs.DecimalLaws.{decimal-grows}
+use Rattle.script_fields.specs.FieldsLaws.{every-at, decimal-on, decimal-end, decimal-small}
 use Rattle.script_fields.proofs.decimal_of.Statement.{statement}
 use Rattle.script_fields.proofs.decimal_of.Tie as tie
 

@@ -3,8 +3,8 @@
 use native.Mathlib.Omega.{arith}
 use mathlib.Core.Path.{sym, _∙_}
 use borrow.Author.Tests.{not-true, not-false}
-use Rattle.script_fields.specs.FieldLaws.{number-none, number-long, number-other, number-fits, number-large}
 use borrow.Author.Needs.{needs}
+use Rattle.script_fields.specs.FieldsLaws.{number-none, number-long, number-other, number-fits, number-large}
 use Rattle.script_fields.proofs.number_in.Statement.{statement}
 use Rattle.script_fields.proofs.number_in.Tie as tie
 

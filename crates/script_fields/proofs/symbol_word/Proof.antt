@@ -8,7 +8,7 @@ use Prim.Native.Nat.{ℕ, _+_, _*_, _-_, _≤_}
 use native.Mathlib.Numerals.{add-one}
 use lib.ListN.{getD}
 use Rattle.script_fields.specs.Fields.{bitOf, binary, symbolWord}
-use Rattle.script_fields.specs.FieldLaws.{binary-half, one-if-small}
+use Rattle.script_fields.specs.FieldsLaws.{binary-half, one-if-small}
 use Rattle.script_fields.proofs.symbol_word.Statement.{statement}
 use Rattle.script_fields.proofs.symbol_word.Tie as tie
 

@@ -1,8 +1,9 @@
 -- `script_lines::take_bytes` meets its contract.
 -- The part up to the newline is held; each return is one of the ways in which taking bytes ends.
 use mathlib.Core.Path.{_∙_, ap}
-use Rattle.script_lines.specs.Held.{heldLine, taken-nothing, held-nothing, part-within, part-taken, taken-line, taken-rest}
 use borrow.Author.Needs.{needs}
+use Rattle.script_lines.specs.Held.{heldLine}
+use Rattle.script_lines.specs.HeldLaws.{taken-nothing, held-nothing, part-within, part-taken, taken-line, taken-rest}
 use Rattle.script_lines.proofs.take_bytes.Statement.{statement}
 use Rattle.script_lines.proofs.take_bytes.Tie as tie
 

@@ -3,12 +3,11 @@
 use mathlib.Core.Path.{refl, sym, ap, subst}
 use lib.ListN.{length}
 use lib.Seq.{length-take-le}
-use Rattle.records.specs.Checks.{Told}
-use Rattle.script_operations.specs.Outcomes.{Within}
 use denote.Ref.{now}
-use Rattle.buffers.specs.Buffers.{planTold}
-use Rattle.script_operations.specs.Laws.{changed-planned, changed-refused}
 use borrow.Author.Needs.{needs}
+use Rattle.records.specs.Checks.{Told}
+use Rattle.buffers.specs.Buffers.{planTold}
+use Rattle.script_operations.specs.OutcomesLaws.{WithinRoom, changed-planned, changed-refused}
 use Rattle.script_operations.proofs.carry_and_print.Statement.{statement}
 use Rattle.script_operations.proofs.carry_and_print.Tie as tie
 
@@ -24,7 +23,7 @@ cast-print-plan c = search needs
 slice-aggregate-print-plan : tie.Need-slice-aggregate-print-plan
 slice-aggregate-print-plan c =
     let a = c .before .before .before .before .before .before .before .before .before .before .before .before in
-    sym (length-take-le _ (a .args .plan .now) (subst (λ (x : Told). Within x (length (a .args .plan .now))) (ap planTold (c .before .before .before .before .before .before .before .before .answer .given .1)) (a .pre) refl))
+    sym (length-take-le _ (a .args .plan .now) (subst (λ (x : Told). WithinRoom x (length (a .args .plan .now))) (ap planTold (c .before .before .before .before .before .before .before .before .answer .given .1)) (a .pre) refl))
 
 print-plan-requires : tie.Need-print-plan-requires
 print-plan-requires c κs = search needs

@@ -2,10 +2,10 @@
 -- The plan is carried out and printed, and the answer is the planning call's.
 use mathlib.Core.Path.{ap, _∙_}
 use denote.Ref.{now}
-use Rattle.delete_plans.specs.Deletes.{deleteAnswer}
-use Rattle.script_operations.specs.Laws.{delete-is, changed-is}
-use Rattle.script_operations.specs.Told.{changeTold}
 use borrow.Author.Needs.{needs}
+use Rattle.delete_plans.specs.Deletes.{deleteAnswer}
+use Rattle.script_operations.specs.Told.{changeTold}
+use Rattle.script_operations.specs.OutcomesLaws.{delete-is, changed-is}
 use Rattle.script_operations.proofs.delete.Statement.{statement}
 use Rattle.script_operations.proofs.delete.Tie as tie
 

@@ -3,10 +3,10 @@
 use mathlib.Core.Path.{ap, _∙_}
 use native.Mathlib.Omega.{arith}
 use denote.Ref.{now}
-use Rattle.insert_plans.specs.Inserts.{insertAnswer}
-use Rattle.script_operations.specs.Laws.{insert-is, changed-is}
-use Rattle.script_operations.specs.Told.{changeTold}
 use borrow.Author.Needs.{needs}
+use Rattle.insert_plans.specs.Inserts.{insertAnswer}
+use Rattle.script_operations.specs.Told.{changeTold}
+use Rattle.script_operations.specs.OutcomesLaws.{insert-is, changed-is}
 use Rattle.script_operations.proofs.insert.Statement.{statement}
 use Rattle.script_operations.proofs.insert.Tie as tie
 

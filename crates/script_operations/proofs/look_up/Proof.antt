@@ -1,10 +1,10 @@
 -- `script_operations::look_up` meets its contract.
 -- The answer is the lookup's, and is printed.
 use mathlib.Core.Path.{ap, _∙_}
-use Rattle.script_operations.specs.Outcomes.{lookupBytes}
-use Rattle.script_operations.specs.Laws.{shown-is}
-use Rattle.script_operations.specs.Told.{lookedTold}
 use borrow.Author.Needs.{needs}
+use Rattle.script_operations.specs.Outcomes.{lookupBytes}
+use Rattle.script_operations.specs.Told.{lookedTold}
+use Rattle.script_operations.specs.OutcomesLaws.{shown-is}
 use Rattle.script_operations.proofs.look_up.Statement.{statement}
 use Rattle.script_operations.proofs.look_up.Tie as tie
 

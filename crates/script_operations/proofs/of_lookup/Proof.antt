@@ -1,10 +1,11 @@
 -- `script_operations::of_lookup` meets its contract.
 -- Number and values stay.
 use mathlib.Core.Path.{sym, ap, _∙_}
+use borrow.Author.Needs.{needs}
 use Rattle.lookups.specs.declared.LookupAnswer.{LookupAnswer}
 use Rattle.lookups.specs.Lookup.{lookupTold}
-use Rattle.script_operations.specs.Told.{lookedTold, looked-refused}
-use borrow.Author.Needs.{needs}
+use Rattle.script_operations.specs.Told.{lookedTold}
+use Rattle.script_operations.specs.ToldLaws.{looked-refused}
 use Rattle.script_operations.proofs.of_lookup.Statement.{statement}
 use Rattle.script_operations.proofs.of_lookup.Tie as tie
 

@@ -1,10 +1,11 @@
 -- `script_operations::of_plan` meets its contract.
 -- Number and values stay.
 use mathlib.Core.Path.{sym, ap, _∙_}
+use borrow.Author.Needs.{needs}
 use Rattle.buffers.specs.declared.PlanAnswer.{PlanAnswer}
 use Rattle.buffers.specs.Buffers.{planTold}
-use Rattle.script_operations.specs.Told.{changeTold, change-refused}
-use borrow.Author.Needs.{needs}
+use Rattle.script_operations.specs.Told.{changeTold}
+use Rattle.script_operations.specs.ToldLaws.{change-refused}
 use Rattle.script_operations.proofs.of_plan.Statement.{statement}
 use Rattle.script_operations.proofs.of_plan.Tie as tie
 

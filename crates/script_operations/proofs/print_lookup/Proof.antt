@@ -1,10 +1,10 @@
 -- `script_operations::print_lookup` meets its contract.
 -- Each answer is printed as its case says.
 use mathlib.Core.Path.{sym, ap, _∙_}
+use borrow.Author.Needs.{needs}
 use Rattle.lookups.specs.Lookup.{lookupTold}
 use Rattle.script_operations.specs.Outcomes.{lookupBytes}
-use Rattle.script_operations.specs.Laws.{shown-is, bytes-refused}
-use borrow.Author.Needs.{needs}
+use Rattle.script_operations.specs.OutcomesLaws.{shown-is, bytes-refused}
 use Rattle.script_operations.proofs.print_lookup.Statement.{statement}
 use Rattle.script_operations.proofs.print_lookup.Tie as tie
 

@@ -2,9 +2,9 @@
 -- The number printed is the cause's.
 use mathlib.Core.Path.{ap}
 use Prim.Native.Nat.{ℕ}
-use Rattle.script_answers.specs.Answers.{refusalBytes}
-use Rattle.script_operations.specs.Laws.{shown-is}
 use borrow.Author.Needs.{needs}
+use Rattle.script_answers.specs.Answers.{refusalBytes}
+use Rattle.script_operations.specs.OutcomesLaws.{shown-is}
 use Rattle.script_operations.proofs.refuse.Statement.{statement}
 use Rattle.script_operations.proofs.refuse.Tie as tie
 

@@ -6,8 +6,8 @@ use Prim.Native.Nat.{ℕ, _<_}
 use lib.ListN.{length}
 use borrow.Fn.Kinds.{In}
 use borrow.Fn.PlainCycle.{Measures, is, falls, and}
-use Rattle.script_text.specs.Decimal.{digits-one, digits-more, digits-longer}
-use Rattle.script_printing.specs.Printing.{printed-then}
+use Rattle.script_text.specs.DecimalLaws.{digits-one, digits-more, digits-longer}
+use Rattle.script_printing.specs.PrintingLaws.{printed-then}
 use Rattle.script_printing.proofs.put_number.Reads as put-number
 use Rattle.script_printing.proofs.put_number.Kinds as put-number-kinds
 use Rattle.script_printing.proofs.+put_number.Lts-put_number as put-number-lts

@@ -3,21 +3,21 @@
 use native.Mathlib.Omega.{arith}
 use mathlib.Core.Path.{_∙_}
 use mathlib.Core.List.{[], _∷_}
-use Rattle.script_printing.specs.Printing.{room-first, room-next, both}
-use Rattle.script_printing.specs.Lines.{fields}
+use Rattle.script_printing.specs.PrintedLines.{printedFields}
+use Rattle.script_printing.specs.PrintingLaws.{room-first, room-next, both-printed}
 use Rattle.script_printing.proofs.line_of_one.Statement.{statement}
 use Rattle.script_printing.proofs.line_of_one.Tie as tie
 
 put-byte-requires : tie.Need-put-byte-requires
 put-byte-requires c κs =
     let start = c .before .before in
-    omega (arith, room-first (start .args .out .now) (start .args .at) (start .args .letter ∷ []) (fields (start .args .number ∷ [])) (start .pre))
+    omega (arith, room-first (start .args .out .now) (start .args .at) (start .args .letter ∷ []) (printedFields (start .args .number ∷ [])) (start .pre))
 
 last-field-requires : tie.Need-last-field-requires
 last-field-requires c κs =
     let start = c .before .before .before .before .before .before in
     let first = c .before .before .before .put-byte in
-    room-next (start .args .out .now) (start .args .at) (start .args .letter ∷ []) (fields (start .args .number ∷ [])) (start .pre) (first .ensures) (first .kept .0)
+    room-next (start .args .out .now) (start .args .at) (start .args .letter ∷ []) (printedFields (start .args .number ∷ [])) (start .pre) (first .ensures) (first .kept .0)
 
 same-length : tie.Need-same-length
 same-length c = c .before .before .last-field .kept .0 ∙ c .before .before .before .before .before .before .put-byte .kept .0
@@ -25,7 +25,7 @@ same-length c = c .before .before .last-field .kept .0 ∙ c .before .before .be
 returns : tie.Need-returns
 returns c =
     let start = c .before .before .before .before .before .before .before .before .before in
-    both (start .args .out .now) (start .args .at) (start .args .letter ∷ []) (fields (start .args .number ∷ [])) (start .pre) (c .before .before .before .before .before .before .put-byte .ensures) (c .before .before .last-field .ensures)
+    both-printed (start .args .out .now) (start .args .at) (start .args .letter ∷ []) (printedFields (start .args .number ∷ [])) (start .pre) (c .before .before .before .before .before .before .put-byte .ensures) (c .before .before .last-field .ensures)
 
 pub line-of-one-spec : {M : Type 1} → statement M
 line-of-one-spec = tie.close (tie.spec put-byte-requires last-field-requires same-length returns)

@@ -1,7 +1,7 @@
 -- `script_printing::put_byte` meets its contract.
 -- A store at a place prints one byte.
-use Rattle.script_printing.specs.Printing.{printed-one}
 use borrow.Author.Needs.{needs}
+use Rattle.script_printing.specs.PrintingLaws.{printed-one}
 use Rattle.script_printing.proofs.put_byte.Statement.{statement}
 use Rattle.script_printing.proofs.put_byte.Tie as tie
 

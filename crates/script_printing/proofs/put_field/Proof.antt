@@ -3,8 +3,8 @@
 use native.Mathlib.Omega.{arith}
 use mathlib.Core.Path.{_∙_}
 use mathlib.Core.List.{[], _∷_}
-use Rattle.script_printing.specs.Printing.{room-first, room-next, both}
 use Rattle.script_text.specs.Decimal.{digitsOf}
+use Rattle.script_printing.specs.PrintingLaws.{room-first, room-next, both-printed}
 use Rattle.script_printing.proofs.put_field.Statement.{statement}
 use Rattle.script_printing.proofs.put_field.Tie as tie
 
@@ -25,7 +25,7 @@ same-length c = c .before .before .put-number .kept .0 ∙ c .before .before .be
 returns : tie.Need-returns
 returns c =
     let start = c .before .before .before .before .before .before .before .before .before in
-    both (start .args .out .now) (start .args .at) (32 ∷ []) (digitsOf (start .args .number)) (start .pre) (c .before .before .before .before .before .before .put-byte .ensures) (c .before .before .put-number .ensures)
+    both-printed (start .args .out .now) (start .args .at) (32 ∷ []) (digitsOf (start .args .number)) (start .pre) (c .before .before .before .before .before .before .put-byte .ensures) (c .before .before .put-number .ensures)
 
 pub put-field-spec : {M : Type 1} → statement M
 put-field-spec = tie.close (tie.spec put-byte-requires put-number-requires same-length returns)

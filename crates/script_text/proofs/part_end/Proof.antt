@@ -5,7 +5,8 @@ use mathlib.Core.Path.{_≡_, refl, ap}
 use mathlib.Core.List.{[]}
 use Prim.Native.Nat.{_+_, _-_}
 use lib.ListN.{length, drop, drop-of-length-le}
-use Rattle.script_text.specs.Parts.{firstPart, first-here, first-on}
+use Rattle.script_text.specs.Parts.{firstPart}
+use Rattle.script_text.specs.PartsLaws.{first-here, first-on}
 use Rattle.script_text.proofs.part_end.Statement.{statement}
 use Rattle.script_text.proofs.part_end.Tie as tie
 

@@ -1,8 +1,8 @@
 -- `script_turns::last_turn` meets its contract.
 -- A line that stands there is run.
 use denote.Ref.{now}
-use Rattle.script_turns.specs.Laws.{turned-last, turned-end}
 use borrow.Author.Needs.{needs}
+use Rattle.script_turns.specs.ReadingLaws.{turned-last, turned-end}
 use Rattle.script_turns.proofs.last_turn.Statement.{statement}
 use Rattle.script_turns.proofs.last_turn.Tie as tie
 

@@ -4,8 +4,8 @@ use mathlib.Core.Path.{sym}
 use native.Mathlib.Omega.{arith}
 use lib.Seq.{length-take-le}
 use denote.Ref.{now}
-use Rattle.script_turns.specs.Laws.{turned-run}
 use borrow.Author.Needs.{needs}
+use Rattle.script_turns.specs.ReadingLaws.{turned-run}
 use Rattle.script_turns.proofs.run_held.Statement.{statement}
 use Rattle.script_turns.proofs.run_held.Tie as tie
 

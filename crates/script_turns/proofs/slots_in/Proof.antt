@@ -1,8 +1,8 @@
 -- `script_turns::slots_in` meets its contract.
 -- The memory has room for 1,024 slots.
 use denote.Ref.{now}
-use Rattle.script.specs.Laws.{slots-present}
 use borrow.Author.Needs.{needs}
+use Rattle.script.specs.ScriptLaws.{slots-present}
 use Rattle.script_turns.proofs.slots_in.Statement.{statement}
 use Rattle.script_turns.proofs.slots_in.Tie as tie
 

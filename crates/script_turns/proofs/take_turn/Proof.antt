@@ -1,8 +1,8 @@
 -- `script_turns::take_turn` meets its contract.
 -- A line that is complete is run, any other is held.
 use denote.Ref.{now}
-use Rattle.script_turns.specs.Laws.{turned-complete, turned-begun}
 use borrow.Author.Needs.{needs}
+use Rattle.script_turns.specs.ReadingLaws.{turned-complete, turned-begun}
 use Rattle.script_turns.proofs.take_turn.Statement.{statement}
 use Rattle.script_turns.proofs.take_turn.Tie as tie
 

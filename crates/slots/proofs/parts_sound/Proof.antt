@@ -1,9 +1,9 @@
 -- `slots::parts_sound` meets its contract.
 -- Id and priority first, then the value's words.
 use mathlib.Core.Path.{refl}
-use Rattle.records.specs.Record.{soundParts}
-use Rattle.search.specs.Search.{and-more, and-stop}
 use borrow.Author.Needs.{needs}
+use Rattle.search.specs.SearchLaws.{and-more, and-stop}
+use Rattle.records.specs.Record.{soundParts}
 use Rattle.slots.proofs.parts_sound.Statement.{statement}
 use Rattle.slots.proofs.parts_sound.Tie as tie
 

@@ -1,8 +1,9 @@
 -- `slots::pattern_matches` meets its contract.
 -- The low words are asked where the key agrees with the high ones.
-use Rattle.ternary.specs.Pattern.{matches}
-use Rattle.search.specs.Search.{all, and-more, and-stop}
 use borrow.Author.Needs.{needs}
+use Rattle.search.specs.Search.{all}
+use Rattle.search.specs.SearchLaws.{and-more, and-stop}
+use Rattle.ternary.specs.Pattern.{matches}
 use Rattle.slots.proofs.pattern_matches.Statement.{statement}
 use Rattle.slots.proofs.pattern_matches.Tie as tie
 

@@ -4,7 +4,7 @@ use native.Mathlib.Omega.{arith}
 use lib.ListN.{length-set}
 use borrow.Author.Needs.{needs}
 use Rattle.records.specs.Record.{listed}
-use Rattle.records.specs.Rules.{six-stores}
+use Rattle.records.specs.RulesLaws.{six-stores}
 use Rattle.slots.proofs.put_record.Statement.{statement}
 use Rattle.slots.proofs.put_record.Tie as tie
 

@@ -6,9 +6,10 @@ use Prim.Native.Nat.{ℕ}
 use native.Mathlib.Omega.{arith}
 use lib.Dec.{eqb}
 use borrow.Author.Tests.{ne-eqb}
-use Rattle.records.specs.Record.{empty}
-use Rattle.search.specs.Search.{all, all-not}
 use borrow.Author.Needs.{needs}
+use Rattle.search.specs.Search.{all}
+use Rattle.search.specs.SearchLaws.{all-not}
+use Rattle.records.specs.Record.{empty}
 use Rattle.slots.proofs.slot_empty.Statement.{statement}
 use Rattle.slots.proofs.slot_empty.Tie as tie
 

@@ -6,10 +6,10 @@ use Prim.Native.Nat.{ℕ}
 use lib.Dec.{eqb}
 use native.Mathlib.Omega.{arith}
 use denote.Ref.{now}
-use Rattle.search.specs.Search.{and-more, and-stop}
+use borrow.Author.Needs.{needs}
+use Rattle.search.specs.SearchLaws.{and-more, and-stop}
 use Rattle.records.specs.Record.{slotMatches}
 use Rattle.records.specs.Laws.{id-word}
-use borrow.Author.Needs.{needs}
 use Rattle.slots.proofs.slot_matches.Statement.{statement}
 use Rattle.slots.proofs.slot_matches.Tie as tie
 

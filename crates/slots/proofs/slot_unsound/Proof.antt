@@ -8,7 +8,7 @@ use native.Mathlib.Omega.{arith}
 use lib.Dec.{eqb, leb}
 use borrow.Author.Needs.{needs}
 use borrow.Author.Tests.{eq-eqb, ne-eqb}
-use Rattle.search.specs.Search.{all-not}
+use Rattle.search.specs.SearchLaws.{all-not}
 use Rattle.ternary.specs.Pattern.{Words, within}
 use Rattle.records.specs.Record.{slotWords, value, mask, rank, ident, empty, soundParts}
 use Rattle.records.specs.Checks.{unsoundAt}

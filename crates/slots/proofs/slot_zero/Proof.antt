@@ -1,8 +1,8 @@
 -- `slots::slot_zero` meets its contract.
 -- Each word read is the slot's.
-use Rattle.records.specs.Record.{empty}
-use Rattle.search.specs.Search.{all}
 use borrow.Author.Needs.{needs}
+use Rattle.search.specs.Search.{all}
+use Rattle.records.specs.Record.{empty}
 use Rattle.slots.proofs.slot_zero.Statement.{statement}
 use Rattle.slots.proofs.slot_zero.Tie as tie
 

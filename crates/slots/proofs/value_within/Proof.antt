@@ -1,8 +1,9 @@
 -- `slots::value_within` meets its contract.
 -- The low word is asked where the high one lies within its mask.
-use Rattle.ternary.specs.Pattern.{within}
-use Rattle.search.specs.Search.{all, and-more, and-stop}
 use borrow.Author.Needs.{needs}
+use Rattle.search.specs.Search.{all}
+use Rattle.search.specs.SearchLaws.{and-more, and-stop}
+use Rattle.ternary.specs.Pattern.{within}
 use Rattle.slots.proofs.value_within.Statement.{statement}
 use Rattle.slots.proofs.value_within.Tie as tie
 

@@ -4,8 +4,9 @@ use Prim.Native.Nat.{_-_}
 use mathlib.Core.Path.{sym, _∙_}
 use native.Mathlib.Omega.{arith}
 use borrow.Author.Needs.{needs}
-use Rattle.search.specs.Search.{NoneBelow, none-start, none-more}
-use Rattle.records.specs.Checks.{checkOrder, disorderAt, lowest-at, lowest-none}
+use Rattle.search.specs.SearchLaws.{NoneBelow, none-start, none-more}
+use Rattle.records.specs.Checks.{checkOrder, disorderAt}
+use Rattle.records.specs.ChecksLaws.{lowest-at, lowest-none}
 use Rattle.table_checks.proofs.check_order.Statement.{statement}
 use Rattle.table_checks.proofs.check_order.Tie as tie
 

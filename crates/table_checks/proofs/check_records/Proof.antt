@@ -3,8 +3,9 @@
 use Prim.Native.Nat.{_-_}
 use mathlib.Core.Path.{sym, _∙_}
 use native.Mathlib.Omega.{arith}
-use Rattle.search.specs.Search.{NoneBelow, none-start, none-more}
-use Rattle.records.specs.Checks.{checkRecords, unsoundAt, lowest-at, lowest-none}
+use Rattle.search.specs.SearchLaws.{NoneBelow, none-start, none-more}
+use Rattle.records.specs.Checks.{checkRecords, unsoundAt}
+use Rattle.records.specs.ChecksLaws.{lowest-at, lowest-none}
 use Rattle.table_checks.proofs.check_records.Statement.{statement}
 use Rattle.table_checks.proofs.check_records.Tie as tie
 

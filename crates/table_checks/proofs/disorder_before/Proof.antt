@@ -2,12 +2,12 @@
 -- Nothing is out of order with an empty slot; else some earlier slot is exactly where the first such slot is an earlier one.
 use mathlib.Core.Path.{sym, _∙_}
 use denote.Ref.{now}
-use Rattle.search.specs.Search.{any-none}
-use Rattle.search.specs.Parts.{any-first}
-use Rattle.records.specs.Record.{slotWords}
-use Rattle.records.specs.Order.{misordered-empty}
-use Rattle.records.specs.Checks.{disorderAt}
 use borrow.Author.Needs.{needs}
+use Rattle.search.specs.SearchLaws.{any-none}
+use Rattle.search.specs.PartsLaws.{any-first}
+use Rattle.records.specs.Record.{slotWords}
+use Rattle.records.specs.Checks.{disorderAt}
+use Rattle.records.specs.OrderLaws.{misordered-empty}
 use Rattle.table_checks.proofs.disorder_before.Statement.{statement}
 use Rattle.table_checks.proofs.disorder_before.Tie as tie
 

@@ -5,7 +5,7 @@ use mathlib.Core.List.{[]}
 use denote.Ref.{now}
 use borrow.Author.Needs.{needs}
 use Rattle.lookups.specs.Lookup.{lookupTold}
-use Rattle.marshalling.specs.Cells.{success-cells, refusal-cells}
+use Rattle.marshalling.specs.CellsLaws.{success-cells, refusal-cells}
 use Rattle.tcam.proofs.tcam_lookup.Statement.{statement}
 use Rattle.tcam.proofs.tcam_lookup.Tie as tie
 

@@ -4,10 +4,10 @@ use mathlib.Core.Path.{subst, ap, _∙_}
 use denote.Ref.{now}
 use borrow.Author.Needs.{needs}
 use Rattle.records.specs.Checks.{Told}
-use Rattle.marshalling.specs.Cells.{dataCell, spotCell}
-use Rattle.tcam.specs.Cells.{InsertLeft}
 use Rattle.records.specs.declared.Rule.{Rule}
 use Rattle.insert_plans.specs.Demand3.{Demand3}
+use Rattle.marshalling.specs.Cells.{dataCell, spotCell}
+use Rattle.tcam.specs.Cells.{InsertLeft}
 use Rattle.tcam.proofs.tcam_plan_insert.Statement.{statement}
 use Rattle.tcam.proofs.tcam_plan_insert.Tie as tie
 

@@ -7,7 +7,8 @@ use lib.ListN.{length}
 use denote.Ref.{now}
 use borrow.Author.Needs.{needs}
 use Rattle.records.specs.Laws.{slot-checks-length}
-use Rattle.lookups.specs.Lookup.{shown, shown-law, partLength, part-count, part-none, part-some, part-shown, part-hidden}
+use Rattle.lookups.specs.Lookup.{shown, partLength}
+use Rattle.lookups.specs.LookupLaws.{shown-law, part-count, part-none, part-some, part-shown, part-hidden}
 use Rattle.tcam.proofs.tcam_slot_record.Statement.{statement}
 use Rattle.tcam.proofs.tcam_slot_record.Tie as tie
 

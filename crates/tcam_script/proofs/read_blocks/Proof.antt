@@ -9,7 +9,7 @@ use borrow.Author.Tests.{ltb-true, ltb-false}
 use borrow.Author.Needs.{needs}
 use denote.Ref.{now}
 use Rattle.script_transcripts.specs.Whole.{Read, keeping, opening}
-use Rattle.tcam_script.specs.Reads.{ReadSome, block-read, reading-ends}
+use Rattle.tcam_script.specs.ReadsLaws.{ReadSome, block-read, reading-ends}
 use Rattle.tcam_script.proofs.read_blocks.Statement.{statement}
 use Rattle.tcam_script.proofs.read_blocks.Tie as tie
 

@@ -6,8 +6,9 @@ use Prim.Native.Nat.{ℕ}
 use lib.ListN.{replicate, length-replicate}
 use denote.Ref.{now}
 use borrow.Author.Needs.{needs}
-use Rattle.script_transcripts.specs.Whole.{keeping, shown-within}
-use Rattle.tcam_script.specs.Reads.{all-ran}
+use Rattle.script_transcripts.specs.Whole.{keeping}
+use Rattle.script_transcripts.specs.WholeLaws.{shown-within}
+use Rattle.tcam_script.specs.ReadsLaws.{all-ran}
 use Rattle.tcam_script.proofs.run.Statement.{statement}
 use Rattle.tcam_script.proofs.run.Tie as tie
 

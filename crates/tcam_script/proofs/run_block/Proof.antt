@@ -8,7 +8,8 @@ use native.Mathlib.Omega.{arith}
 use lib.ListN.{length, take, length-append, length-take}
 use borrow.Author.Tests.{ltb-true, ltb-false}
 use borrow.Author.Needs.{needs}
-use Rattle.script_transcripts.specs.Whole.{keeping, Called, next-within, shown-within}
+use Rattle.script_transcripts.specs.Whole.{keeping, Called}
+use Rattle.script_transcripts.specs.WholeLaws.{next-within, shown-within}
 use Rattle.tcam_script.specs.Reads.{capped}
 use Rattle.tcam_script.proofs.run_block.Statement.{statement}
 use Rattle.tcam_script.proofs.run_block.Tie as tie

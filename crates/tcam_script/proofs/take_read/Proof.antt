@@ -9,9 +9,10 @@ use mir.Syntax.{w64}
 use mir.ValLaws.{toZ-ofZ}
 use denote.Ref.{now}
 use borrow.Author.Needs.{needs}
-use Rattle.io.specs.Counts.{clamped}
 use Rattle.script_transcripts.specs.Whole.{keeping}
-use Rattle.tcam_script.specs.Reads.{TookRead, read-none, read-some}
+use Rattle.io.specs.Counts.{clamped}
+use Rattle.tcam_script.specs.Reads.{TookRead}
+use Rattle.tcam_script.specs.ReadsLaws.{read-none, read-some}
 use Rattle.tcam_script.proofs.take_read.Statement.{statement}
 use Rattle.tcam_script.proofs.take_read.Tie as tie
 

@@ -6,9 +6,9 @@ use native.Mathlib.Omega.{arith}
 use lib.ListN.{length}
 use denote.Ref.{now}
 use borrow.Author.Needs.{needs}
-use Rattle.records.specs.Record.{slotWords, empty}
 use Rattle.positions.specs.PositionsLaws.{slot-below}
-use Rattle.windows.specs.Windows.{end-empty, end-window, window-high}
+use Rattle.records.specs.Record.{slotWords, empty}
+use Rattle.windows.specs.WindowsLaws.{end-empty, end-window, window-high}
 use Rattle.windows.proofs.end_at.Statement.{statement}
 use Rattle.windows.proofs.end_at.Tie as tie
 

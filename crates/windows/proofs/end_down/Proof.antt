@@ -2,8 +2,8 @@
 -- The nearest slot that may not stand before the position's, or the last slot.
 use native.Mathlib.Omega.{arith}
 use denote.Ref.{now}
-use Rattle.windows.specs.Windows.{window-down}
 use borrow.Author.Needs.{needs}
+use Rattle.windows.specs.WindowsLaws.{window-down}
 use Rattle.windows.proofs.end_down.Statement.{statement}
 use Rattle.windows.proofs.end_down.Tie as tie
 

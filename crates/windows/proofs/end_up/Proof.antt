@@ -3,8 +3,8 @@
 use mathlib.Core.Path.{refl}
 use native.Mathlib.Omega.{arith}
 use denote.Ref.{now}
-use Rattle.windows.specs.Windows.{window-up, up-high}
 use borrow.Author.Needs.{needs}
+use Rattle.windows.specs.WindowsLaws.{window-up, up-high}
 use Rattle.windows.proofs.end_up.Statement.{statement}
 use Rattle.windows.proofs.end_up.Tie as tie
 

@@ -8,7 +8,8 @@ use borrow.Author.Needs.{needs}
 use lib.ListN.{length, drop, set, length-set}
 use denote.Ref.{now}
 use Rattle.records.specs.Record.{listed}
-use Rattle.windows.specs.Windows.{endAt, fill-next}
+use Rattle.windows.specs.Windows.{endAt}
+use Rattle.windows.specs.WindowsLaws.{fill-next}
 use Rattle.windows.proofs.fill_ends.Statement.{statement}
 use Rattle.windows.proofs.fill_ends.Tie as tie
 

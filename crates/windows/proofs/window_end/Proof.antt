@@ -3,8 +3,8 @@
 use mathlib.Core.Path.{sym, ap, _∙_}
 use mathlib.Core.Bool.{Bool}
 use denote.Ref.{now}
-use Rattle.windows.specs.Windows.{windowEndAt}
 use borrow.Author.Needs.{needs}
+use Rattle.windows.specs.Windows.{windowEndAt}
 use Rattle.windows.proofs.window_end.Statement.{statement}
 use Rattle.windows.proofs.window_end.Tie as tie
 

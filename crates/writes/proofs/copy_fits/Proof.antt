@@ -1,8 +1,8 @@
 -- `writes::copy_fits` meets its contract.
 -- The slot copied to is asked for only where the other tests hold.
-use Rattle.carrying.specs.Steps.{copy-passed, copy-stopped}
 use denote.Ref.{now}
 use borrow.Author.Needs.{needs}
+use Rattle.carrying.specs.StepsLaws.{copy-passed, copy-stopped}
 use Rattle.writes.proofs.copy_fits.Statement.{statement}
 use Rattle.writes.proofs.copy_fits.Tie as tie
 

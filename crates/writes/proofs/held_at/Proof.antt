@@ -1,7 +1,7 @@
 -- `writes::held_at` meets its contract.
 -- The ids are compared whatever the other slot is.
-use Rattle.records.specs.Writes.{heldAt}
 use borrow.Author.Needs.{needs}
+use Rattle.records.specs.Writes.{heldAt}
 use Rattle.writes.proofs.held_at.Statement.{statement}
 use Rattle.writes.proofs.held_at.Tie as tie
 

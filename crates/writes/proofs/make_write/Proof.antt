@@ -4,11 +4,11 @@ use mathlib.Core.Path.{refl, _∙_}
 use Prim.Native.Nat.{ℕ}
 use lib.ListN.{length-replicate}
 use denote.Ref.{now}
+use borrow.Author.Needs.{needs}
 use Rattle.plan_words.specs.PlanWordsLaws.{write-taken}
 use Rattle.records.specs.Record.{slotWords}
-use Rattle.records.specs.Rules.{record-length, length-listed}
-use Rattle.carrying.specs.Steps.{stored, write-made, write-below}
-use borrow.Author.Needs.{needs}
+use Rattle.records.specs.RulesLaws.{record-length, length-listed}
+use Rattle.carrying.specs.StepsLaws.{record-stored, write-made, write-below}
 use Rattle.writes.proofs.make_write.Statement.{statement}
 use Rattle.writes.proofs.make_write.Tie as tie
 
@@ -56,7 +56,7 @@ same-length c = search needs
 
 returns : tie.Need-returns
 returns c =
-    stored 2 _ _ (c .before .before .put-record .ensures) (c .before .before .before .before .record-at .ensures) (length-listed 6 (slotWords 2 (now (c .before .before .before .before .before .before .before .before .before .before .before .args .table)) _))
+    record-stored 2 _ _ (c .before .before .put-record .ensures) (c .before .before .before .before .record-at .ensures) (length-listed 6 (slotWords 2 (now (c .before .before .before .before .before .before .before .before .before .before .before .args .table)) _))
     ∙ write-made 2 (now (c .before .before .before .before .before .before .before .before .before .before .before .args .table)) (c .before .before .before .before .before .before .before .before .before .before .before .args .word) (write-taken (c .before .before .before .before .before .before .before .before .before .write-of .ensures) (c .before .before .before .before .before .before .before .from .given .1)) (c .before .before .before .before .before .before .before .before .before .before .before .args .rule)
 
 same-length-2 : tie.Need-same-length-2
@@ -64,7 +64,7 @@ same-length-2 c = search needs
 
 returns-2 : tie.Need-returns-2
 returns-2 c =
-    stored 2 _ _ (c .before .before .put-record2 .ensures) (c .before .before .before .record-of .ensures) (record-length 2 (c .before .before .before .before .before .before .before .before .before .before .args .rule))
+    record-stored 2 _ _ (c .before .before .put-record2 .ensures) (c .before .before .before .record-of .ensures) (record-length 2 (c .before .before .before .before .before .before .before .before .before .before .args .rule))
     ∙ write-made 2 (now (c .before .before .before .before .before .before .before .before .before .before .args .table)) (c .before .before .before .before .before .before .before .before .before .before .args .word) (write-taken (c .before .before .before .before .before .before .before .before .write-of .ensures) (c .before .before .before .before .before .before .to .given .1)) (c .before .before .before .before .before .before .before .before .before .before .args .rule)
 
 same-length-3 : tie.Need-same-length-3
@@ -72,7 +72,7 @@ same-length-3 c = search needs
 
 returns-3 : tie.Need-returns-3
 returns-3 c =
-    stored 2 _ _ (c .before .before .put-record3 .ensures) refl (length-replicate {A = ℕ} 6 0)
+    record-stored 2 _ _ (c .before .before .put-record3 .ensures) refl (length-replicate {A = ℕ} 6 0)
     ∙ write-made 2 (now (c .before .before .before .before .before .before .before .before .before .args .table)) (c .before .before .before .before .before .before .before .before .before .args .word) (write-taken (c .before .before .before .before .before .before .before .write-of .ensures) (c .before .before .before .before .before .slot .given .1)) (c .before .before .before .before .before .before .before .before .before .args .rule)
 
 pub make-write-spec : {M : Type 1} → statement M

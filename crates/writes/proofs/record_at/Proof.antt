@@ -1,7 +1,7 @@
 -- `writes::record_at` meets its contract.
 -- Each of the six words is the slot's.
-use Rattle.records.specs.Record.{listed}
 use borrow.Author.Needs.{needs}
+use Rattle.records.specs.Record.{listed}
 use Rattle.writes.proofs.record_at.Statement.{statement}
 use Rattle.writes.proofs.record_at.Tie as tie
 

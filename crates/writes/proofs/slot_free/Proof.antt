@@ -2,7 +2,7 @@
 -- The other slots are asked for only where the slot is occupied.
 use mathlib.Core.Path.{sym, _∙_}
 use borrow.Author.Needs.{needs}
-use Rattle.carrying.specs.Steps.{free-empty, free-occupied}
+use Rattle.carrying.specs.StepsLaws.{free-empty, free-occupied}
 use Rattle.writes.proofs.slot_free.Statement.{statement}
 use Rattle.writes.proofs.slot_free.Tie as tie
 

@@ -3,7 +3,7 @@
 use Prim.Native.Nat.{_-_}
 use mathlib.Core.Path.{sym, _∙_}
 use native.Mathlib.Omega.{arith}
-use Rattle.search.specs.Search.{NoneBelow, none-start, none-more, any-some, any-none}
+use Rattle.search.specs.SearchLaws.{NoneBelow, none-start, none-more, any-some, any-none}
 use Rattle.records.specs.Writes.{heldAt, standsElsewhere}
 use Rattle.writes.proofs.stands_elsewhere.Statement.{statement}
 use Rattle.writes.proofs.stands_elsewhere.Tie as tie

@@ -2,9 +2,9 @@
 -- Each kind of write has its test.
 use mathlib.Core.Path.{_∙_}
 use denote.Ref.{now}
-use Rattle.plan_words.specs.PlanWordsLaws.{write-taken}
-use Rattle.carrying.specs.Steps.{write-fitting}
 use borrow.Author.Needs.{needs}
+use Rattle.plan_words.specs.PlanWordsLaws.{write-taken}
+use Rattle.carrying.specs.StepsLaws.{write-fitting}
 use Rattle.writes.proofs.word_fits.Statement.{statement}
 use Rattle.writes.proofs.word_fits.Tie as tie
 

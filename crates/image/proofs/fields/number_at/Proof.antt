@@ -8,7 +8,7 @@ use native.Mathlib.Omega.{arith}
 use lib.Arith.{digits-lt}
 use borrow.Author.Needs.{needs}
 use Rattle.image.specs.Bytes.{numberAt}
-use Rattle.image.specs.ByteLaws.{digit-room}
+use Rattle.image.specs.BytesLaws.{digit-room}
 use Rattle.image.proofs.fields.number_at.Statement.{statement}
 use Rattle.image.proofs.fields.number_at.Tie as tie
 

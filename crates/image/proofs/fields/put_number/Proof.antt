@@ -5,7 +5,7 @@ use Prim.Native.Nat.{ℕ, suc, _-_, _≤_}
 use native.Mathlib.Omega.{arith}
 use lib.ListN.{length, length-set}
 use Rattle.image.specs.Bytes.{bytesOf, store}
-use Rattle.image.specs.ByteLaws.{store-none, store-last}
+use Rattle.image.specs.BytesLaws.{store-none, store-last}
 use Rattle.image.proofs.fields.put_number.Statement.{statement}
 use Rattle.image.proofs.fields.put_number.Tie as tie
 

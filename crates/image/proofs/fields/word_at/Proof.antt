@@ -3,8 +3,8 @@
 use mathlib.Core.Path.{sym, ap₂, _∙_}
 use Prim.Native.Nat.{ℕ, _+_, _*_}
 use native.Mathlib.Omega.{arith}
-use Rattle.image.specs.ByteLaws.{number-small, number-halves}
 use borrow.Author.Needs.{needs}
+use Rattle.image.specs.BytesLaws.{number-small, number-halves}
 use Rattle.image.proofs.fields.word_at.Statement.{statement}
 use Rattle.image.proofs.fields.word_at.Tie as tie
 

@@ -2,8 +2,8 @@
 -- A refusal where a check fails; else the answer for the first match, which reads the key's two words.
 use mathlib.Core.Path.{sym, ap, _∙_}
 use borrow.Author.Needs.{needs}
-use Rattle.records.specs.Rules.{two-words}
-use Rattle.records.specs.Laws.{refused, answered, slot-checks-length, slot-checks-law, first-match-cong}
+use Rattle.records.specs.Laws.{told-refused, told-answered, slot-checks-length, slot-checks-law, first-match-cong}
+use Rattle.records.specs.RulesLaws.{two-words}
 use Rattle.lookups.specs.Lookup.{lookupAnswer, matchTold}
 use Rattle.lookups.proofs.lookup.lookup.Statement.{statement}
 use Rattle.lookups.proofs.lookup.lookup.Tie as tie
@@ -16,7 +16,7 @@ enum-known-check c = search needs
 
 returns : tie.Need-returns
 unfolding lookupAnswer
-returns c = refused _ (c .before .before .before .check-slots .ensures) (c .before .check .given .1)
+returns c = told-refused _ (c .before .before .before .check-slots .ensures) (c .before .check .given .1)
 
 enum-told : tie.Need-enum-told
 enum-told c = search needs
@@ -36,7 +36,7 @@ match-answer-requires c κs = slot-checks-length 2 _ (sym (c .before .before .be
 
 returns-2 : tie.Need-returns-2
 unfolding lookupAnswer
-returns-2 c = answered (c .before .before .before .before .check-slots .ensures) (c .before .before .enum-told .given .1) (c .match-answer .ensures ∙ ap (matchTold 2 _) (c .before .first-match .ensures ∙ first-match-cong 2 _ (two-words (c .before .before .before .before .before .before .args .t2))))
+returns-2 c = told-answered (c .before .before .before .before .check-slots .ensures) (c .before .before .enum-told .given .1) (c .match-answer .ensures ∙ ap (matchTold 2 _) (c .before .first-match .ensures ∙ first-match-cong 2 _ (two-words (c .before .before .before .before .before .before .args .t2))))
 
 pub lookup-spec : {M : Type 1} → statement M
 lookup-spec =

@@ -6,7 +6,7 @@ use native.Mathlib.Omega.{arith}
 use lib.ListN.{length, take, drop}
 use denote.Ref.{now}
 use borrow.Author.Needs.{needs}
-use Rattle.lookups.specs.Lookup.{shown-law, part-shown, part-hidden}
+use Rattle.lookups.specs.LookupLaws.{shown-law, part-shown, part-hidden}
 use Rattle.lookups.proofs.lookup.slot_record.Statement.{statement}
 use Rattle.lookups.proofs.lookup.slot_record.Tie as tie
 

@@ -4,7 +4,7 @@ use mathlib.Core.Bool.{not}
 use mathlib.Core.Path.{refl, ap}
 use borrow.Author.Tests.{lt-ltb, le-ltb}
 use borrow.Author.Needs.{needs}
-use Rattle.search.specs.Search.{and-more, and-stop}
+use Rattle.search.specs.SearchLaws.{and-more, and-stop}
 use Rattle.records.specs.Checks.{passes}
 use Rattle.lookups.specs.Lookup.{shown}
 use Rattle.lookups.proofs.lookup.slot_shown.Statement.{statement}

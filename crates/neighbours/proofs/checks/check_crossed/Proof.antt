@@ -4,8 +4,7 @@ use native.Mathlib.Omega.{arith}
 use denote.Ref.{now}
 use borrow.Author.Needs.{needs}
 use Rattle.records.specs.Record.{slotWords}
-use Rattle.neighbours.specs.Neighbours.{slot-b-high, after-a-high}
-use Rattle.neighbours.specs.Neighbours.{crossed-yes, crossed-no}
+use Rattle.neighbours.specs.NeighboursLaws.{slot-b-high, after-a-high, crossed-yes, crossed-no}
 use Rattle.neighbours.proofs.checks.check_crossed.Statement.{statement}
 use Rattle.neighbours.proofs.checks.check_crossed.Tie as tie
 

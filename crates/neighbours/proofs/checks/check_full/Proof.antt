@@ -3,9 +3,9 @@
 use Prim.Native.Nat.{ℕ, _-_}
 use mathlib.Core.Path.{sym, _∙_}
 use native.Mathlib.Omega.{arith}
-use Rattle.search.specs.Search.{NoneBelow, none-start, none-more}
+use Rattle.search.specs.SearchLaws.{NoneBelow, none-start, none-more}
 use Rattle.records.specs.Record.{slotWords, empty}
-use Rattle.neighbours.specs.Neighbours.{room-at, room-none}
+use Rattle.neighbours.specs.NeighboursLaws.{room-at, room-none}
 use Rattle.neighbours.proofs.checks.check_full.Statement.{statement}
 use Rattle.neighbours.proofs.checks.check_full.Tie as tie
 

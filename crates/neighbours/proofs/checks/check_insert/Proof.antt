@@ -8,9 +8,10 @@ use denote.Ref.{now}
 use borrow.Author.Tests.{not-true, not-false}
 use borrow.Author.Needs.{needs}
 use Rattle.records.specs.Record.{slotWords}
-use Rattle.records.specs.Rules.{record-length}
 use Rattle.records.specs.Laws.{failed, passed, table-checks-length}
-use Rattle.neighbours.specs.Neighbours.{insertChecks, newChecks, rule-refused, rule-accepted}
+use Rattle.records.specs.RulesLaws.{record-length}
+use Rattle.neighbours.specs.Neighbours.{insertChecks, newChecks}
+use Rattle.neighbours.specs.NeighboursLaws.{rule-refused, rule-accepted}
 use Rattle.neighbours.proofs.checks.check_insert.Statement.{statement}
 use Rattle.neighbours.proofs.checks.check_insert.Tie as tie
 

@@ -3,10 +3,10 @@
 use Prim.Native.Nat.{ℕ, _-_}
 use mathlib.Core.Path.{sym, _∙_}
 use native.Mathlib.Omega.{arith}
-use Rattle.search.specs.Search.{NoneBelow, none-start, none-more}
+use Rattle.search.specs.SearchLaws.{NoneBelow, none-start, none-more}
 use Rattle.records.specs.Record.{slotWords}
 use Rattle.records.specs.Order.{sameId}
-use Rattle.records.specs.Checks.{lowest-at, lowest-none}
+use Rattle.records.specs.ChecksLaws.{lowest-at, lowest-none}
 use Rattle.neighbours.specs.Neighbours.{checkKnown}
 use Rattle.neighbours.proofs.checks.check_known.Statement.{statement}
 use Rattle.neighbours.proofs.checks.check_known.Tie as tie

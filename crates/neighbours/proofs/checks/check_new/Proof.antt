@@ -1,8 +1,8 @@
 -- `neighbours::checks::check_new` meets its contract.
 -- Each check is made where those before it pass.
 use borrow.Author.Needs.{needs}
-use Rattle.neighbours.specs.Neighbours.{newChecks}
 use Rattle.records.specs.Laws.{failed, passed}
+use Rattle.neighbours.specs.Neighbours.{newChecks}
 use Rattle.neighbours.proofs.checks.check_new.Statement.{statement}
 use Rattle.neighbours.proofs.checks.check_new.Tie as tie
 

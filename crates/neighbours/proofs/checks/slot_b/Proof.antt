@@ -3,7 +3,7 @@
 use Prim.Native.Nat.{ℕ, _-_}
 use mathlib.Core.Path.{sym, _∙_}
 use native.Mathlib.Omega.{arith}
-use Rattle.search.specs.Search.{NoneBelow, none-start, none-more, least-at, least-none}
+use Rattle.search.specs.SearchLaws.{NoneBelow, none-start, none-more, least-at, least-none}
 use Rattle.records.specs.Record.{slotWords}
 use Rattle.records.specs.Order.{precedes}
 use Rattle.neighbours.specs.Neighbours.{slotB}

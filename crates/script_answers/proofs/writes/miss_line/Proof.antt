@@ -3,7 +3,7 @@
 use native.Mathlib.Omega.{arith}
 use mathlib.Core.Path.{_∙_}
 use mathlib.Core.List.{[], _∷_}
-use Rattle.script_printing.specs.Printing.{room-first, room-next, both}
+use Rattle.script_printing.specs.PrintingLaws.{room-first, room-next, both-printed}
 use Rattle.script_answers.proofs.writes.miss_line.Statement.{statement}
 use Rattle.script_answers.proofs.writes.miss_line.Tie as tie
 
@@ -24,7 +24,7 @@ same-length c = c .before .before .put-byte2 .kept .0 ∙ c .before .before .bef
 returns : tie.Need-returns
 returns c =
     let start = c .before .before .before .before .before .before .before .before .before in
-    both (start .args .out .now) (start .args .at) (77 ∷ []) (10 ∷ []) (start .pre) (c .before .before .before .before .before .before .put-byte .ensures) (c .before .before .put-byte2 .ensures)
+    both-printed (start .args .out .now) (start .args .at) (77 ∷ []) (10 ∷ []) (start .pre) (c .before .before .before .before .before .before .put-byte .ensures) (c .before .before .put-byte2 .ensures)
 
 pub miss-line-spec : {M : Type 1} → statement M
 miss-line-spec = tie.close (tie.spec put-byte-requires put-byte-requires-2 same-length returns)

@@ -5,8 +5,9 @@ use mathlib.Core.Path.{subst, _∙_}
 use mathlib.Core.List.{List}
 use Prim.Native.Nat.{ℕ}
 use lib.ListN.{length}
-use Rattle.script_printing.specs.Printing.{Printed, printed-none, printed-then}
-use Rattle.script_answers.specs.Room.{count-short, plan-long, plan-fits}
+use Rattle.script_printing.specs.Printing.{Printed}
+use Rattle.script_printing.specs.PrintingLaws.{printed-none, printed-then}
+use Rattle.script_answers.specs.RoomLaws.{count-short, plan-long, plan-fits}
 use Rattle.script_answers.proofs.writes.put_plan.Statement.{statement}
 use Rattle.script_answers.proofs.writes.put_plan.Tie as tie
 

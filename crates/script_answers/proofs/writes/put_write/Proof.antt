@@ -4,17 +4,17 @@ use mathlib.Core.Path.{_≡_, sym, subst}
 use Prim.Native.Nat.{ℕ, _≤_, _<_}
 use native.Mathlib.Omega.{arith}
 use lib.ListN.{length}
+use borrow.Author.Needs.{needs}
 use Rattle.layout.specs.Write.{Write}
 use Rattle.plan_words.specs.PlanWords.{writeOf}
 use Rattle.plan_words.specs.PlanWordsLaws.{write-taken}
 use Rattle.script_answers.specs.Answers.{printedWrite}
-use Rattle.script_answers.specs.Room.{write-short}
-use borrow.Author.Needs.{needs}
+use Rattle.script_answers.specs.RoomLaws.{line-short}
 use Rattle.script_answers.proofs.writes.put_write.Statement.{statement}
 use Rattle.script_answers.proofs.writes.put_write.Tie as tie
 
 short : (word : ℕ) → word < 4294967296 → {x : Write} → x ≡ writeOf word → length (printedWrite x) ≤ 14
-short word h e = subst (λ (y : Write). length (printedWrite y) ≤ 14) (sym e) (write-short word h)
+short word h e = subst (λ (y : Write). length (printedWrite y) ≤ 14) (sym e) (line-short word h)
 
 write-of-requires : tie.Need-write-of-requires
 write-of-requires c κs = search needs

@@ -5,9 +5,10 @@ use mathlib.Core.Path.{_≡_, refl, subst, _∙_}
 use mathlib.Core.List.{List}
 use Prim.Native.Nat.{ℕ, _+_, _*_, _-_, _≤_}
 use lib.ListN.{length, getD, take}
+use Rattle.script_printing.specs.Printing.{Printed}
+use Rattle.script_printing.specs.PrintingLaws.{printed-none, printed-then}
 use Rattle.script_answers.specs.Answers.{printedWrites}
-use Rattle.script_printing.specs.Printing.{Printed, printed-none, printed-then}
-use Rattle.script_answers.specs.Room.{write-short, writes-on, writes-all}
+use Rattle.script_answers.specs.RoomLaws.{line-short, writes-on, writes-all}
 use Rattle.script_answers.proofs.writes.put_writes.Statement.{statement}
 use Rattle.script_answers.proofs.writes.put_writes.Tie as tie
 
@@ -45,7 +46,7 @@ loop-again c =
     let test = c .before .before .before .before .before .loop-test .taken in
     let line = c .before .before .put-write in (
       omega arith,
-      omega (arith, line .ensures .place, write-short (getD words (turn .done) 0) (omega (arith, c .before .before .before .shared-slice-known2 .given (turn .done)))),
+      omega (arith, line .ensures .place, line-short (getD words (turn .done) 0) (omega (arith, c .before .before .before .shared-slice-known2 .given (turn .done)))),
       line .kept .0 ∙ turn .inv .2,
       subst (λ (text : List ℕ). Printed (start .args .out .now) (start .args .at) text (line .result) (line .last .0)) (writes-on words (turn .done) test)
           (printed-then (turn .inv .3) (omega (arith, start .pre)) (line .ensures)),

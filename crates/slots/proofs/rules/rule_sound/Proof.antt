@@ -2,9 +2,9 @@
 -- The parts of the rule are handed to the test of parts.
 use mathlib.Core.Path.{_∙_}
 use borrow.Author.Needs.{needs}
+use Rattle.search.specs.Search.{all}
 use Rattle.ternary.specs.Pattern.{within}
 use Rattle.records.specs.Record.{soundParts}
-use Rattle.search.specs.Search.{all}
 use Rattle.slots.proofs.rules.rule_sound.Statement.{statement}
 use Rattle.slots.proofs.rules.rule_sound.Tie as tie
 

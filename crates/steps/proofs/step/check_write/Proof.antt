@@ -1,7 +1,7 @@
 -- `steps::step::check_write` meets its contract.
 -- The rule is looked at where one is put in, then the write.
-use Rattle.carrying.specs.Steps.{write-unsound, write-fits, write-unfit}
 use borrow.Author.Needs.{needs}
+use Rattle.carrying.specs.StepsLaws.{write-unsound, write-fits, write-unfit}
 use Rattle.steps.proofs.step.check_write.Statement.{statement}
 use Rattle.steps.proofs.step.check_write.Tie as tie
 

@@ -1,9 +1,9 @@
 -- `steps::step::put_sound` meets its contract.
 -- Only a put-in looks at the rule.
 use mathlib.Core.Path.{ap, _∙_}
+use borrow.Author.Needs.{needs}
 use Rattle.plan_words.specs.PlanWordsLaws.{write-taken}
 use Rattle.carrying.specs.Carrying.{putSound}
-use borrow.Author.Needs.{needs}
 use Rattle.steps.proofs.step.put_sound.Statement.{statement}
 use Rattle.steps.proofs.step.put_sound.Tie as tie
 

@@ -4,8 +4,8 @@ use mathlib.Core.Path.{sym, _∙_}
 use native.Mathlib.Omega.{arith}
 use lib.ListN.{length}
 use denote.Ref.{now}
-use Rattle.carrying.specs.Steps.{step-declined, step-finished, step-unfit, step-wrote, checked-fits, progress-within}
 use borrow.Author.Needs.{needs}
+use Rattle.carrying.specs.StepsLaws.{step-declined, step-finished, step-unfit, step-wrote, checked-fits, progress-within}
 use Rattle.steps.proofs.step.step.Statement.{statement}
 use Rattle.steps.proofs.step.step.Tie as tie
 

@@ -3,7 +3,7 @@
 use mathlib.Core.Path.{sym, _∙_}
 use denote.Ref.{now}
 use borrow.Author.Needs.{needs}
-use Rattle.carrying.specs.Steps.{done-refused, answer-done}
+use Rattle.carrying.specs.StepsLaws.{done-refused, answer-done}
 use Rattle.steps.proofs.whole.advance.Statement.{statement}
 use Rattle.steps.proofs.whole.advance.Tie as tie
 

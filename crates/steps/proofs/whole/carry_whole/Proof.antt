@@ -7,8 +7,8 @@ use lib.Dec.{ltb}
 use lib.ListN.{length}
 use borrow.Author.Tests.{ltb-true}
 use borrow.Author.Needs.{needs}
-use Rattle.search.specs.Search.{and-left, and-right}
-use Rattle.carrying.specs.Until.{Under, under-start, under-next, under-less, under-end}
+use Rattle.search.specs.SearchLaws.{and-left, and-right}
+use Rattle.carrying.specs.UntilLaws.{Under, under-start, under-next, under-less, under-end}
 use Rattle.steps.proofs.whole.carry_whole.Statement.{statement}
 use Rattle.steps.proofs.whole.carry_whole.Tie as tie
 

@@ -5,7 +5,8 @@ use Prim.Native.Nat.{_-_, _≤_}
 use native.Mathlib.Omega.{arith}
 use lib.ListN.{length, length-set}
 use denote.Ref.{now}
-use Rattle.table_checks.specs.Ids.{IdColumn, column-more}
+use Rattle.table_checks.specs.Ids.{IdColumn}
+use Rattle.table_checks.specs.IdsLaws.{column-more}
 use Rattle.table_checks.proofs.ids.fill_ids.Statement.{statement}
 use Rattle.table_checks.proofs.ids.fill_ids.Tie as tie
 

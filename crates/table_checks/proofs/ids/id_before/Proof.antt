@@ -1,10 +1,9 @@
 -- `table_checks::ids::id_before` meets its contract.
 -- No slot below the loop's has the slot's id.
-use Prim.Native.Nat.{_-_}
+use Prim.Native.Nat.{_-_, ℕ}
 use mathlib.Core.Path.{sym, _∙_}
 use native.Mathlib.Omega.{arith}
-use Prim.Native.Nat.{ℕ}
-use Rattle.search.specs.Search.{NoneBelow, none-start, none-more, any-some, any-none}
+use Rattle.search.specs.SearchLaws.{NoneBelow, none-start, none-more, any-some, any-none}
 use Rattle.records.specs.Record.{slotWords}
 use Rattle.records.specs.Order.{sameId}
 use Rattle.records.specs.Checks.{twiceAt}

@@ -3,7 +3,7 @@
 use mathlib.Core.Path.{sym, _∙_}
 use borrow.Author.Needs.{needs}
 use denote.Ref.{now}
-use Rattle.table_checks.specs.Ids.{unlisted, empty-once}
+use Rattle.table_checks.specs.IdsLaws.{unlisted, empty-once}
 use Rattle.table_checks.proofs.ids.id_twice.Statement.{statement}
 use Rattle.table_checks.proofs.ids.id_twice.Tie as tie
 

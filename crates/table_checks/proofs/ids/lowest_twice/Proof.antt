@@ -3,8 +3,9 @@
 use Prim.Native.Nat.{_-_}
 use mathlib.Core.Path.{sym, _∙_}
 use native.Mathlib.Omega.{arith}
-use Rattle.search.specs.Search.{NoneBelow, none-start, none-more}
-use Rattle.records.specs.Checks.{checkTwice, twiceAt, lowest-at, lowest-none}
+use Rattle.search.specs.SearchLaws.{NoneBelow, none-start, none-more}
+use Rattle.records.specs.Checks.{checkTwice, twiceAt}
+use Rattle.records.specs.ChecksLaws.{lowest-at, lowest-none}
 use Rattle.table_checks.proofs.ids.lowest_twice.Statement.{statement}
 use Rattle.table_checks.proofs.ids.lowest_twice.Tie as tie
 

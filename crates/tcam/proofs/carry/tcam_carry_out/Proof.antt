@@ -16,8 +16,10 @@ use prog.Wp.{Heap, Calls, Loops, WpFn, Tables}
 use ghost.Atoms.{Atoms}
 use contract.Monad.{Fun, fact}
 use contract.Running.{givenOf, tables, tablesOf}
-use types.Kit.{Given, ‵, raw, some, later, _⊛_, ⋆, _$_, _∵_, !, qed, by, move, keep, drop, use1, use3, split, join, pick, rewrite, fsplit, fsplit3, fjoin, fjoin3, feqL, feqI, suffices, frame, await, done}
-use types.Run.{look, init, forget, stop, hop, fld, from, load, addr, of-opd, and-then, no-more, assigns, land, returns, enter, alloc1, alloc0, params1, pass1, pass0, free1, free0}
+use types.Kit.{Given, ‵, raw, some, later, _⊛_, ⋆, _$_, _∵_, !, qed, by, move, keep, drop, use1, use3, split, join, pick, rewrite, fsplit, fsplit3}
+use types.Kit.{fjoin, fjoin3, feqL, feqI, suffices, frame, await, done}
+use types.Run.{look, init, forget, stop, hop, fld, from, load, addr, of-opd, and-then, no-more, assigns, land, returns, enter, alloc1, alloc0}
+use types.Run.{params1, pass1, pass0, free1, free0}
 use types.Part.{agg, whole, sub, look-in, store-in}
 use types.SemTy.{Body}
 use sound.WpLaws.{FmC, fmOf, WpFn-mono}
@@ -38,21 +40,22 @@ use denote.Triple.Statement.{Contract, Triple}
 use denote.Triple.Call.{calls-at}
 use denote.Triple.Clauses.{ensured, lasts}
 use denote.Triple.Table.{entered, cited}
-use denote.Triple.Walked.{says, Stays, stay-ref, stay-none, stay-none-slice, gave-slice, walkOf, AllGo, goes-ref, goes-none, goes-none-slice, goes-gave-slice, Walks, ends-at, walked, walk-meets}
+use denote.Triple.Walked.{says, Stays, stay-ref, stay-none, stay-none-slice, gave-slice, walkOf, AllGo, goes-ref, goes-none, goes-none-slice}
+use denote.Triple.Walked.{goes-gave-slice, Walks, ends-at, walked, walk-meets}
 use denote.Exit.{yes}
-use Rattle.carrying.specs.Carrying.{stepTable}
 use Rattle.records.specs.declared.Rule.{Rule}
+use Rattle.carrying.specs.Carrying.{stepTable}
 use Rattle.marshalling.specs.Cells.{ruleFrom}
 use Rattle.marshalling.specs.Carried.{carriedStep}
 use Rattle.marshalling.specs.declared.Carried.{Carried}
+use Rattle.tcam.specs.Carried.{CarryLeft}
+use Rattle.tcam.specs.declared.carry.Progress.{Progress}
 use Rattle.marshalling.proofs.Carried as S
 use Rattle.marshalling.proofs.Carried.Laws as S′
 use Rattle.marshalling.proofs.carry as callee
 use Rattle.marshalling.proofs.carry.Symbol as callee-def
 use Rattle.marshalling.proofs.carry.Symbol.{name as #carry}
 use Rattle.marshalling.proofs.carry.Met as callee-thm
-use Rattle.tcam.specs.Carried.{CarryLeft}
-use Rattle.tcam.specs.declared.carry.Progress.{Progress}
 use Rattle.tcam.proofs.carry.Progress as T
 use Rattle.tcam.proofs.carry.Progress.Laws as T′
 use Rattle.tcam.proofs.carry.tcam_carry_out.Key.{name as #tcam-carry-out}

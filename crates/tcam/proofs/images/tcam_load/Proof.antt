@@ -2,10 +2,11 @@
 -- Each case of the answer has its number and its cell.
 use mathlib.Core.Path.{sym, ap, _∙_}
 use denote.Ref.{now}
+use borrow.Author.Needs.{needs}
 use Rattle.records.specs.Checks.{Told}
 use Rattle.image.specs.Answers.{loadTold}
-use Rattle.marshalling.specs.Cells.{spotCell, refusal-put}
-use borrow.Author.Needs.{needs}
+use Rattle.marshalling.specs.Cells.{spotCell}
+use Rattle.marshalling.specs.CellsLaws.{refusal-put}
 use Rattle.tcam.proofs.images.tcam_load.Statement.{statement}
 use Rattle.tcam.proofs.images.tcam_load.Tie as tie
 

@@ -2,10 +2,11 @@
 -- Each case of the answer has its number and its cells.
 use mathlib.Core.Path.{sym, ap, _∙_}
 use denote.Ref.{now}
+use borrow.Author.Needs.{needs}
 use Rattle.records.specs.Checks.{Told}
 use Rattle.image.specs.Answers.{saveTold}
-use Rattle.marshalling.specs.Cells.{dataCell, spotCell, refusal-kept, refusal-put}
-use borrow.Author.Needs.{needs}
+use Rattle.marshalling.specs.Cells.{dataCell, spotCell}
+use Rattle.marshalling.specs.CellsLaws.{refusal-kept, refusal-put}
 use Rattle.tcam.proofs.images.tcam_save.Statement.{statement}
 use Rattle.tcam.proofs.images.tcam_save.Tie as tie
 

@@ -1,0 +1,69 @@
+-- End theorems on the definitions of Deletes: planning a delete: one emptying write. Checks 1 to 4, then 5 for id 0, 7 and 11 of document 01.
+use mathlib.Core.Path.{_≡_, ap}
+use mathlib.Core.Bool.{true}
+use mathlib.Core.List.{List}
+use Prim.Native.Nat.{ℕ, _<_, _≤_}
+use native.Mathlib.Omega.{arith}
+use lib.Dec.{eqb}
+use borrow.Author.Tests.{ltb-true, lt-ltb, le-ltb, eq-eqb, ne-eqb}
+use Rattle.search.specs.SearchLaws.{least-law, and-right}
+use Rattle.layout.specs.Write.{clear}
+use Rattle.plan_words.specs.PlanWords.{writeWord, writeOf}
+use Rattle.plan_words.specs.PlanWordsLaws.{write-of-word}
+use Rattle.records.specs.Record.{slotWords, ident}
+use Rattle.records.specs.Order.{slots}
+use Rattle.records.specs.Checks.{orElse, checkShape, tableChecks}
+use Rattle.records.specs.Laws.{or-else-pass, pass-law, slot-checks-law, table-checks-law, table-checks-length}
+use Rattle.records.specs.Writes.{applyWrite, fitsWord}
+use Rattle.records.specs.declared.Cause.the-variants.{Rule as RuleCause, Unknown}
+use Rattle.records.specs.declared.Check.{Check}
+use Rattle.records.specs.declared.Check.the-variants.{Pass, Fail}
+use Rattle.records.specs.EntriesLaws.{shaped-slots}
+use Rattle.delete_plans.specs.Deletes.{hasId, DeletePlanned, checkId, deleteChecks, slotOfId, checkUnknown}
+
+-- the code's tests of the id
+pub id-refused : (id : ℕ) (next : Check) → id ≡ 0 → Fail RuleCause 0 ≡ orElse (checkId id) next
+unfolding checkId
+id-refused id next e = rw (eq-eqb id 0 e)
+
+pub id-accepted : (id : ℕ) {answer next : Check} → (id ≡ 0 → ⊥) → answer ≡ next → answer ≡ orElse (checkId id) next
+unfolding checkId
+id-accepted id e h = rw (ne-eqb id 0 e) h
+
+pub id-found : (w : ℕ) (t : List ℕ) (id slot : ℕ) → slot ≡ slotOfId w t id → slot < slots w t → Pass ≡ checkUnknown w t id
+unfolding checkUnknown
+id-found w t id slot e h = rw (← e, lt-ltb slot (slots w t) h)
+
+pub id-absent : (w : ℕ) (t : List ℕ) (id slot : ℕ) → slot ≡ slotOfId w t id → slots w t ≤ slot → Fail Unknown 0 ≡ checkUnknown w t id
+unfolding checkUnknown
+id-absent w t id slot e h = rw (← e, le-ltb slot (slots w t) h)
+
+-- where the checks pass the slot is one of at most 1,024
+pub delete-small : (t : List ℕ) (id : ℕ) → deleteChecks 2 t id ≡ Pass → slotOfId 2 t id ≤ 1024
+unfolding deleteChecks slotOfId
+delete-small t id e =
+    let l = least-law (hasId 2 t id) (slots 2 t) 0 in
+    let h = table-checks-length 2 t (or-else-pass (tableChecks 2 t) (orElse (checkId id) (checkUnknown 2 t id)) .0 e .0) in
+    omega (arith, l .high)
+
+pub delete-planned : (w : ℕ) (t : List ℕ) (id : ℕ) → deleteChecks w t id ≡ Pass → DeletePlanned w t id
+unfolding deleteChecks slotOfId checkUnknown hasId
+delete-planned w t id e = record { table = checks .0; exists = exists; holds = holds; fits = fits; after = λ rule. ap (applyWrite w t rule) write }
+  where
+    checks : (tableChecks w t ≡ Pass) × (orElse (checkId id) (checkUnknown w t id) ≡ Pass)
+    checks = or-else-pass (tableChecks w t) (orElse (checkId id) (checkUnknown w t id)) .0 e
+
+    shape : checkShape w t ≡ Pass
+    shape = slot-checks-law w t .0 (table-checks-law w t .0 (checks .0) .0) .0
+
+    exists : slotOfId w t id < slots w t
+    exists = ltb-true (slotOfId w t id) (slots w t) (pass-law Unknown 0 _ .0 (or-else-pass (checkId id) (checkUnknown w t id) .0 (checks .1) .1))
+
+    holds : hasId w t id (slotOfId w t id) ≡ true
+    holds = least-law (hasId w t id) (slots w t) 0 .hit (omega (arith, exists))
+
+    write : writeOf (writeWord (clear (slotOfId w t id))) ≡ clear (slotOfId w t id)
+    write = write-of-word (clear (slotOfId w t id)) (omega (arith, exists, shaped-slots w t shape .1))
+
+    fits : fitsWord w t (writeWord (clear (slotOfId w t id))) ≡ true
+    fits = rw (write, lt-ltb (slotOfId w t id) (slots w t) exists) (and-right (eqb (ident w (slotWords w t (slotOfId w t id))) id) _ holds)

@@ -1,0 +1,117 @@
+-- End theorems on the definitions of Histories: document 01, demand 2: from an empty table, after any accepted inserts and deletes carried out in full, each key is answered by the.
+use mathlib.Core.Path.{_≡_, refl, sym, ap, _∙_, subst}
+use mathlib.Core.Bool.{true, false, not, true≢false}
+use mathlib.Core.Logic._⊎_.{inl}
+use mathlib.Core.List.{List, [], _∷_}
+use Prim.Native.Nat.{ℕ, zero, suc, _+_, _*_, _≤_, _<_}
+use native.Mathlib.Decide.{decLe}
+use native.Mathlib.Omega.{arith}
+use lib.ListN.{length, getD, replicate, length-replicate}
+use Rattle.ternary.specs.Pattern.{Words}
+use Rattle.records.specs.Record.{recordWords, slotWords, empty}
+use Rattle.records.specs.Checks.{Told, success, tableChecks}
+use Rattle.records.specs.Laws.{slot-checks-law, table-checks-law, shape-law, records-law, empty-law}
+use Rattle.records.specs.Entries.{vacant, entries, entryOccupied}
+use Rattle.records.specs.declared.Rule.{Rule}
+use Rattle.records.specs.declared.Check.the-variants.{Pass}
+use Rattle.records.specs.EntriesLaws.{entries-length, occupied-at, entry-laws, order-entries, unique-entries, refuted}
+use Rattle.delete_plans.specs.Deletes.{deleteAnswer, deletePlan}
+use Rattle.insert_plans.specs.Inserts.{insertAnswer, insertPlan}
+use Rattle.carrying.specs.Calls.{State, afterCalls, callAnswer}
+use Rattle.histories.specs.RuleSet.{Change, insert, delete, ruleSet, setReply}
+use Rattle.histories.specs.Holding.{Replies, Holding}
+use Rattle.histories.specs.Demand2.{Demand2}
+use Rattle.histories.specs.HoldingLaws.{holding-reply, holding-lookup}
+use Rattle.histories.specs.Demand2Laws.{demand-2-insert, demand-2-delete}
+use Rattle.histories.specs.Histories.{emptyTable, Reached, inserted, deleted, start}
+
+zero-word : (n k : ℕ) → _≡_ {A = ℕ} (getD (replicate n 0) k 0) 0
+zero-word zero k = refl
+zero-word (suc n) zero = refl
+zero-word (suc n) (suc k) = zero-word n k
+
+-- an empty table holds no rules
+module _ (w n : ℕ) (some : 1 ≤ n) (few : n ≤ 1024) where
+  zeros : List ℕ
+  zeros = emptyTable w n
+
+  slot-empty : (i : ℕ) → empty w (slotWords w zeros i) ≡ true
+  unfolding zeros
+  slot-empty i = empty-law w (slotWords w zeros i) .1 (λ j h. zero-word (n * recordWords w) (i * recordWords w + j))
+
+  abbrev entry : ℕ → List ℕ
+  entry i = getD (entries w zeros) i (vacant w)
+
+  entry-empty : (i : ℕ) → i < length (entries w zeros) → entryOccupied w (entry i) ≡ false
+  entry-empty i h = occupied-at w zeros i (omega (arith, entries-length w zeros)) ∙ ap not (slot-empty i)
+
+  pub empty-holding : Holding w [] (emptyTable w n)
+  unfolding zeros
+  empty-holding = record {
+    checks = table-checks-law w zeros .1 (
+      slot-checks-law w zeros .1 (
+        shape-law w zeros .1 (n, some, few, length-replicate (n * recordWords w) 0),
+        records-law w zeros .1 (λ i h. inl (slot-empty i)),
+      ),
+      unique-entries w zeros .0 (λ i k a b d. refuted (λ e. true≢false (sym (entry-laws w .same-occupied (entry i) (entry k) e) ∙ entry-empty i a))),
+      order-entries w zeros .0 (λ i k l h. entry-laws w .misordered-left (entry i) (entry k) (entry-empty i (omega arith))),
+    );
+    held = λ x. (λ m. absurd (true≢false (sym (m .0) ∙ (ap (entryOccupied w) (sym (m .1 .2)) ∙ entry-empty (m .1 .0) (m .1 .1)))), λ m. absurd (m .1));
+    actions = λ r m. absurd m;
+  }
+
+-- a plan that has answered "finished" is carried out in full
+finished-late : {w : ℕ} {t plan : List ℕ} {rule : Rule} {words : List ℕ} {count : ℕ} {change : List Rule → List Rule} → Demand2 w t plan rule words count change
+    → (calls : ℕ) → callAnswer w t plan rule count calls ≡ success [] → count ≤ calls
+finished-late {count = count} d calls e = pick (decLe count calls)
+  where
+    pick : Dec (count ≤ calls) → count ≤ calls
+    pick (yes h) = h
+    pick (no h) =
+        let n : _≡_ {A = ℕ} 1 0 = ap (λ (told : Told). length (told .values)) (sym (d .writes calls (omega arith)) ∙ e) in absurd (omega arith)
+
+carried : {w : ℕ} {t plan : List ℕ} {rule : Rule} {words : List ℕ} {count : ℕ} {change : List Rule → List Rule} → Demand2 w t plan rule words count change
+    → (rules : List Rule) → Holding w rules t → (calls : ℕ) → callAnswer w t plan rule count calls ≡ success []
+    → Holding w (change rules) (afterCalls w t plan rule count calls .table)
+carried {w} {change = change} d rules h calls e =
+    subst (λ (s : State). Holding w (change rules) (s .table)) (sym (d .rests calls (finished-late d calls e))) (d .holds rules h)
+
+-- every table reached is sound and holds exactly the rules inserted and not since deleted, each in one slot
+pub reached-holding : {w : ℕ} {history : List Change} {t : List ℕ} → Reached w history t → Holding w (ruleSet history) t
+reached-holding {w} (Reached.start n some few) = empty-holding w n some few
+reached-holding {w} (Reached.inserted history t before rule small plan count accepted calls finished) =
+    carried (demand-2-insert w t rule plan count small accepted) (ruleSet history) (reached-holding before) calls finished
+reached-holding {w} (Reached.deleted history t before id plan count accepted rule calls finished) =
+    carried (demand-2-delete w t id plan count rule accepted) (ruleSet history) (reached-holding before) calls finished
+
+-- every table reached passes checks 1 to 4
+pub reached-sound : {w : ℕ} {history : List Change} {t : List ℕ} → Reached w history t → tableChecks w t ≡ Pass
+reached-sound reached = reached-holding reached .checks
+
+-- and every key is answered by the highest-priority match among those rules, or by a miss
+pub reached-lookup : {w : ℕ} {history : List Change} {t : List ℕ} → Reached w history t → (key : Words)
+    → Replies w t key (setReply w (ruleSet history) key)
+reached-lookup {w} {history} {t} reached = holding-lookup w (ruleSet history) t (reached-holding reached)
+
+-- an accepted insert or delete is carried out in full by as many calls as its plan counts, so that a history can always go on
+pub reached-insert : {w : ℕ} {history : List Change} {t : List ℕ} → Reached w history t → (rule : Rule) → rule .action < 4294967296
+    → (plan : List ℕ) (count : ℕ) → insertAnswer w t rule (length plan) ≡ success (count ∷ [])
+    → Reached w (insert rule ∷ history) (afterCalls w t (insertPlan w t rule plan) rule count count .table)
+reached-insert {w} {history} {t} reached rule small plan count accepted =
+    Reached.inserted history t reached rule small plan count accepted count (demand-2-insert w t rule plan count small accepted .finished count (omega arith))
+
+pub reached-delete : {w : ℕ} {history : List Change} {t : List ℕ} → Reached w history t → (id : ℕ) (plan : List ℕ) (count : ℕ)
+    → deleteAnswer w t id (length plan) ≡ success (count ∷ []) → (rule : Rule)
+    → Reached w (delete id ∷ history) (afterCalls w t (deletePlan w t id plan) rule count count .table)
+reached-delete {w} {history} {t} reached id plan count accepted rule =
+    Reached.deleted history t reached id plan count accepted rule count (demand-2-delete w t id plan count rule accepted .finished count (omega arith))
+
+-- demand 2 in one piece, within a plan of a history: the replies of its rules until the last write, and those of the changed rules from it on
+pub reached-within : {w : ℕ} {history : List Change} {t plan : List ℕ} {rule : Rule} {words : List ℕ} {count : ℕ} {change : List Rule → List Rule}
+    → Reached w history t → Demand2 w t plan rule words count change → (k : ℕ) (key : Words)
+    → (k < count → Replies w (afterCalls w t plan rule count k .table) key (setReply w (ruleSet history) key))
+    × (count ≤ k → Replies w (afterCalls w t plan rule count k .table) key (setReply w (change (ruleSet history)) key))
+reached-within {w} {history} {t} {plan} {rule} {count = count} reached d k key = (
+  λ h. subst (Replies w (afterCalls w t plan rule count k .table) key) (holding-reply w (ruleSet history) t (reached-holding reached) key) (d .kept k h key),
+  λ h. d .changed (ruleSet history) (reached-holding reached) k h key,
+)

@@ -1,0 +1,164 @@
+-- End theorems on the definitions of RoundTrip: saving and loading undo each other: a saved image loads to the table it was saved from, and an image that loads is saved again to the same bytes.
+use mathlib.Core.Path.{_≡_, refl, sym, ap, ap₂, subst, _∙_}
+use mathlib.Core.Bool.{true≢false}
+use mathlib.Core.Logic.{_↔_}
+use mathlib.Core.List.{List, [], _∷_, _++_}
+use Prim.Native.Nat.{ℕ, _*_, _≤_, _<_}
+use native.Mathlib.Decide.{decLt}
+use native.Mathlib.Omega.{arith}
+use lib.Dec.{eqb}
+use lib.ListN.{length, take, drop}
+use lib.Seq.{take-at}
+use Rattle.records.specs.Record.{recordWords, sound}
+use Rattle.records.specs.Order.{slots}
+use Rattle.records.specs.Checks.{Told, success, unless, orElse, checkShape, checkRecords, checkTwice, checkOrder, slotChecks, tableChecks}
+use Rattle.records.specs.Laws.{cause-not-zero, or-else-pass, shape-same}
+use Rattle.records.specs.declared.Cause.the-variants.{Short}
+use Rattle.records.specs.declared.Check.{Check}
+use Rattle.records.specs.declared.Check.the-variants.{Pass, Fail}
+use Rattle.records.specs.EntriesLaws.{shaped-slots}
+use Rattle.buffers.specs.Buffers.{checkRoom, bufferAnswer}
+use Rattle.buffers.specs.BuffersLaws.{buffer-accepted, buffer-short, buffer-written}
+use Rattle.image.specs.Format.{imageBytes, ruleCount, imageOf, slotsIn}
+use Rattle.image.specs.Checks.{imageChecks, meant, loadChecks, Sound}
+use Rattle.image.specs.Answers.{saveAnswer, saveBuffer, loadAnswer, loadTable}
+use Rattle.image.specs.SaveLaws.{save-answer}
+use Rattle.image.specs.LoadLaws.{load-written}
+use Rattle.image.specs.Meaning.{meant-length}
+use Rattle.image.specs.Reading.{Words64, Numbered}
+use Rattle.image.specs.Bytes.{Bytes}
+use Rattle.image.specs.ChecksLaws.{image-law}
+use Rattle.image.specs.ReadingLaws.{slots-read}
+use Rattle.image.specs.ReloadingLaws.{saved-size, image-loads}
+use Rattle.image.specs.ResavingLaws.{image-back, meant-records, meant-words}
+use Rattle.image.specs.RoundTrip.{Loads}
+
+-- which answers are successes: the number alone tells
+unless-zero : (check : Check) (values : List ℕ) → 0 ≡ unless check (success values) .number → check ≡ Pass
+unless-zero Pass values e = refl
+unless-zero (Fail cause spot) values e = absurd (true≢false (ap (λ (n : ℕ). eqb n 0) e ∙ cause-not-zero cause))
+
+-- a save succeeds exactly on a sound table with room for its image, and then tells the image's bytes
+pub save-succeeds : (w : ℕ) (t image : List ℕ) (bytes : ℕ)
+    → (saveAnswer w t (length image) ≡ success (bytes ∷ []))
+    ↔ ((tableChecks w t ≡ Pass) × (length (imageOf w t) ≤ length image) × (bytes ≡ length (imageOf w t)))
+save-succeeds w t image bytes = (
+  λ e. let told = save-answer w t (length image) ∙ e in
+      let done = buffer-accepted (tableChecks w t) (imageOf w t) image bytes told in
+      (done .0, room (done .0) told (decLt (length image) (length (imageOf w t))), done .1),
+  λ f. sym (save-answer w t (length image))
+      ∙ (sym (buffer-written (imageOf w t) image refl (f .0) (f .1) .0) ∙ ap (λ (k : ℕ). success (k ∷ [])) (sym (f .2))),
+)
+  where
+    room : tableChecks w t ≡ Pass → bufferAnswer (tableChecks w t) (length (imageOf w t)) (length image) ≡ success (bytes ∷ [])
+        → Dec (length image < length (imageOf w t)) → length (imageOf w t) ≤ length image
+    room p told (yes h) =
+        absurd (true≢false (sym (ap (λ (x : Told). eqb (x .number) 0) (buffer-short (imageOf w t) image refl p h .0 ∙ told)) ∙ cause-not-zero Short))
+    room p told (no h) = omega arith
+
+-- the number that a save tells is enough
+pub save-number : (w : ℕ) (t : List ℕ) (room : ℕ) → 0 ≡ saveAnswer w t room .number → saveAnswer w t room ≡ success (imageBytes w (ruleCount w t) ∷ [])
+unfolding bufferAnswer
+save-number w t room e =
+    let needed = imageBytes w (ruleCount w t) in
+    ap (λ (check : Check). unless check (success (needed ∷ []))) (unless-zero (orElse (tableChecks w t) (checkRoom needed room)) (needed ∷ []) e)
+
+-- a load succeeds exactly where the lent table's shape is good, every field of the image is right, and the table meant passes 3 and 4
+pub load-succeeds : (w : ℕ) (b lent : List ℕ)
+    → (loadAnswer w b lent ≡ success [])
+    ↔ ((checkShape w lent ≡ Pass) × Sound w b (slots w lent)
+    × (checkTwice w (meant w b (length lent)) ≡ Pass) × (checkOrder w (meant w b (length lent)) ≡ Pass))
+unfolding loadAnswer loadChecks
+load-succeeds w b lent =
+    let shape = checkShape w lent in
+    let image = imageChecks w b (slots w lent) in
+    let twice = checkTwice w (meant w b (length lent)) in
+    let order = checkOrder w (meant w b (length lent)) in (
+      λ told. let halves = or-else-pass (orElse shape image) (orElse twice order) .0 (unless-zero (loadChecks w b lent) [] (sym (ap (λ (x : Told). x .number) told))) in
+          let fields = or-else-pass shape image .0 (halves .0) in
+          let pairs = or-else-pass twice order .0 (halves .1) in
+          (fields .0, image-law w b (slots w lent) .0 (fields .1), pairs .0, pairs .1),
+      λ f. sym (load-written w b lent (or-else-pass shape image .1 (f .0, image-law w b (slots w lent) .1 (f .1)))
+          (sym (or-else-pass twice order .1 (f .2, f .3))) refl .0),
+    )
+
+-- document 01's tables are narrow enough: an image of two words a value has at most 51,204 bytes
+pub narrow-two : Numbered 2
+narrow-two = omega arith
+
+-- Demand 2: a saved image loads, into any lent table of as many slots, to the table it was saved from.
+pub saved-loads : (w : ℕ) (t image : List ℕ) (bytes : ℕ) → Numbered w → Words64 t → saveAnswer w t (length image) ≡ success (bytes ∷ [])
+    → (lent : List ℕ) → length lent ≡ length t
+    → (loadAnswer w (take bytes (saveBuffer w t image)) lent ≡ success []) × (loadTable w (take bytes (saveBuffer w t image)) lent ≡ t)
+saved-loads w t image bytes narrow sixty-four e lent size =
+    let done = save-succeeds w t image bytes .0 e in
+    let written = buffer-written (imageOf w t) image refl (done .0) (done .1) .1 in
+    let same : take bytes (saveBuffer w t image) ≡ imageOf w t =
+    ap₂ take (done .2) (sym written) ∙ take-at (imageOf w t) (drop (length (imageOf w t)) image) (length (imageOf w t)) refl in
+    let loads = image-loads w t narrow sixty-four (done .0) lent size in
+    (ap (λ (b : List ℕ). loadAnswer w b lent) same ∙ loads .0, ap (λ (b : List ℕ). loadTable w b lent) same ∙ loads .1)
+
+pub load-leaves : (w : ℕ) (b lent : List ℕ) → Bytes b → loadAnswer w b lent ≡ success [] → Loads w b lent
+unfolding tableChecks slotChecks
+load-leaves w b lent bytes told = record {
+  sound = ap (tableChecks w) table ∙ or-else-pass (slotChecks w m) (orElse (checkTwice w m) (checkOrder w m)) .1 (
+    or-else-pass (checkShape w m) (checkRecords w m) .1 (shape-same w lent m (meant-length w b n s ∙ sym size) ∙ right .0, meant-records w b n s),
+    or-else-pass (checkTwice w m) (checkOrder w m) .1 (ap (checkTwice w) (sym meant-same) ∙ right .2, ap (checkOrder w) (sym meant-same) ∙ right .3),
+  );
+  words = subst Words64 (sym table) (meant-words w b n s bytes);
+  size = ap length table ∙ (meant-length w b n s ∙ sym size);
+  image = ap (imageOf w) table ∙ image-back w b n s bytes;
+}
+  where
+    n : ℕ
+    n = slots w lent
+
+    m : List ℕ
+    m = meant w b (n * recordWords w)
+
+    right : (checkShape w lent ≡ Pass) × Sound w b n × (checkTwice w (meant w b (length lent)) ≡ Pass) × (checkOrder w (meant w b (length lent)) ≡ Pass)
+    right = load-succeeds w b lent .0 told
+
+    size : length lent ≡ n * recordWords w
+    size = shaped-slots w lent (right .0) .2
+
+    s : Sound w b n
+    s = right .1
+
+    meant-same : meant w b (length lent) ≡ m
+    meant-same = ap (meant w b) size
+
+    table : loadTable w b lent ≡ m
+    table =
+        sym (load-written w b lent (or-else-pass (checkShape w lent) (imageChecks w b n) .1 (right .0, image-law w b n .1 s))
+        (sym (or-else-pass (checkTwice w _) (checkOrder w _) .1 (right .2, right .3))) refl .1)
+        ∙ meant-same
+
+-- Document 01: an image that loads is saved again to the same bytes; what stands past it stays.
+pub loaded-saves : (w : ℕ) (b lent : List ℕ) → Bytes b → loadAnswer w b lent ≡ success [] → (image : List ℕ) → length b ≤ length image
+    → (saveAnswer w (loadTable w b lent) (length image) ≡ success (length b ∷ []))
+    × (saveBuffer w (loadTable w b lent) image ≡ b ++ drop (length b) image)
+loaded-saves w b lent bytes told image room =
+    let left = load-leaves w b lent bytes told in
+    let t = loadTable w b lent in
+    let size : length (imageOf w t) ≡ length b = ap length (left .image) in
+    let done = buffer-written (imageOf w t) image refl (left .sound) (omega arith) in (
+      sym (save-answer w t (length image)) ∙ (sym (done .0) ∙ ap (λ (k : ℕ). success (k ∷ [])) size),
+      sym (done .1) ∙ ap (λ (bytes : List ℕ). bytes ++ drop (length bytes) image) (left .image),
+    )
+
+-- So sound tables and the images that load correspond one to one: different tables have different images,
+pub one-image : (w : ℕ) (t u : List ℕ) → Numbered w → Words64 t → Words64 u → tableChecks w t ≡ Pass → tableChecks w u ≡ Pass → imageOf w t ≡ imageOf w u → t ≡ u
+one-image w t u narrow left right p q same =
+    let slots-same : slots w t ≡ slots w u =
+    sym (slots-read w t narrow left p) ∙ (ap slotsIn same ∙ slots-read w u narrow right q) in
+    let a = saved-size w t narrow left p in
+    let c = saved-size w u narrow right q in
+    let long : length t ≡ length u = a ∙ (ap (λ (n : ℕ). n * recordWords w) slots-same ∙ sym c) in
+    sym (image-loads w t narrow left p t refl .1) ∙ (ap (λ (b : List ℕ). loadTable w b t) same ∙ image-loads w u narrow right q t long .1)
+
+-- and different images load to different tables.
+pub one-table : (w : ℕ) (b c lent other : List ℕ) → Bytes b → Bytes c → loadAnswer w b lent ≡ success [] → loadAnswer w c other ≡ success []
+    → loadTable w b lent ≡ loadTable w c other → b ≡ c
+one-table w b c lent other left right p q same =
+    sym (load-leaves w b lent left p .image) ∙ (ap (imageOf w) same ∙ load-leaves w c other right q .image)

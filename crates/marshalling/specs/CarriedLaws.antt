@@ -1,0 +1,95 @@
+-- End theorems on the definitions of Carried: a step of a plan on its progress as numbers: the writes done after it, and its answer as one number.
+use mathlib.Core.Path.{_≡_, refl, sym, ap, _∙_}
+use mathlib.Core.Bool.{false, true≢false}
+use mathlib.Core.List.{List}
+use Prim.Native.Nat.{ℕ, zero, suc, _+_, _*_, _/_, _%_, _≤_, _<_}
+use native.Mathlib.Omega.{arith}
+use lib.Dec.{eqb}
+use Rattle.records.specs.Checks.{Told, causeNumber, refusal}
+use Rattle.records.specs.Laws.{cause-not-zero, cause-number-once}
+use Rattle.records.specs.declared.Cause.{Cause}
+use Rattle.records.specs.declared.Cause.the-variants.{Shape, Record, Twice, Order, Rule as RuleCause, Known, Unknown, Tie, Full, Crossed, Short}
+use Rattle.records.specs.declared.Cause.the-variants.{Write, Line, Image}
+use Rattle.records.specs.declared.Rule.{Rule}
+use Rattle.carrying.specs.Carrying.{stepTold, stepAnswer, stepTable}
+use Rattle.carrying.specs.declared.StepInfo.{StepInfo}
+use Rattle.carrying.specs.declared.StepAnswer.{StepAnswer}
+use Rattle.carrying.specs.declared.StepAnswer.the-variants.{Wrote, Finished, Refused}
+use Rattle.carrying.specs.StepsLaws.{doneTold, done-told}
+use Rattle.marshalling.specs.declared.Carried.{Carried}
+use Rattle.marshalling.specs.Carried.{SameCase, SpotFits, carriedStep, carryResult}
+
+-- each case of an answer has its number
+pub carry-wrote : (info : StepInfo) → carryResult (stepTold (Wrote info)) ≡ 0
+carry-wrote info = refl
+
+pub carry-finished : carryResult (stepTold Finished) ≡ 4294967295
+carry-finished = refl
+
+pub carry-refused : (cause : Cause) (spot : ℕ) → carryResult (stepTold (Refused cause spot)) ≡ causeNumber cause + spot * 4294967296
+carry-refused cause spot = rw (cause-not-zero cause)
+
+cause-small : (cause : Cause) → causeNumber cause ≤ 14
+cause-small Shape = omega arith
+cause-small Record = omega arith
+cause-small Twice = omega arith
+cause-small Order = omega arith
+cause-small RuleCause = omega arith
+cause-small Known = omega arith
+cause-small Unknown = omega arith
+cause-small Tie = omega arith
+cause-small Full = omega arith
+cause-small Crossed = omega arith
+cause-small Short = omega arith
+cause-small Write = omega arith
+cause-small Line = omega arith
+cause-small Image = omega arith
+
+-- a refusal's number and spot are the halves of it
+pub carry-halves : (cause : Cause) (spot : ℕ) → spot < 4294967296
+    → (carryResult (stepTold (Refused cause spot)) % 4294967296 ≡ causeNumber cause) × (carryResult (stepTold (Refused cause spot)) / 4294967296 ≡ spot)
+carry-halves cause spot f =
+    let e = carry-refused cause spot in
+    let low = cause-small cause in
+    (omega (arith, e, low), omega (arith, e, low))
+
+-- a cause's number is neither 0 nor as large as that of "finished"
+cause-some : (cause : Cause) → 0 < causeNumber cause
+cause-some cause = by (causeNumber cause) (cause-not-zero cause)
+  where
+    by : (n : ℕ) → eqb n 0 ≡ false → 0 < n
+    by zero e = absurd (true≢false e)
+    by (suc n) e = omega arith
+
+-- answers with one number are the same case
+pub carry-result-once : (a b : StepAnswer) → SpotFits a → SpotFits b → carryResult (stepTold a) ≡ carryResult (stepTold b) → SameCase a b
+carry-result-once (Wrote info) (Wrote other) f g e = tt
+carry-result-once (Wrote info) Finished f g e = omega (arith, e)
+carry-result-once (Wrote info) (Refused cause spot) f g e = omega (arith, e ∙ carry-refused cause spot, cause-some cause, cause-small cause)
+carry-result-once Finished (Wrote other) f g e = omega (arith, e)
+carry-result-once Finished Finished f g e = tt
+carry-result-once Finished (Refused cause spot) f g e = omega (arith, e ∙ carry-refused cause spot, cause-some cause, cause-small cause)
+carry-result-once (Refused cause spot) (Wrote other) f g e = omega (arith, sym e ∙ carry-refused cause spot, cause-some cause, cause-small cause)
+carry-result-once (Refused cause spot) Finished f g e = omega (arith, sym e ∙ carry-refused cause spot, cause-some cause, cause-small cause)
+carry-result-once (Refused cause spot) (Refused other place) f g e =
+    let same = sym (carry-refused cause spot) ∙ (e ∙ carry-refused other place) in
+    (cause-number-once cause other (omega (arith, same, cause-small cause, cause-small other)), omega (arith, same, cause-small cause, cause-small other))
+
+-- the writes done after an answer, and the number that tells it
+abbrev pub carriedTold : Told → ℕ → Carried
+carriedTold told before = record { done = doneTold told before; result = carryResult told }
+
+pub carried-refused : (cause : Cause) (spot done : ℕ) {n : ℕ} → n ≡ causeNumber cause
+    → _≡_ {A = Carried} (record { done = done; result = n + spot * 4294967296 }) (carriedTold (refusal cause spot) done)
+carried-refused cause spot done e = rw (e, cause-not-zero cause)
+
+-- what is told of a step, with the rule given, is what the call tells
+pub carry-ends : (t plan : List ℕ) {rule given : Rule} (done total : ℕ) {told : Told} {after : List ℕ} {carried : Carried} → rule ≡ given
+    → told ≡ stepAnswer 2 t plan rule done total → after ≡ stepTable 2 t plan rule done total → carried ≡ carriedTold told done
+    → (carried ≡ carriedStep t plan given done total) × (after ≡ stepTable 2 t plan given done total)
+carry-ends t plan {rule} done total same e f m =
+    let d = ap (λ (x : Told). doneTold x done) e ∙ done-told 2 t plan rule done total in
+    let n = ap carryResult e in (
+      m ∙ ((λ i. record { done = d i; result = n i }) ∙ ap (λ (r : Rule). carriedStep t plan r done total) same),
+      f ∙ ap (λ (r : Rule). stepTable 2 t plan r done total) same,
+    )

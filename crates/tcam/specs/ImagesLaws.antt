@@ -1,0 +1,28 @@
+-- End theorems on the definitions of Images: what the exported calls that save and load leave: their result, the lent buffer and the lent cells, before and after.
+use mathlib.Core.Path.{_≡_, sym, ap, _∙_}
+use mathlib.Core.List.{List, [], _∷_}
+use Prim.Native.Nat.{ℕ}
+use lib.ListN.{length, take}
+use Rattle.records.specs.Checks.{Told, success}
+use Rattle.image.specs.Format.{imageBytes, ruleCount}
+use Rattle.image.specs.Answers.{saveBuffer, loadAnswer, loadTable}
+use Rattle.image.specs.Reading.{Words64}
+use Rattle.image.specs.RoundTripLaws.{save-number, narrow-two, saved-loads}
+use Rattle.marshalling.specs.Cells.{dataCell, spotCell}
+use Rattle.tcam.specs.Images.{SaveLeft, LoadLeft}
+
+-- Calls one after the other: the bytes that a save told, of the buffer that it left, are loaded into any table of as many words.
+-- The load succeeds and leaves the table that was saved.
+pub save-load-call : (t image saved : List ℕ) (bytes bytes′ spot spot′ : ℕ) → Words64 t → SaveLeft t 0 image saved bytes bytes′ spot spot′
+    → (lent loaded : List ℕ) (result place place′ : ℕ) → length lent ≡ length t → LoadLeft (take bytes′ saved) result lent loaded place place′
+    → (result ≡ 0) × (loaded ≡ t) × (place′ ≡ place)
+save-load-call t image saved bytes bytes′ spot spot′ sixty-four left lent loaded result place place′ size load =
+    let told = save-number 2 t (length image) (left .number) in
+    let count : bytes′ ≡ imageBytes 2 (ruleCount 2 t) = left .counted ∙ ap (λ (answer : Told). dataCell answer 0 bytes) told in
+    let loads = saved-loads 2 t image bytes′ narrow-two sixty-four (told ∙ ap (λ (k : ℕ). success (k ∷ [])) (sym count)) lent size in
+    let same : take bytes′ saved ≡ take bytes′ (saveBuffer 2 t image) = ap (take bytes′) (left .plan) in
+    let answer : loadAnswer 2 (take bytes′ saved) lent ≡ success [] = ap (λ (b : List ℕ). loadAnswer 2 b lent) same ∙ loads .0 in (
+      load .number ∙ ap (λ (x : Told). x .number) answer,
+      load .loaded ∙ (ap (λ (b : List ℕ). loadTable 2 b lent) same ∙ loads .1),
+      load .spotted ∙ ap (λ (x : Told). spotCell x place) answer,
+    )

@@ -1,0 +1,110 @@
+-- Laws on the definitions of Word: the three tests of one word, by masks and exclusive-or against zero, and what each says of every bit position.
+use mathlib.Core.Path.{_≡_, sym, ap, _∙_}
+use mathlib.Core.Bool.{true}
+use mathlib.Core.Logic.{_↔_}
+use Prim.Native.Nat.{ℕ, zero, suc, _^_, _<_, min, max}
+use native.Mathlib.Omega.{arith}
+use native.Mathlib.Decide.{ℕ-discrete}
+use lib.Dec.{eqb}
+use lib.Bits.{bitAnd, bitXor, differ, and-lt, or-lt}
+use borrow.Author.Tests.{eqb-true, eq-eqb}
+use Rattle.ternary.specs.Bit.{bit}
+use Rattle.ternary.specs.BitLaws.{bit-lt, bit-and, bit-or, bit-xor, zero-bits}
+use Rattle.ternary.specs.Word.{inside, common, agree, both}
+
+-- a test against zero, bit by bit
+test-law : (x : ℕ) → (eqb x 0 ≡ true) ↔ ((i : ℕ) → bit x i ≡ 0)
+test-law x = (λ e. zero-bits x .0 (eqb-true x 0 e), λ h. eq-eqb x 0 (zero-bits x .1 h))
+
+differ-zero : (a b : ℕ) → (differ a b ≡ 0) ↔ (a ≡ b)
+differ-zero zero b = (λ e. sym e, λ e. sym e)
+differ-zero (suc a) zero = (λ e. e, λ e. e)
+differ-zero (suc a) (suc b) = (λ e. ap suc (differ-zero a b .0 e), λ e. differ-zero a b .1 (omega arith))
+
+-- one digit of the word that agree tests, and of the one that inside tests
+agree-digit : (a b m : ℕ) → m < 2 → (min (differ a b) m ≡ 0) ↔ (m ≡ 1 → a ≡ b)
+agree-digit a b zero h = (λ e f. absurd (omega arith), λ f. omega arith)
+agree-digit a b (suc m) h =
+    let one : m ≡ 0 = omega arith in
+    (λ e f. differ-zero a b .0 (omega arith), λ f. let z : differ a b ≡ 0 = differ-zero a b .1 (f (omega arith)) in omega arith)
+
+inside-digit : (v m : ℕ) → v < 2 → m < 2 → (differ (min v m) v ≡ 0) ↔ (m ≡ 0 → v ≡ 0)
+inside-digit v m h k = (
+  λ e f. let same : min v m ≡ v = differ-zero (min v m) v .0 e in omega arith,
+  λ f. differ-zero (min v m) v .1 (pick (ℕ-discrete m 0) f),
+)
+  where
+    pick : Dec (m ≡ 0) → (m ≡ 0 → v ≡ 0) → min v m ≡ v
+    pick (yes e) f = let z : v ≡ 0 = f e in omega arith
+    pick (no e) f = omega arith
+
+-- agree: at each bit of m the two are equal
+pub agree-law : (a b m : ℕ) → (agree a b m ≡ true) ↔ ((i : ℕ) → bit m i ≡ 1 → bit a i ≡ bit b i)
+unfolding agree
+agree-law a b m = (
+  λ e i. agree-digit (bit a i) (bit b i) (bit m i) (bit-lt m i) .0 (sym (at i) ∙ test-law word .0 e i),
+  λ h. test-law word .1 (λ i. at i ∙ agree-digit (bit a i) (bit b i) (bit m i) (bit-lt m i) .1 (h i)),
+)
+  where
+    word : ℕ
+    word = bitAnd (bitXor a b) m
+
+    at : (i : ℕ) → bit (bitAnd (bitXor a b) m) i ≡ min (differ (bit a i) (bit b i)) (bit m i)
+    at i = bit-and (bitXor a b) m i ∙ ap (λ (x : ℕ). min x (bit m i)) (bit-xor a b i)
+
+-- inside: at each bit outside m, v is 0
+pub inside-law : (v m : ℕ) → (inside v m ≡ true) ↔ ((i : ℕ) → bit m i ≡ 0 → bit v i ≡ 0)
+unfolding inside
+inside-law v m = (
+  λ e i. inside-digit (bit v i) (bit m i) (bit-lt v i) (bit-lt m i) .0 (sym (at i) ∙ test-law word .0 e i),
+  λ h. test-law word .1 (λ i. at i ∙ inside-digit (bit v i) (bit m i) (bit-lt v i) (bit-lt m i) .1 (h i)),
+)
+  where
+    word : ℕ
+    word = bitXor (bitAnd v m) v
+
+    at : (i : ℕ) → bit (bitXor (bitAnd v m) v) i ≡ differ (min (bit v i) (bit m i)) (bit v i)
+    at i = bit-xor (bitAnd v m) v i ∙ ap (λ (x : ℕ). differ x (bit v i)) (bit-and v m i)
+
+-- a bit is cared for by both exactly when each cares for it
+pub both-law : (m n i : ℕ) → (bit (both m n) i ≡ 1) ↔ ((bit m i ≡ 1) × (bit n i ≡ 1))
+unfolding both
+both-law m n i =
+    let e = bit-and m n i in
+    let l = bit-lt m i in
+    let r = bit-lt n i in
+    (λ f. (omega arith, omega arith), λ f. omega arith)
+
+-- one digit of the common key
+common-digit : (v m w n : ℕ) → v < 2 → w < 2 → n < 2 → m ≡ 1 → (n ≡ 1 → v ≡ w) → max (min v m) (min w n) ≡ v
+common-digit v m w zero a b c e f = omega arith
+common-digit v m w (suc n) a b c e f = let g : v ≡ w = f (omega arith) in omega arith
+
+bit-common : (v m w n i : ℕ) → bit (common v m w n) i ≡ max (min (bit v i) (bit m i)) (min (bit w i) (bit n i))
+unfolding common
+bit-common v m w n i =
+    bit-or (bitAnd v m) (bitAnd w n) i
+    ∙ (ap (λ (x : ℕ). max x (bit (bitAnd w n) i)) (bit-and v m i)
+    ∙ ap (λ (x : ℕ). max (min (bit v i) (bit m i)) x) (bit-and w n i))
+
+-- the common key agrees with each of two values that agree at the bits of both masks
+pub common-left : (v m w n : ℕ) → agree v w (both m n) ≡ true → agree (common v m w n) v m ≡ true
+common-left v m w n e =
+    agree-law (common v m w n) v m .1
+    (λ i h. bit-common v m w n i
+    ∙ common-digit (bit v i) (bit m i) (bit w i) (bit n i) (bit-lt v i) (bit-lt w i) (bit-lt n i) h
+    (λ k. agree-law v w (both m n) .0 e i (both-law m n i .1 (h, k))))
+
+pub common-right : (v m w n : ℕ) → agree v w (both m n) ≡ true → agree (common v m w n) w n ≡ true
+common-right v m w n e =
+    agree-law (common v m w n) w n .1
+    (λ i h. let l = bit-lt v i in let r = bit-lt w i in
+    bit-common v m w n i
+    ∙ (let c : max (min (bit v i) (bit m i)) (min (bit w i) (bit n i)) ≡ max (min (bit w i) (bit n i)) (min (bit v i) (bit m i)) = omega arith in c)
+    ∙ common-digit (bit w i) (bit n i) (bit v i) (bit m i) r l (bit-lt m i) h
+    (λ k. sym (agree-law v w (both m n) .0 e i (both-law m n i .1 (k, h)))))
+
+-- and it is a word where the values are
+pub common-fits : (k v m w n : ℕ) → v < 2 ^ k → w < 2 ^ k → m < 2 ^ k → n < 2 ^ k → common v m w n < 2 ^ k
+unfolding common
+common-fits k v m w n a b c d = or-lt k (bitAnd v m) (bitAnd w n) (and-lt k v m a c) (and-lt k w n b d)
