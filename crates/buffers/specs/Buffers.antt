@@ -1,5 +1,5 @@
--- What a planning call answers and leaves in the plan buffer, given its checks and the words of its plan.
--- Inserts and deletes differ in these two alone.
+-- What a call that writes into a lent buffer answers and leaves there, given its checks and the contents that it is to write: a plan's words or
+-- an image's bytes. Inserts, deletes and saves differ in these two alone.
 use mathlib.Core.Bool.{cond}
 use mathlib.Core.List.{List, [], _∷_, _++_}
 use Prim.Native.Nat.{ℕ}
@@ -17,14 +17,15 @@ abbrev pub planTold : PlanAnswer → Told
 planTold (Planned info) = success (info .count ∷ [])
 planTold (Refused cause spot) = refusal cause spot
 
--- 11: the plan buffer is too short, spot the words needed
+-- 11: the plan or image buffer is too short, spot the words or bytes needed
 unfoldable pub checkRoom : ℕ → ℕ → Check
 checkRoom needed room = cond (ltb room needed) (Fail Short needed) Pass
 
--- the answer, with so many words needed and a buffer of so many
+-- the answer, with so many words or bytes needed and a buffer of so many
 unfoldable pub bufferAnswer : Check → ℕ → ℕ → Told
 bufferAnswer checks needed room = unless (orElse checks (checkRoom needed room)) (success (needed ∷ []))
 
--- the buffer afterwards: on success the plan's words and then what stood there, else as it was
+-- the buffer afterwards: on success the contents and then what stood there, else as it was
 unfoldable pub bufferAfter : Check → List ℕ → List ℕ → List ℕ
-bufferAfter checks words plan = cond (passes (orElse checks (checkRoom (length words) (length plan)))) (words ++ drop (length words) plan) plan
+bufferAfter checks contents buffer =
+    cond (passes (orElse checks (checkRoom (length contents) (length buffer)))) (contents ++ drop (length contents) buffer) buffer

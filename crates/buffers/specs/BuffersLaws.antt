@@ -1,4 +1,4 @@
--- End theorems on the definitions of Buffers: what a planning call answers and leaves in the plan buffer, given its checks and the words of its plan.
+-- End theorems on the definitions of Buffers: how a call that writes into a lent buffer ends.
 use mathlib.Core.Path.{_≡_, refl, sym, ap, ap₂, _∙_}
 use mathlib.Core.Bool.{cond, true≢false}
 use mathlib.Core.List.{List, [], _∷_, _++_}
@@ -26,41 +26,41 @@ plan-told-once (Refused c s) (Planned y) e = absurd (true≢false (ap (λ (t : T
 plan-told-once (Refused c s) (Refused d u) e =
     ap₂ Refused (cause-number-once c d (ap (λ (t : Told). t .number) e)) (ap (λ (t : Told). getD (t .values) 0 0) e)
 
--- a planning call ends in one of three ways
-pub buffer-refused : {x checks : Check} {cause : Cause} {spot : ℕ} (words plan : List ℕ) → x ≡ checks → x ≡ Fail cause spot
-    → (refusal cause spot ≡ bufferAnswer checks (length words) (length plan)) × (plan ≡ bufferAfter checks words plan)
+-- such a call ends in one of three ways
+pub buffer-refused : {x checks : Check} {cause : Cause} {spot : ℕ} (contents buffer : List ℕ) → x ≡ checks → x ≡ Fail cause spot
+    → (refusal cause spot ≡ bufferAnswer checks (length contents) (length buffer)) × (buffer ≡ bufferAfter checks contents buffer)
 unfolding bufferAnswer bufferAfter
-buffer-refused {cause = cause} {spot} words plan e f =
+buffer-refused {cause = cause} {spot} contents buffer e f =
     let g = sym e ∙ f in (
-      sym (ap (λ (c : Check). unless (orElse c (checkRoom (length words) (length plan))) (success (length words ∷ []))) g),
-      sym (ap (λ (c : Check). cond (passes (orElse c (checkRoom (length words) (length plan)))) (words ++ drop (length words) plan) plan) g),
+      sym (ap (λ (c : Check). unless (orElse c (checkRoom (length contents) (length buffer))) (success (length contents ∷ []))) g),
+      sym (ap (λ (c : Check). cond (passes (orElse c (checkRoom (length contents) (length buffer)))) (contents ++ drop (length contents) buffer) buffer) g),
     )
 
-pub buffer-short : {x checks : Check} (words plan : List ℕ) → x ≡ checks → x ≡ Pass → length plan < length words
-    → (refusal Short (length words) ≡ bufferAnswer checks (length words) (length plan)) × (plan ≡ bufferAfter checks words plan)
+pub buffer-short : {x checks : Check} (contents buffer : List ℕ) → x ≡ checks → x ≡ Pass → length buffer < length contents
+    → (refusal Short (length contents) ≡ bufferAnswer checks (length contents) (length buffer)) × (buffer ≡ bufferAfter checks contents buffer)
 unfolding bufferAnswer bufferAfter checkRoom
-buffer-short words plan e f h =
+buffer-short contents buffer e f h =
     let g = sym e ∙ f in
-    let s = lt-ltb (length plan) (length words) h in
+    let s = lt-ltb (length buffer) (length contents) h in
     (rw (g, s), rw (g, s))
 
-pub buffer-written : {x checks : Check} (words plan : List ℕ) → x ≡ checks → x ≡ Pass → length words ≤ length plan
-    → (success (length words ∷ []) ≡ bufferAnswer checks (length words) (length plan)) × (words ++ drop (length words) plan ≡ bufferAfter checks words plan)
+pub buffer-written : {x checks : Check} (contents buffer : List ℕ) → x ≡ checks → x ≡ Pass → length contents ≤ length buffer
+    → (success (length contents ∷ []) ≡ bufferAnswer checks (length contents) (length buffer)) × (contents ++ drop (length contents) buffer ≡ bufferAfter checks contents buffer)
 unfolding bufferAnswer bufferAfter checkRoom
-buffer-written words plan e f h =
+buffer-written contents buffer e f h =
     let g = sym e ∙ f in
-    let s = le-ltb (length plan) (length words) h in
+    let s = le-ltb (length buffer) (length contents) h in
     (rw (g, s), rw (g, s))
 
--- a planning call that answers with a success has passed its checks, and its words stand at the front of the buffer
-pub buffer-accepted : (checks : Check) (words plan : List ℕ) (count : ℕ) → bufferAnswer checks (length words) (length plan) ≡ success (count ∷ [])
-    → (checks ≡ Pass) × (count ≡ length words) × (bufferAfter checks words plan ≡ words ++ drop (length words) plan)
-buffer-accepted (Fail cause spot) words plan count e =
-    absurd (true≢false (sym (ap (λ (t : Told). eqb (t .number) 0) (buffer-refused words plan refl refl .0 ∙ e)) ∙ cause-not-zero cause))
-buffer-accepted Pass words plan count e = pick (decLt (length plan) (length words))
+-- one that answers with a success has passed its checks, and its contents stand at the front of the buffer
+pub buffer-accepted : (checks : Check) (contents buffer : List ℕ) (count : ℕ) → bufferAnswer checks (length contents) (length buffer) ≡ success (count ∷ [])
+    → (checks ≡ Pass) × (count ≡ length contents) × (bufferAfter checks contents buffer ≡ contents ++ drop (length contents) buffer)
+buffer-accepted (Fail cause spot) contents buffer count e =
+    absurd (true≢false (sym (ap (λ (t : Told). eqb (t .number) 0) (buffer-refused contents buffer refl refl .0 ∙ e)) ∙ cause-not-zero cause))
+buffer-accepted Pass contents buffer count e = pick (decLt (length buffer) (length contents))
   where
-    pick : Dec (length plan < length words) → (Pass ≡ Pass) × (count ≡ length words) × (bufferAfter Pass words plan ≡ words ++ drop (length words) plan)
-    pick (yes h) = absurd (true≢false (sym (ap (λ (t : Told). eqb (t .number) 0) (buffer-short words plan refl refl h .0 ∙ e)) ∙ cause-not-zero Short))
+    pick : Dec (length buffer < length contents) → (Pass ≡ Pass) × (count ≡ length contents) × (bufferAfter Pass contents buffer ≡ contents ++ drop (length contents) buffer)
+    pick (yes h) = absurd (true≢false (sym (ap (λ (t : Told). eqb (t .number) 0) (buffer-short contents buffer refl refl h .0 ∙ e)) ∙ cause-not-zero Short))
     pick (no h) =
-        let r = buffer-written words plan refl refl (omega arith) in
+        let r = buffer-written contents buffer refl refl (omega arith) in
         (refl, sym (ap (λ (t : Told). getD (t .values) 0 0) (r .0 ∙ e)), sym (r .1))

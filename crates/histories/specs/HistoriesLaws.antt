@@ -23,7 +23,7 @@ use Rattle.histories.specs.Holding.{Replies, Holding}
 use Rattle.histories.specs.Demand2.{Demand2}
 use Rattle.histories.specs.HoldingLaws.{holding-reply, holding-lookup}
 use Rattle.histories.specs.Demand2Laws.{demand-2-insert, demand-2-delete}
-use Rattle.histories.specs.Histories.{emptyTable, Reached, inserted, deleted, start}
+use Rattle.histories.specs.Histories.{emptyTable, Reached}
 
 zero-word : (n k : ℕ) → _≡_ {A = ℕ} (getD (replicate n 0) k 0) 0
 zero-word zero k = refl

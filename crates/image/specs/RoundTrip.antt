@@ -4,7 +4,6 @@ use mathlib.Core.Path.{_≡_}
 use mathlib.Core.List.{List}
 use Prim.Native.Nat.{ℕ}
 use lib.ListN.{length}
-use Rattle.records.specs.Record.{sound}
 use Rattle.records.specs.Checks.{tableChecks}
 use Rattle.records.specs.declared.Check.the-variants.{Pass}
 use Rattle.image.specs.Format.{imageOf}

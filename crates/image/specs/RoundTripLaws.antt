@@ -9,7 +9,7 @@ use native.Mathlib.Omega.{arith}
 use lib.Dec.{eqb}
 use lib.ListN.{length, take, drop}
 use lib.Seq.{take-at}
-use Rattle.records.specs.Record.{recordWords, sound}
+use Rattle.records.specs.Record.{recordWords}
 use Rattle.records.specs.Order.{slots}
 use Rattle.records.specs.Checks.{Told, success, unless, orElse, checkShape, checkRecords, checkTwice, checkOrder, slotChecks, tableChecks}
 use Rattle.records.specs.Laws.{cause-not-zero, or-else-pass, shape-same}

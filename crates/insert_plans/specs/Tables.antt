@@ -14,7 +14,7 @@ use Rattle.layout.specs.Write.{moves}
 use Rattle.layout.specs.Plan.{downCost, upCost, downChain, upChain, bestDown, bestUp, slotDown, slotUp, choose, afterPreceding, firstDependant}
 use Rattle.layout.specs.Plan.{insertChoice}
 use Rattle.plan_words.specs.PlanWords.{writeOf}
-use Rattle.records.specs.Record.{value, mask, listed, empty, soundParts, recordOf, word, putSlot}
+use Rattle.records.specs.Record.{listed, empty, soundParts, recordOf, word, putSlot}
 use Rattle.records.specs.Order.{distinct, precedes, tied, sameId, misordered}
 use Rattle.records.specs.Checks.{Told, lowest, shaped, checkShape, unsoundAt, checkRecords, twiceAt, checkTwice, disorderAt, checkOrder, slotChecks}
 use Rattle.records.specs.Checks.{tableChecks}

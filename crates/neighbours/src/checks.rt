@@ -11,7 +11,7 @@ use slots::rules::rule_sound;
 use slots::slot_empty;
 use table_checks::check_table;
 ghost use mathlib.Core.Path.{_≡_};
-ghost use Prim.Native.Nat.{_≤_, _<_};
+ghost use Prim.Native.Nat.{_≤_};
 ghost use lib.ListN.{length};
 ghost use Rattle.records.specs.Record.{slotWords};
 ghost use Rattle.neighbours.specs.Neighbours.{checkKnown, checkTie, checkFull, afterA, slotB, checkCrossed, newChecks, insertChecks};

@@ -3,7 +3,6 @@
 use mathlib.Core.Path.{_≡_}
 use Prim.Native.Nat.{ℕ, _<_}
 use lib.ListN.{length}
-use Rattle.records.specs.Record.{value, mask, action}
 use Rattle.records.specs.declared.Rule.{Rule}
 
 -- a rule as the calls hold it: w words of value and of mask, id, priority and action of 32 bits

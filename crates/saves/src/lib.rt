@@ -11,7 +11,7 @@ use slots::slot_word;
 use table_checks::check_table;
 ghost use mathlib.Core.Path.{_≡_};
 ghost use mathlib.Core.List.{_++_};
-ghost use Prim.Native.Nat.{_+_, _*_, _/_, _≤_, _<_};
+ghost use Prim.Native.Nat.{_+_, _/_, _≤_, _<_};
 ghost use lib.ListN.{length, drop};
 ghost use Rattle.records.specs.Record.{slotWords, ident};
 ghost use Rattle.image.specs.Bytes.{bytesOf, store, pieces};

@@ -185,14 +185,14 @@ fn last_asked(table: &[u64], slot: usize, from: usize, end: usize) -> usize
 }
 
 // Where a rule overlaps, 64 slots from there on are asked, since others near it are likely to overlap too.
-fn part_end(start: usize, to: usize) -> usize
+fn stretch_end(start: usize, to: usize) -> usize
     requires { ⌜ start ≤ to ⌝ }
     ensures { λ r. ⌜ r ≡ min (start + 64) to ⌝ }
 {
     if to - start < 64 { to } else { start + 64 }
 }
 
-fn part_start(end: usize) -> usize
+fn stretch_start(end: usize) -> usize
     ensures { λ r. ⌜ r ≡ end - 64 ⌝ }
 {
     if end < 64 { 0 } else { end - 64 }
@@ -207,7 +207,7 @@ pub fn first_not_before(table: &[u64], slot: usize, from: usize, to: usize) -> u
     let mut at = from;
     while at < to {
         let start = skip_up(table, slot, at, to);
-        let end = part_end(start, to);
+        let end = stretch_end(start, to);
         let first = first_asked(table, slot, start, end);
         if first < end {
             return first;
@@ -226,7 +226,7 @@ pub fn last_not_after(table: &[u64], slot: usize, end: usize) -> usize
     let mut after = end;
     while 0 < after {
         let top = skip_down(table, slot, after);
-        let start = part_start(top);
+        let start = stretch_start(top);
         let last = last_asked(table, slot, start, top);
         if start < last {
             return last;

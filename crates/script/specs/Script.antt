@@ -13,7 +13,7 @@ use Rattle.lookups.specs.Lookup.{lookupAnswer}
 use Rattle.histories.specs.Histories.{emptyTable}
 use Rattle.script_lines.specs.Blocks.{Outcome}
 use Rattle.script_printing.specs.Printing.{Shown}
-use Rattle.script_commands.specs.Commands.{commandOf, ruleOf, keyOf}
+use Rattle.script_commands.specs.Commands.{commandOf, insertedRule, keyOf}
 use Rattle.script_commands.specs.declared.Command.{Command}
 use Rattle.script_commands.specs.declared.Command.the-variants.{Table, Insert, Delete, Lookup, Malformed}
 use Rattle.script_answers.specs.Answers.{tableBytes}
@@ -31,7 +31,7 @@ lookupOutcome t key = outcome t (lookupBytes (lookupAnswer 2 t (word key)))
 -- what a command does; a malformed line is refused with its number
 abbrev pub commandOutcome : List ℕ → ℕ → Command → Outcome (List ℕ)
 commandOutcome t number (Table new) = tableOutcome t (new .slots)
-commandOutcome t number (Insert insertion) = insertOutcome t (ruleOf insertion)
+commandOutcome t number (Insert insertion) = insertOutcome t (insertedRule insertion)
 commandOutcome t number (Delete deletion) = deleteOutcome t (deletion .id)
 commandOutcome t number (Lookup query) = lookupOutcome t (keyOf query)
 commandOutcome t number Malformed = refused t (causeNumber Line) number

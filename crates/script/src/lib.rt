@@ -7,9 +7,9 @@ use script_answers::print_refusal;
 use script_answers::print_table;
 use script_commands::Command;
 use script_commands::NewTable;
+use script_commands::inserted_rule;
 use script_commands::key_of;
 use script_commands::parse;
-use script_commands::rule_of;
 use script_operations::LineAnswer;
 use script_operations::delete_line;
 use script_operations::insert_line;
@@ -142,7 +142,7 @@ fn run_command(
 {
     match command {
         Command::Table(new) => new_table(memory, present, new.slots, out),
-        Command::Insert(insertion) => insert_in(memory, present, rule_of(insertion), out),
+        Command::Insert(insertion) => insert_in(memory, present, inserted_rule(insertion), out),
         Command::Delete(deletion) => delete_in(memory, present, deletion.id, out),
         Command::Lookup(query) => lookup_in(memory, present, key_of(query), out),
         Command::Malformed => malformed(present, number, out),

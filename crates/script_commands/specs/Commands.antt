@@ -15,8 +15,8 @@ use Rattle.script_commands.specs.declared.Command.{Command}
 use Rattle.script_commands.specs.declared.Command.the-variants.{Table, Insert, Delete, Lookup, Malformed}
 
 -- the rule that an I line tells: value and mask as two words each, high word first
-abbrev pub ruleOf : Insertion → Rule
-ruleOf i = record {
+abbrev pub insertedRule : Insertion → Rule
+insertedRule i = record {
   id = i .id;
   priority = i .priority;
   value = i .value .high ∷ i .value .low ∷ [];

@@ -19,7 +19,7 @@ use Rattle.script_text.specs.Decimal.{every, digit, decimal, digitsOf}
 use Rattle.script_text.specs.DecimalLaws.{digits-read, digits-digits, digits-some, digits-few}
 use Rattle.script_fields.specs.Fields.{isNumber, sized, valueBit, maskBit, symbolWord, symbolWords, Asks}
 use Rattle.script_fields.specs.PatternLaws.{word-asks}
-use Rattle.script_commands.specs.Commands.{ruleOf, keyOf, commandOf}
+use Rattle.script_commands.specs.Commands.{insertedRule, keyOf, commandOf}
 use Rattle.script_commands.specs.LineLaws.{line-long}
 
 -- a longer line is malformed, whatever follows: the program need not hold more than 257 bytes
@@ -42,7 +42,7 @@ number-printed n h =
 -- What an I line's pattern and an L line's key mean for each other: the key matches the rule exactly when at each of the 128 places where the
 -- pattern has 0 or 1 the key has the same; past its end a pattern asks nothing, and a key has 0.
 pub pattern-matches : (id priority action : ℕ) (pattern key : List ℕ)
-    → let rule = ruleOf (record { id = id; priority = priority; value = symbolWords valueBit pattern; mask = symbolWords maskBit pattern; action = action }) in
+    → let rule = insertedRule (record { id = id; priority = priority; value = symbolWords valueBit pattern; mask = symbolWords maskBit pattern; action = action }) in
     (matches 2 (word (keyOf (record { key = symbolWords valueBit key }))) (word (rule .value)) (word (rule .mask)) ≡ true) ↔ Asks pattern key 0 128
 pattern-matches id priority action pattern key =
     let law = matches-law 2 (word (symbolWord valueBit key 0 ∷ symbolWord valueBit key 64 ∷ [])) (word (symbolWord valueBit pattern 0 ∷ symbolWord valueBit pattern 64 ∷ [])) (word (symbolWord maskBit pattern 0 ∷ symbolWord maskBit pattern 64 ∷ [])) in

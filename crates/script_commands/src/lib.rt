@@ -3,7 +3,7 @@
 ghost use mathlib.Core.Path.{_≡_};
 ghost use mathlib.Core.List.{_∷_};
 ghost use Rattle.script_text.specs.Parts.{parts};
-ghost use Rattle.script_commands.specs.Commands.{ruleOf, keyOf, letterOf, tableCommand, insertCommand, deleteCommand, lookupCommand};
+ghost use Rattle.script_commands.specs.Commands.{insertedRule, keyOf, letterOf, tableCommand, insertCommand, deleteCommand, lookupCommand};
 ghost use Rattle.script_commands.specs.Commands.{shortCommand, afterLetter, commandOf};
 use records::Rule;
 use script_fields::TwoWords;
@@ -46,8 +46,8 @@ pub enum Command {
 }
 
 // The rule that an I line tells.
-pub fn rule_of(insertion: Insertion) -> Rule
-    ensures { λ r. ⌜ r ≡ ruleOf insertion ⌝ }
+pub fn inserted_rule(insertion: Insertion) -> Rule
+    ensures { λ r. ⌜ r ≡ insertedRule insertion ⌝ }
 {
     let value = insertion.value;
     let mask = insertion.mask;

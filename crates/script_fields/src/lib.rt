@@ -2,7 +2,7 @@
 // Each field is a part of the line, read in place.
 ghost use mathlib.Core.Path.{_≡_};
 ghost use mathlib.Core.Bool.{true};
-ghost use Prim.Native.Nat.{_+_, _≤_};
+ghost use Prim.Native.Nat.{_≤_};
 ghost use lib.ListN.{length, getD};
 ghost use Rattle.script_text.specs.Decimal.{every, digit, decimal};
 ghost use Rattle.script_fields.specs.Fields.{symbol, numberIn, symbolField, oneIf, bitOf, symbolWord, symbolWords};

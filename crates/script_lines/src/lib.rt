@@ -1,7 +1,7 @@
 // Lines out of blocks of bytes, however the input is cut into blocks: one line is held at a time, and each has its number.
 // The program lends a buffer with one byte more than a line may have, so that a longer line is known by the bytes held.
 ghost use mathlib.Core.Path.{_≡_};
-ghost use Prim.Native.Nat.{_+_, _-_};
+ghost use Prim.Native.Nat.{_+_};
 ghost use lib.ListN.{length, drop};
 ghost use Rattle.script_text.specs.Parts.{firstPart};
 ghost use Rattle.script_lines.specs.Lines.{nextNumber};

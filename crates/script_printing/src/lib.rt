@@ -17,14 +17,14 @@ pub fn put_byte(out: &mut [u8], at: usize, byte: u8) -> usize
 }
 
 // The decimal digits of a number: those of its tenth first.
-fn put_number(out: &mut [u8], at: usize, number: u64) -> usize
+fn put_decimal(out: &mut [u8], at: usize, number: u64) -> usize
     requires { ⌜ at + length (digitsOf number) ≤ length (now out) ⌝ }
     ensures { λ r. ⌜ Printed (now (out .entry)) at (digitsOf number) r (now (out .exit)) ⌝ }
 {
     if number < 10 {
         return put_byte(out, at, (48 + number) as u8);
     }
-    let end = put_number(out, at, number / 10);
+    let end = put_decimal(out, at, number / 10);
     put_byte(out, end, (48 + number % 10) as u8)
 }
 
@@ -34,7 +34,7 @@ fn put_field(out: &mut [u8], at: usize, number: u64) -> usize
     ensures { λ r. ⌜ Printed (now (out .entry)) at (printedField number) r (now (out .exit)) ⌝ }
 {
     let next = put_byte(out, at, 32);
-    put_number(out, next, number)
+    put_decimal(out, next, number)
 }
 
 // The last field of a line, and its newline.

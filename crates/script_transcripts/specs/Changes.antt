@@ -7,8 +7,6 @@ use mathlib.Core.Option.{Option, none, some}
 use mathlib.Core.List.{List, [], _∷_}
 use Prim.Native.Nat.{ℕ}
 use lib.Dec.{leb}
-use Rattle.records.specs.Record.{action}
-use Rattle.records.specs.Order.{slots}
 use Rattle.records.specs.Checks.{passes}
 use Rattle.records.specs.declared.Rule.{Rule}
 use Rattle.neighbours.specs.Neighbours.{insertChecks}
@@ -16,7 +14,7 @@ use Rattle.delete_plans.specs.Deletes.{deleteChecks}
 use Rattle.histories.specs.RuleSet.{Change, insert, delete}
 use Rattle.histories.specs.Histories.{Reached}
 use Rattle.script_lines.specs.Lines.{nextNumber}
-use Rattle.script_commands.specs.Commands.{commandOf, ruleOf}
+use Rattle.script_commands.specs.Commands.{commandOf, insertedRule}
 use Rattle.script_commands.specs.declared.Command.{Command}
 use Rattle.script_commands.specs.declared.Command.the-variants.{Table, Insert, Delete, Lookup, Malformed}
 use Rattle.script_answers.specs.Answers.{hitBytes, missBytes}
@@ -26,7 +24,7 @@ use Rattle.script.specs.Script.{lineOutcome}
 -- accepted delete are changes, anything else keeps them
 abbrev pub historyAfter : List ℕ → List Change → Command → List Change
 historyAfter t history (Table new) = cond (leb 1 (new .slots) && leb (new .slots) 1024) [] history
-historyAfter t history (Insert insertion) = cond (passes (insertChecks 2 t (ruleOf insertion))) (insert (ruleOf insertion) ∷ history) history
+historyAfter t history (Insert insertion) = cond (passes (insertChecks 2 t (insertedRule insertion))) (insert (insertedRule insertion) ∷ history) history
 historyAfter t history (Delete deletion) = cond (passes (deleteChecks 2 t (deletion .id))) (delete (deletion .id) ∷ history) history
 historyAfter t history (Lookup query) = history
 historyAfter t history Malformed = history

@@ -12,7 +12,6 @@ use lib.ListN.{length, getD, drop}
 use borrow.Author.Tests.{leb-true}
 use Rattle.search.specs.SearchLaws.{and-left, and-right}
 use Rattle.records.specs.Record.{word, slotWords, ident, action}
-use Rattle.records.specs.Order.{slots}
 use Rattle.records.specs.Checks.{Told, passes, checkShape, shaped, slotChecks, tableChecks}
 use Rattle.records.specs.Laws.{cause-not-zero}
 use Rattle.records.specs.Writes.{applyWords}
@@ -37,7 +36,7 @@ use Rattle.script_lines.specs.Blocks.{Outcome, answered}
 use Rattle.script_printing.specs.PrintedLines.{printed}
 use Rattle.script_fields.specs.Fields.{isNumber, isPattern, isKey, symbolWords, valueBit, maskBit}
 use Rattle.script_fields.specs.FieldsLaws.{number-is}
-use Rattle.script_commands.specs.Commands.{commandOf, ruleOf, keyOf, tableCommand, insertCommand, deleteCommand, lookupCommand, shortCommand}
+use Rattle.script_commands.specs.Commands.{commandOf, insertedRule, keyOf, tableCommand, insertCommand, deleteCommand, lookupCommand, shortCommand}
 use Rattle.script_commands.specs.Commands.{longCommand, letterOf, ofFields}
 use Rattle.script_commands.specs.declared.Query.{Query}
 use Rattle.script_commands.specs.declared.Command.{Command}
@@ -171,7 +170,7 @@ delete-since history t (inr reached) id = inr (delete-reached history t reached 
 command-since : (history : List Change) (t : List ℕ) → Since history t → (number : ℕ) (c : Command) → Small c
     → Since (historyAfter t history c) (commandOutcome t number c .table)
 command-since history t since number (Table new) s = table-since history t since (new .slots) (leb 1 (new .slots) && leb (new .slots) 1024) refl
-command-since history t since number (Insert insertion) s = insert-since history t since (ruleOf insertion) s
+command-since history t since number (Insert insertion) s = insert-since history t since (insertedRule insertion) s
 command-since history t since number (Delete deletion) s = delete-since history t since (deletion .id)
 command-since history t since number (Lookup query) s = since
 command-since history t since number Malformed s = since
@@ -287,7 +286,7 @@ command-kept : (t : List ℕ) (number : ℕ) (c : Command) → getD (commandOutc
 unfolding insertOutcome deleteOutcome
 command-kept t number (Table new) e = table-kept t (new .slots) e
 command-kept t number (Insert insertion) e =
-    let rule = ruleOf insertion in
+    let rule = insertedRule insertion in
     change-kept t (insertChecks 2 t rule) (insertWords 2 t rule) (applyWords 2 t rule (insertWords 2 t rule)) e
 command-kept t number (Delete deletion) e =
     let id = deletion .id in

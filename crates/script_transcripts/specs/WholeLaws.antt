@@ -22,8 +22,7 @@ use Rattle.script.specs.Script.{commandOutcome, lineOutcome, tableIn}
 use Rattle.script_turns.specs.declared.Turn.{Turn}
 use Rattle.script_turns.specs.Reading.{readingOf, turnOf, Turned}
 use Rattle.script_turns.specs.ReadingLaws.{turned-table}
-use Rattle.script_transcripts.specs.Whole.{Kept, keeping, Read, opening, Called, scriptOutcome, Through, nextOf, nothing, begin, oneMore}
-use Rattle.script_transcripts.specs.Whole.{turned}
+use Rattle.script_transcripts.specs.Whole.{Kept, keeping, Read, opening, Called, scriptOutcome, Through, nextOf}
 
 -- however the input is cut into blocks, the reading comes to that
 pub blocks-script : (line : List ℕ) (blocks : List (List ℕ)) → length line ≡ 257

@@ -22,7 +22,7 @@ use script_turns::last_turn;
 use script_turns::take_turn;
 
 // What a block came to: what is held after it, and what writing came to.
-pub struct Taken {
+pub struct TakenBlock {
     pub place: Place,
     pub sent: Sent,
 }
@@ -44,7 +44,7 @@ fn run_block(
     before: Sent,
     block: &[u8],
     out: &mut [u8; 14343],
-) -> Taken
+) -> TakenBlock
     ensures { λ r. ⌜ TookBlock (now (block .entry)) (keeping (now (memory .entry)) (now (line .entry)) first) before (r .sent) (keeping (now (memory .exit)) (now (line .exit)) (r .place)) ⌝ }
 {
     let mut place = first;
@@ -58,7 +58,7 @@ fn run_block(
         place = turn.place;
         from = turn.next;
     }
-    Taken { place, sent }
+    TakenBlock { place, sent }
 }
 
 // What a read comes to: a failure, the end of the input, or so many bytes, which are taken.

@@ -94,7 +94,7 @@ pub fn word_fits(table: &[u64], word: u32) -> bool
 }
 
 // The six words of a slot.
-fn record_at(table: &[u64], slot: usize) -> [u64; 6]
+fn record_words(table: &[u64], slot: usize) -> [u64; 6]
     requires { ⌜ slot < length (now table) / 6 ⌝ }
     ensures { λ r. ⌜ r ≡ entryAt 2 (now (table .entry)) slot ⌝ }
 {
@@ -115,7 +115,7 @@ pub fn make_write(table: &mut [u64], rule: Rule, word: u32)
 {
     match write_of(word) {
         PlanWrite::Copy(from, to) => {
-            let words = record_at(table, from as usize);
+            let words = record_words(table, from as usize);
             put_record(table, to as usize, words)
         }
         PlanWrite::PutIn(to) => put_record(table, to as usize, record_of(rule)),

@@ -24,28 +24,28 @@ loop-holds c = none-from-start _ _ _ (omega arith)
 skip-up-requires : tie.Need-skip-up-requires Inv-loop μ-loop
 skip-up-requires c κs = omega arith
 
-part-end-requires : tie.Need-part-end-requires Inv-loop μ-loop
-part-end-requires c κs = c .skip-up .ensures .1
+stretch-end-requires : tie.Need-stretch-end-requires Inv-loop μ-loop
+stretch-end-requires c κs = c .skip-up .ensures .1
 
 first-asked-requires : tie.Need-first-asked-requires Inv-loop μ-loop
-first-asked-requires c κs = (omega (arith, c .part-end .ensures, c .before .skip-up .ensures .1), search needs)
+first-asked-requires c κs = (omega (arith, c .stretch-end .ensures, c .before .skip-up .ensures .1), search needs)
 
 returns : tie.Need-returns Inv-loop μ-loop
 returns c =
     let a = c .before .before .before .before .before .before .before .args in
     let skipped = c .before .before .before .skip-up .ensures in
-    let end = c .before .before .part-end .ensures in
+    let end = c .before .before .stretch-end .ensures in
     let before = none-from-join _ _ _ _ _ (c .before .before .before .before .before .loop .inv) (none-from-weaker _ _ _ _ _ (λ k h e. apart 2 (now (a .table)) (a .slot) k (c .before .before .before .before .before .before .before .pre .1) (omega arith) e .0) skipped) in
     sym (least-in-part _ _ _ _ _ _ before (omega (arith, end)) (c .before .first-asked .ensures) (omega arith))
 
 loop-less : tie.Need-loop-less Inv-loop μ-loop
-loop-less c = omega (arith, c .before .before .before .skip-up .ensures .0, c .before .before .before .skip-up .ensures .1, c .before .before .part-end .ensures)
+loop-less c = omega (arith, c .before .before .before .skip-up .ensures .0, c .before .before .before .skip-up .ensures .1, c .before .before .stretch-end .ensures)
 
 loop-again : tie.Need-loop-again Inv-loop μ-loop
 loop-again c =
     let a = c .before .before .before .before .before .before .before .args in
     let skipped = c .before .before .before .skip-up .ensures in
-    let end = c .before .before .part-end .ensures in
+    let end = c .before .before .stretch-end .ensures in
     let before = none-from-join _ _ _ _ _ (c .before .before .before .before .before .loop .inv) (none-from-weaker _ _ _ _ _ (λ k h e. apart 2 (now (a .table)) (a .slot) k (c .before .before .before .before .before .before .before .pre .1) (omega arith) e .0) skipped) in
     none-from-join _ _ _ _ _ before (none-from-part _ _ _ _ _ (omega (arith, end, skipped .1)) (omega (arith, end)) (c .before .first-asked .ensures) (omega arith))
 
@@ -60,7 +60,7 @@ first-not-before-spec =
     μ-loop
     loop-holds
     skip-up-requires
-    part-end-requires
+    stretch-end-requires
     first-asked-requires
     returns
     loop-less

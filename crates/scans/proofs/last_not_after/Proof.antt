@@ -23,28 +23,28 @@ loop-holds c = none-above _ _
 skip-down-requires : tie.Need-skip-down-requires Inv-loop μ-loop
 skip-down-requires c κs = omega arith
 
-part-start-requires : tie.Need-part-start-requires Inv-loop μ-loop
-part-start-requires c κs = search needs
+stretch-start-requires : tie.Need-stretch-start-requires Inv-loop μ-loop
+stretch-start-requires c κs = search needs
 
 last-asked-requires : tie.Need-last-asked-requires Inv-loop μ-loop
-last-asked-requires c κs = (omega (arith, c .part-start .ensures, c .before .skip-down .ensures .0), search needs)
+last-asked-requires c κs = (omega (arith, c .stretch-start .ensures, c .before .skip-down .ensures .0), search needs)
 
 returns : tie.Need-returns Inv-loop μ-loop
 returns c =
     let a = c .before .before .before .before .before .before .before .args in
     let skipped = c .before .before .before .skip-down .ensures in
-    let start = c .before .before .part-start .ensures in
+    let start = c .before .before .stretch-start .ensures in
     let above = none-above-join _ _ _ _ (c .before .before .before .before .before .loop .inv) (none-above-weaker _ _ _ _ (λ k h e. apart 2 (now (a .table)) (a .slot) k (c .before .before .before .before .before .before .before .pre .1) (omega (arith, c .before .before .before .before .before .loop .inv .0)) e .1) skipped) in
     sym (last-in-part _ _ _ _ _ above (omega (arith, start)) (c .before .last-asked .ensures) (omega arith))
 
 loop-less : tie.Need-loop-less Inv-loop μ-loop
-loop-less c = omega (arith, c .before .before .before .skip-down .ensures .0, c .before .before .part-start .ensures)
+loop-less c = omega (arith, c .before .before .before .skip-down .ensures .0, c .before .before .stretch-start .ensures)
 
 loop-again : tie.Need-loop-again Inv-loop μ-loop
 loop-again c =
     let a = c .before .before .before .before .before .before .before .args in
     let skipped = c .before .before .before .skip-down .ensures in
-    let start = c .before .before .part-start .ensures in
+    let start = c .before .before .stretch-start .ensures in
     let above = none-above-join _ _ _ _ (c .before .before .before .before .before .loop .inv) (none-above-weaker _ _ _ _ (λ k h e. apart 2 (now (a .table)) (a .slot) k (c .before .before .before .before .before .before .before .pre .1) (omega (arith, c .before .before .before .before .before .loop .inv .0)) e .1) skipped) in
     none-above-join _ _ _ _ above (none-above-part _ _ _ _ (omega (arith, start)) (c .before .last-asked .ensures) (omega arith))
 
@@ -59,7 +59,7 @@ last-not-after-spec =
     μ-loop
     loop-holds
     skip-down-requires
-    part-start-requires
+    stretch-start-requires
     last-asked-requires
     returns
     loop-less

@@ -26,8 +26,8 @@ new-table-requires c κs = search needs
 enum-known-command-2 : tie.Need-enum-known-command-2
 enum-known-command-2 c = search needs
 
-rule-of-requires : tie.Need-rule-of-requires
-rule-of-requires c κs = search needs
+inserted-rule-requires : tie.Need-inserted-rule-requires
+inserted-rule-requires c κs = search needs
 
 insert-in-requires : tie.Need-insert-in-requires
 insert-in-requires c κs = search needs
@@ -75,8 +75,8 @@ returns-2 c =
     let t = tableIn (now (a .memory)) (a .present) in
     let same = sym (c .before .before .before .before .before .before .before .command2 .given .1) in
     let did = c .before .before .insert-in in (
-      left-is (ap (insertOutcome t) (c .before .before .before .before .rule-of .ensures) ∙ ap (commandOutcome t (a .number)) same) (did .ensures .0),
-      did .ensures .1 ∙ (ap (λ (x : Rule). changeTold (insertAnswer 2 t x 1024)) (c .before .before .before .before .rule-of .ensures) ∙ ap (commandTold t (a .number)) same),
+      left-is (ap (insertOutcome t) (c .before .before .before .before .inserted-rule .ensures) ∙ ap (commandOutcome t (a .number)) same) (did .ensures .0),
+      did .ensures .1 ∙ (ap (λ (x : Rule). changeTold (insertAnswer 2 t x 1024)) (c .before .before .before .before .inserted-rule .ensures) ∙ ap (commandTold t (a .number)) same),
     )
 
 same-length-3 : tie.Need-same-length-3
@@ -123,7 +123,7 @@ run-command-spec =
     enum-known-command
     new-table-requires
     enum-known-command-2
-    rule-of-requires
+    inserted-rule-requires
     insert-in-requires
     enum-known-command-3
     delete-in-requires

@@ -18,11 +18,11 @@ write-of-requires c κs = search needs
 enum-known-from : tie.Need-enum-known-from
 enum-known-from c = search needs
 
-cast-record-at : tie.Need-cast-record-at
-cast-record-at c = search needs
+cast-record-words : tie.Need-cast-record-words
+cast-record-words c = search needs
 
-record-at-requires : tie.Need-record-at-requires
-record-at-requires c κs = write-below 2 (now (c .before .before .before .before .before .before .args .table)) (c .before .before .before .before .before .before .args .word) (write-taken (c .before .before .before .before .write-of .ensures) (c .before .before .from .given .1)) (c .before .before .before .before .before .before .pre) .0
+record-words-requires : tie.Need-record-words-requires
+record-words-requires c κs = write-below 2 (now (c .before .before .before .before .before .before .args .table)) (c .before .before .before .before .before .before .args .word) (write-taken (c .before .before .before .before .write-of .ensures) (c .before .before .from .given .1)) (c .before .before .before .before .before .before .pre) .0
 
 cast-put-record : tie.Need-cast-put-record
 cast-put-record c = search needs
@@ -56,7 +56,7 @@ same-length c = search needs
 
 returns : tie.Need-returns
 returns c =
-    record-stored 2 _ _ (c .before .before .put-record .ensures) (c .before .before .before .before .record-at .ensures) (length-listed 6 (slotWords 2 (now (c .before .before .before .before .before .before .before .before .before .before .before .args .table)) _))
+    record-stored 2 _ _ (c .before .before .put-record .ensures) (c .before .before .before .before .record-words .ensures) (length-listed 6 (slotWords 2 (now (c .before .before .before .before .before .before .before .before .before .before .before .args .table)) _))
     ∙ write-made 2 (now (c .before .before .before .before .before .before .before .before .before .before .before .args .table)) (c .before .before .before .before .before .before .before .before .before .before .before .args .word) (write-taken (c .before .before .before .before .before .before .before .before .before .write-of .ensures) (c .before .before .before .before .before .before .before .from .given .1)) (c .before .before .before .before .before .before .before .before .before .before .before .args .rule)
 
 same-length-2 : tie.Need-same-length-2
@@ -81,8 +81,8 @@ make-write-spec =
     (tie.spec
     write-of-requires
     enum-known-from
-    cast-record-at
-    record-at-requires
+    cast-record-words
+    record-words-requires
     cast-put-record
     put-record-requires
     enum-known-to

@@ -1,9 +1,9 @@
--- `writes::record_at` meets its contract.
+-- `writes::record_words` meets its contract.
 -- Each of the six words is the slot's.
 use borrow.Author.Needs.{needs}
 use Rattle.records.specs.Record.{listed}
-use Rattle.writes.proofs.record_at.Statement.{statement}
-use Rattle.writes.proofs.record_at.Tie as tie
+use Rattle.writes.proofs.record_words.Statement.{statement}
+use Rattle.writes.proofs.record_words.Tie as tie
 
 slot-word-requires : tie.Need-slot-word-requires
 slot-word-requires c κs = search needs
@@ -27,8 +27,8 @@ returns : tie.Need-returns
 unfolding listed
 returns c = rw (c .before .before .before .before .before .slot-word .ensures, c .before .before .before .before .slot-word2 .ensures, c .before .before .before .slot-word3 .ensures, c .before .before .slot-word4 .ensures, c .before .slot-word5 .ensures, c .slot-word6 .ensures)
 
-pub record-at-spec : {M : Type 1} → statement M
-record-at-spec =
+pub record-words-spec : {M : Type 1} → statement M
+record-words-spec =
     tie.close
     (tie.spec
     slot-word-requires
