@@ -1,4 +1,4 @@
--- End theorems on the definitions of Buffers: how a call that writes into a lent buffer ends.
+-- End theorems on lent buffers: how a call that writes into one ends, and that its answer loses nothing.
 use mathlib.Core.Path.{_≡_, refl, sym, ap, ap₂, _∙_}
 use mathlib.Core.Bool.{cond, true≢false}
 use mathlib.Core.List.{List, [], _∷_, _++_}

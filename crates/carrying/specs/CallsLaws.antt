@@ -1,4 +1,4 @@
--- End theorems on the definitions of Calls: a plan carried out call by call: the table and the writes done after each call of the step, and each call's answer.
+-- End theorems on plans carried out call by call: a state in which a step does not write stays.
 use mathlib.Core.Path.{_≡_, ap, _∙_}
 use mathlib.Core.Bool.{false}
 use mathlib.Core.List.{List}

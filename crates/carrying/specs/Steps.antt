@@ -1,5 +1,4 @@
--- What the definitions of a step say: the tests of one write as the code makes them, and the ways in which a step ends.
--- A step that is refused or finished leaves the table and the writes done as they were.
+-- How a step ends: its answer, the table and the writes done afterwards, as one statement.
 use mathlib.Core.Path.{_≡_}
 use mathlib.Core.List.{List}
 use Prim.Native.Nat.{ℕ}

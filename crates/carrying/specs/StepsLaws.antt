@@ -1,4 +1,5 @@
--- End theorems on the definitions of Steps: what the definitions of a step say: the tests of one write as the code makes them, and the ways in which a step ends.
+-- End theorems on a step: the tests of one write as the code makes them, and the ways in which a step ends.
+-- A step that is refused or finished leaves the table and the writes done as they were.
 use mathlib.Core.Path.{_≡_, refl, sym, ap, ap₂, subst, _∙_}
 use mathlib.Core.Bool.{Bool, true, false, not, cond, _&&_, true≢false}
 use mathlib.Core.Logic.{_≢_, _⊎_}

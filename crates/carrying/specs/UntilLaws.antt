@@ -1,4 +1,4 @@
--- Steps until one does not write: what holds of the table and the writes done on the way, and what they come to.
+-- Laws on steps until one does not write: what holds of the table and the writes done on the way, and what they come to.
 -- The state is that after some calls; once a step does not write, it is that after any number more.
 use mathlib.Core.Path.{_≡_, refl, sym, ap, ap₂, _∙_, subst₂}
 use mathlib.Core.Bool.{Bool, true, false, cond, _&&_, and-false, true≢false, false≢true}

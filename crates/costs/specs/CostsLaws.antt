@@ -1,4 +1,4 @@
--- Laws on the definitions of Costs: costs of positions in one direction, from the ends of their windows alone.
+-- Laws on costs of positions: what the loops over positions keep, and the bounds by which their sums fit.
 use mathlib.Core.Path.{_≡_, sym, ap, ap₂, _∙_}
 use mathlib.Core.Bool.{cond}
 use mathlib.Core.List.{List}

@@ -1,5 +1,5 @@
--- The ends of a layout's windows, in both directions: numbers that satisfy the equation of costs over them are the layout's costs.
--- Going up the ends are stated by slot, as a table is searched.
+-- The ends of a layout's windows, as numbers by position.
+-- Going up the layout is the reversed one and the relation swapped.
 use mathlib.Core.Path.{_≡_}
 use mathlib.Core.Bool.{Bool, cond}
 use mathlib.Core.List.{List}

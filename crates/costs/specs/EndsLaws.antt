@@ -1,4 +1,4 @@
--- Laws on the definitions of Ends: the ends of a layout's windows, in both directions: numbers that satisfy the equation of costs over them are the layout's costs.
+-- Laws on window ends: numbers that satisfy the equation of costs over them are the layout's costs.
 use mathlib.Core.Path.{_≡_, ap, _∙_}
 use mathlib.Core.Bool.{Bool, true, false, cond}
 use mathlib.Core.Logic.{_⊎_}

@@ -1,4 +1,4 @@
--- End theorems on the definitions of Deletes: planning a delete: one emptying write. Checks 1 to 4, then 5 for id 0, 7 and 11 of document 01.
+-- End theorems on the planning of deletes: what an accepted one plans, and the code's tests of the id.
 use mathlib.Core.Path.{_≡_, ap}
 use mathlib.Core.Bool.{true}
 use mathlib.Core.List.{List}

@@ -1,4 +1,5 @@
--- End theorems on the definitions of Demand2: document 01, demand 2 within a plan: drawn for the table, carried out in order, from its start, with its own rule, on that table.
+-- End theorems: demand 2 within a plan, for every accepted insert and delete.
+-- A plan whose writes fit in their turn, keep the replies until the last and leave the changed rules keeps it.
 use mathlib.Core.Path.{_≡_, refl, sym, ap, _∙_, subst}
 use mathlib.Core.Bool.{true, false, true≢false}
 use mathlib.Core.Logic.{_↔_, _⊎_, ⊎-elim, _≢_}

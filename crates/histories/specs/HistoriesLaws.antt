@@ -1,4 +1,4 @@
--- End theorems on the definitions of Histories: document 01, demand 2: from an empty table, after any accepted inserts and deletes carried out in full, each key is answered by the.
+-- End theorems: demand 2 from an empty table on: each reached table is sound and holds the rules of its history, and each key is answered by them.
 use mathlib.Core.Path.{_≡_, refl, sym, ap, _∙_, subst}
 use mathlib.Core.Bool.{true, false, not, true≢false}
 use mathlib.Core.Logic._⊎_.{inl}

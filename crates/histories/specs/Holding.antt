@@ -1,4 +1,4 @@
--- A table and the rules that it holds: where it is sound, a lookup's reply is that of the highest-priority match among them.
+-- A table and the rules that it holds, and what a lookup of it tells.
 -- Where the rules stand does not matter.
 use mathlib.Core.Path.{_≡_}
 use mathlib.Core.Logic.{_↔_}

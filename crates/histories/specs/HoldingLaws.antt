@@ -1,4 +1,4 @@
--- End theorems on the definitions of Holding: a table and the rules that it holds: where it is sound, a lookup's reply is that of the highest-priority match among them.
+-- End theorems on tables and the rules they hold: a lookup's reply is that of the highest-priority match among them.
 use mathlib.Core.Path.{_≡_, refl, sym, ap, _∙_, ap₂}
 use mathlib.Core.Bool.{Bool, true, false, cond, and-false, true≢false}
 use mathlib.Core.Logic.{_⊎_}

@@ -1,4 +1,4 @@
--- A plan whose writes fit in their turn, carried out call by call: each call makes one write, and the calls after the last answer "finished".
+-- Laws on a plan whose writes fit in their turn: each call makes one write, and the calls after the last answer "finished".
 -- The state after each call is the table with so many writes made.
 use mathlib.Core.Path.{_≡_, refl, sym, ap, ap₂, _∙_}
 use mathlib.Core.Bool.{true}

@@ -1,4 +1,4 @@
--- Replies by a table's records: a table's reply is that of its layout, and every key keeps it until the last write of an insert's plan.
+-- Laws on replies by a table's records: a table's reply is that of its layout, and every key keeps it until the last write of an insert's plan.
 -- The layout's theorems are applied to the table's records.
 use mathlib.Core.Path.{_≡_, refl, sym, ap, ap₂, _∙_}
 use mathlib.Core.Bool.{Bool, true, false, cond, and-comm, true≢false}

@@ -1,4 +1,4 @@
--- End theorems on the definitions of RuleSet: rules without slots: which were inserted and not since deleted, and the highest-priority match of a key among them.
+-- End theorems on rules without slots: which are left by a delete, and which match is the highest.
 use mathlib.Core.Path.{_≡_, refl, sym, ap, _∙_}
 use mathlib.Core.Bool.{true, false, true≢false}
 use mathlib.Core.Logic.{_↔_, _⊎_, _≢_}

@@ -1,5 +1,5 @@
--- Tables in the middle of an insert's plan pass checks 1 and 2, so that lookup answers on each of them, and the last one passes 1 to 4.
--- A delete leaves a table that passes 1 to 4 too.
+-- Laws on soundness: tables in the middle of an insert's plan pass checks 1 and 2, so that lookup answers on each of them, and the last one passes
+-- 1 to 4. A delete leaves a table that passes 1 to 4 too.
 use mathlib.Core.Path.{_≡_, refl, sym, ap, _∙_}
 use mathlib.Core.Bool.{true, false, not, true≢false}
 use mathlib.Core.Logic.{_↔_, _⊎_, ⊎-elim}

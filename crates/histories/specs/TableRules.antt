@@ -1,5 +1,4 @@
--- The rules of a table, read off its slots: every sound table holds them, so that what demand 2 says of a plan is said of every sound table,
--- however it came about.
+-- The rules of a table, read off its slots.
 use mathlib.Core.Bool.{cond}
 use mathlib.Core.List.{List, [], _∷_}
 use Prim.Native.Nat.{ℕ, zero, suc}

@@ -1,4 +1,5 @@
--- End theorems on the definitions of TableRules: the rules of a table, read off its slots: every sound table holds them, so that what demand 2 says of a plan is said of every sound table,.
+-- End theorems on the rules of a table: every sound table holds those read off its slots, however it came about.
+-- So what demand 2 says of a plan is said of every sound table.
 use mathlib.Core.Path.{_≡_, refl, sym, ap, _∙_}
 use mathlib.Core.Bool.{true, false, not, true≢false}
 use mathlib.Core.Logic.{_↔_, _⊎_, ⊎-elim}

@@ -1,4 +1,4 @@
--- End theorems on the definitions of Answers: what saving and loading answer, and what they leave in the lent buffers.
+-- End theorems on the answers of saving and loading: number and values lose nothing.
 use mathlib.Core.Path.{_≡_, refl, sym, ap, ap₂, _∙_}
 use mathlib.Core.Bool.{true≢false}
 use lib.ListN.{getD}

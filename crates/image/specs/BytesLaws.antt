@@ -1,4 +1,4 @@
--- End theorems: what bytes and parts say: a number and its bytes are each other's, for any number of bytes; parts of parts, of pieces and of what is stored.
+-- End theorems on bytes: a number and its bytes are each other's, for any number of bytes; parts of parts, of pieces and of what is stored.
 -- One law for fields of every size, cited wherever a field is read or written.
 use mathlib.Core.Path.{_≡_, refl, sym, ap, ap₂, _∙_}
 use mathlib.Core.List.{List, [], _∷_, _++_, append-assoc, append-nil}

@@ -1,4 +1,4 @@
--- End theorems: what the checks of an image say: the first wrong field decides, and an image that passes has every field right.
+-- End theorems on the checks of an image: the first wrong field decides, and an image that passes has every field right.
 -- These are the sentences a reader goes by; loops and theorems cite them and not the text of the definitions.
 use mathlib.Core.Path.{_≡_, refl, sym, ap, _∙_}
 use mathlib.Core.Bool.{Bool, true, false, not, _&&_}

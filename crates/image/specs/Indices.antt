@@ -1,5 +1,4 @@
 -- The indices at which a test holds, in rising order: a table's occupied slots, counted and taken in turn.
--- A list of rising indices that hits each of them is that list.
 use mathlib.Core.Bool.{Bool, cond}
 use mathlib.Core.List.{List, [], _∷_, _++_}
 use Prim.Native.Nat.{ℕ, zero, suc}

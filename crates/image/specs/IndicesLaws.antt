@@ -1,4 +1,4 @@
--- Laws on the definitions of Indices: the indices at which a test holds, in rising order: a table's occupied slots, counted and taken in turn.
+-- Laws on rising indices: a list of rising indices that hits each index of the test is that list.
 use mathlib.Core.Path.{_≡_, refl, sym, ap, ap₂, _∙_}
 use mathlib.Core.Bool.{Bool, true, false, cond, true≢false}
 use mathlib.Core.Logic.{_⊎_}

@@ -1,5 +1,4 @@
--- The fields of a saved image, read back: each is the number that was saved.
--- So an image of a sound table passes the checks of a load, and each of its records is the table's.
+-- What the round trip asks of numbers: table words of 64 bits, and an image whose bytes can be numbered in fields of 4 bytes.
 use mathlib.Core.List.{List}
 use Prim.Native.Nat.{ℕ, _≤_, _<_}
 use lib.ListN.{getD}

@@ -1,4 +1,5 @@
--- Laws on the definitions of Reading: the fields of a saved image, read back: each is the number that was saved.
+-- Laws on the fields of a saved image, read back: each is the number that was saved.
+-- So an image of a sound table passes the checks of a load, and each of its records is the table's.
 use mathlib.Core.Path.{_≡_, sym, ap, ap₂, _∙_}
 use mathlib.Core.Bool.{true, not, true≢false}
 use mathlib.Core.Logic.{⊎-elim}

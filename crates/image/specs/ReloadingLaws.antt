@@ -1,4 +1,4 @@
--- A saved image means the table it was saved from, so that it loads to that table.
+-- Laws on an image loaded again: a saved image means the table it was saved from, so that it loads to that table.
 -- Each field reads back as it was saved; a slot of no rule is empty in both tables.
 use mathlib.Core.Path.{_≡_, refl, sym, ap, _∙_}
 use mathlib.Core.Bool.{true, false, true≢false}

@@ -1,4 +1,4 @@
--- The table that an image means has that image, so that it is saved again to the same bytes; and it is sound.
+-- Laws on a table saved again: the table that an image means has that image, so that it is saved to the same bytes; and it is sound.
 -- Each part of the image is the bytes of the numbers read there.
 use mathlib.Core.Path.{_≡_, sym, ap, ap₂, subst, _∙_}
 use mathlib.Core.Bool.{true, false}

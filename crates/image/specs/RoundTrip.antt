@@ -1,5 +1,5 @@
--- Saving and loading undo each other: a saved image loads to the table it was saved from, and an image that loads is saved again to the same bytes.
--- So sound tables and the images that load correspond one to one. Stated of the functions that the contracts of save and load cite.
+-- What a load that succeeds leaves.
+-- Stated of the functions that the contracts of save and load cite.
 use mathlib.Core.Path.{_≡_}
 use mathlib.Core.List.{List}
 use Prim.Native.Nat.{ℕ}

@@ -1,4 +1,5 @@
--- End theorems on the definitions of RoundTrip: saving and loading undo each other: a saved image loads to the table it was saved from, and an image that loads is saved again to the same bytes.
+-- End theorems on saving and loading: a saved image loads to the table it was saved from, and an image that loads is saved again to the same bytes.
+-- So sound tables and the images that load correspond one to one.
 use mathlib.Core.Path.{_≡_, refl, sym, ap, ap₂, subst, _∙_}
 use mathlib.Core.Bool.{true≢false}
 use mathlib.Core.Logic.{_↔_}

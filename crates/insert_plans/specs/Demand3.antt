@@ -1,4 +1,4 @@
--- Demand 3, on words: an insert that can be planned is planned, validly, and with the fewest writes of document 01's comparison class.
+-- Demand 3, on words: what is promised of an insert that can be planned: its plan, its count, and that no sequence of the class is shorter.
 -- Stated of the definitions that the planning call is equated with, and as a clause of that call.
 use mathlib.Core.Path.{_≡_}
 use mathlib.Core.List.{List, [], _∷_, _++_}

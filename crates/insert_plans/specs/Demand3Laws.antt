@@ -1,4 +1,4 @@
--- End theorems on the definitions of Demand3: demand 3, on words: an insert that can be planned is planned, validly, and with the fewest writes of document 01's comparison class.
+-- End theorems: demand 3, for every sound table with an empty slot and every sound rule of new id that ties with none and is not crossed.
 use mathlib.Core.Path.{_≡_, refl, sym, subst₂}
 use mathlib.Core.List.{List}
 use Prim.Native.Nat.{ℕ, suc, _≤_, _<_}

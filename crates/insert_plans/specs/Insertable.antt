@@ -1,5 +1,4 @@
--- When checks 1 to 10 of an insert pass, in plain terms: the premises of demand 3; and what each of checks 6 and 8 to 10 says when it fails.
--- And in a table in order the rules that may not stand before a rule, of those after it, are the rules that depend on it.
+-- The premises of demand 3 in plain terms, and what it means that an insert is crossed at a slot.
 use mathlib.Core.Path.{_≡_}
 use mathlib.Core.Bool.{true, false}
 use mathlib.Core.List.{List}

@@ -1,4 +1,5 @@
--- End theorems on the definitions of Insertable: when checks 1 to 10 of an insert pass, in plain terms: the premises of demand 3; and what each of checks 6 and 8 to 10 says when it fails.
+-- End theorems on the checks of an insert: they pass exactly when it is insertable, and what each of 6 and 8 to 10 says when it fails.
+-- And in a table in order the rules that may not stand before a rule, of those after it, are the rules that depend on it.
 use mathlib.Core.Path.{_≡_, refl, sym, ap, _∙_, fun-ext, subst}
 use mathlib.Core.Bool.{true, false, true≢false}
 use mathlib.Core.Logic.{_↔_}

@@ -1,4 +1,4 @@
--- Planning an insert: the words of its plan, its answer and the buffer afterwards; and what the checks give the theory of layouts.
+-- Planning an insert: the words of its plan, its answer and the buffer afterwards; and when a choice in numbers is the layout's.
 -- Document 01, "How a plan is found", on the table's words.
 use mathlib.Core.Path.{_≡_}
 use mathlib.Core.Bool.{cond}

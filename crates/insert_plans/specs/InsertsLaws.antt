@@ -1,4 +1,4 @@
--- End theorems on the definitions of Inserts: planning an insert: the words of its plan, its answer and the buffer afterwards; and what the checks give the theory of layouts.
+-- End theorems on the planning of inserts: A, B and the choice of the table are those of its layout, and the words written are those of its plan.
 use mathlib.Core.Path.{_≡_, refl, sym, ap, ap₂, _∙_, subst}
 use mathlib.Core.Bool.{Bool, true, false, cond}
 use mathlib.Core.List.{List, [], _∷_, _++_}

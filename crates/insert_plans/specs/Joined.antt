@@ -1,5 +1,4 @@
--- The numbers that are read off a table's words are those of its layout: window ends, in both directions.
--- So what the planner finds in numbers is the choice of the layout.
+-- When an array has the costs of a table along a direction: they solve the equations of its window ends.
 use mathlib.Core.Bool.{Bool}
 use mathlib.Core.List.{List}
 use Prim.Native.Nat.{ℕ}

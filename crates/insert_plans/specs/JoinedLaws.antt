@@ -1,4 +1,5 @@
--- Laws on the definitions of Joined: the numbers that are read off a table's words are those of its layout: window ends, in both directions.
+-- Laws that join a table's numbers with its layout: window ends, in both directions.
+-- So what the planner finds in numbers is the choice of the layout.
 use mathlib.Core.Path.{_≡_, refl, sym, ap, ap₂, _∙_}
 use mathlib.Core.Bool.{Bool, true, false, not, cond}
 use mathlib.Core.List.{List, _++_, reverse}

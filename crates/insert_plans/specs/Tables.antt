@@ -1,5 +1,4 @@
--- Document 01, "Tables at the edge": the ten items marked to be proved, as one list, held against the definitions that the planning calls promise.
--- An item that is worded for any rule or any id is also shown for any.
+-- Document 01, "Tables at the edge": the ten items marked to be proved, as one list, with what the planning calls promise on them.
 use mathlib.Core.List.{List, [], _∷_, _++_, map}
 use Prim.Native.Nat.{ℕ, _+_, _*_, _/_}
 use lib.ListN.{length}

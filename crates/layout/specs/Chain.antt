@@ -1,5 +1,4 @@
--- Chains of moves: each rule goes to a slot of its window, the last to an empty slot; a slot's cost is the length of its shortest chain.
--- The chain that document 01's tie rule walks is one of these, and the only one that follows the rule.
+-- Chains of moves: each rule goes to a slot of its window, the last to an empty slot. The walk that document 01's tie rule takes.
 use mathlib.Core.Path.{_≡_}
 use mathlib.Core.Bool.{Bool, true, false}
 use mathlib.Core.List.{List, [], _∷_}

@@ -1,4 +1,4 @@
--- Laws on the definitions of Chain: chains of moves: each rule goes to a slot of its window, the last to an empty slot; a slot's cost is the length of its shortest chain.
+-- Laws on chains: a slot's cost is the length of its shortest chain, and the tie rule's walk is such a chain.
 use mathlib.Core.Path.{_≡_, refl, sym, ap, _∙_}
 use mathlib.Core.Bool.{Bool, true, false}
 use mathlib.Core.Logic.{_↔_, _⊎_, ⊎-elim}

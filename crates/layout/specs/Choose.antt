@@ -1,5 +1,4 @@
--- The choice keeps its word: the slot is in its range, of least cost there, by the tie rule, and its chain is the tie rule's walk.
--- This holds for any two ranges.
+-- What a choice keeps: the slot is in its range, of least cost there, by the tie rule, and its chain is the tie rule's walk.
 use mathlib.Core.Path.{_≡_}
 use mathlib.Core.Bool.{Bool}
 use mathlib.Core.List.{List}

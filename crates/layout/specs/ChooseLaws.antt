@@ -1,4 +1,4 @@
--- End theorems on the definitions of Choose: the choice keeps its word: the slot is in its range, of least cost there, by the tie rule, and its chain is the tie rule's walk.
+-- End theorems on the choice: it keeps its word, for any two ranges, and no slot of either range costs less.
 use mathlib.Core.Path.{_≡_, ap, _∙_}
 use mathlib.Core.Bool.{Bool, true, false}
 use mathlib.Core.Logic.{_⊎_}

@@ -1,4 +1,4 @@
--- The comparison class as a test, so that small sequences can be evaluated, and that it says what the class says.
+-- The comparison class as a test, so that small sequences can be evaluated.
 -- Nothing else rests on it.
 use mathlib.Core.Bool.{Bool, false, _&&_}
 use mathlib.Core.List.{List, [], _∷_}

@@ -1,4 +1,4 @@
--- End theorems on the definitions of ClassTest: the comparison class as a test, so that small sequences can be evaluated, and that it says what the class says.
+-- End theorems on the test of the comparison class: it says what the class says.
 use mathlib.Core.Path.{_≡_}
 use mathlib.Core.Bool.{Bool, true, _&&_, false≢true}
 use mathlib.Core.Logic.{_↔_}

@@ -1,4 +1,4 @@
--- End theorems on the definitions of Cost: the cost of a slot: how many moves empty it, each entry moving within its window. Document 01, "How a plan is found".
+-- End theorems on costs: a window's ends, the equation that costs satisfy, and where the least after a slot stands.
 use mathlib.Core.Path.{_≡_, sym, ap, _∙_}
 use mathlib.Core.Bool.{Bool, true, false, cond, true≢false}
 use mathlib.Core.Logic.{_↔_, _⊎_, ⊎-elim}

@@ -1,4 +1,4 @@
--- End theorems on the definitions of Held: what a layout holds, and what copies, put-ins and emptyings do to it.
+-- End theorems on what a layout holds: what copies, put-ins and emptyings do to it, to ids and to coherence.
 use mathlib.Core.Path.{_≡_, sym, ap, _∙_}
 use mathlib.Core.Bool.{Bool, true, false, not, _&&_, _||_, or-true, true≢false}
 use mathlib.Core.Logic.{_↔_, _⊎_, ⊎-elim, _≢_}

@@ -1,4 +1,4 @@
--- Searches made in place: a test that agrees with the entries at the slots searched gives the layout's own number.
+-- Laws on searches made in place: a test that agrees with the entries at the slots searched gives the layout's own number.
 -- A table of words is searched so, without its entries being copied out; two layouts with the same entries are one list (lib.Seq, ext-getD).
 use mathlib.Core.Path.{_≡_, ap, ap₂}
 use mathlib.Core.Bool.{Bool, not, _&&_, _||_}

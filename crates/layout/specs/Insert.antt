@@ -1,5 +1,4 @@
--- The theorems on an insert's plan: it exists, is valid at every prefix, and has the least count of document 01's class.
--- Two rules that tie are misordered both ways, so A < B holds of no rule that ties with one of the table.
+-- What is promised of an insert's plan: it is valid at every prefix, and has the least count of document 01's class.
 use mathlib.Core.Path.{_≡_}
 use mathlib.Core.Bool.{Bool}
 use mathlib.Core.List.{List}

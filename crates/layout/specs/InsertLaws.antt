@@ -1,4 +1,5 @@
--- End theorems on the definitions of Insert: the theorems on an insert's plan: it exists, is valid at every prefix, and has the least count of document 01's class.
+-- End theorems on an insert's plan: it exists, is valid at every prefix, and has the least count of document 01's class.
+-- Two rules that tie are misordered both ways, so A < B holds of no rule that ties with one of the table.
 use mathlib.Core.Path.{_≡_, _∙_}
 use mathlib.Core.Bool.{Bool, true, false}
 use mathlib.Core.Logic.{_⊎_, ⊎-elim}

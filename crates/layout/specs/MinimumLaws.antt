@@ -1,4 +1,4 @@
--- End theorems on the definitions of Minimum: the least of the numbers at a stretch of indices, and the lowest or highest index at which it stands.
+-- End theorems on the least of the numbers at a stretch of indices: it is attained, and lowest and highest are where it first and last is.
 use mathlib.Core.Path.{_≡_, refl, sym, ap, ap₂, _∙_}
 use mathlib.Core.Logic.{_≢_}
 use mathlib.Core.Bool.{false, true≢false}

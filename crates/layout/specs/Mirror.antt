@@ -1,5 +1,5 @@
--- The mirror image of a layout: its slots in the opposite order. What is proved of windows and costs going down holds of it going up.
--- Nothing else is mirrored: order, writes and sequences of writes are the same layout's in both directions.
+-- The mirror image of a slot number: the slot as far from the last one.
+-- Windows and costs going up are those of the layout read from its other end.
 use Prim.Native.Nat.{ℕ, suc, _-_}
 
 -- the slot's number counted from the other end

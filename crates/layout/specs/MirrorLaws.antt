@@ -1,4 +1,5 @@
--- Laws on the definitions of Mirror: the mirror image of a layout: its slots in the opposite order. What is proved of windows and costs going down holds of it going up.
+-- Laws on the mirror image of a layout: what is proved of windows and costs going down holds of it going up.
+-- Nothing else is mirrored: order, writes and sequences of writes are the same layout's in both directions.
 use mathlib.Core.Path.{_≡_, ap, _∙_}
 use mathlib.Core.Bool.{Bool, true}
 use mathlib.Core.Logic.{_↔_, _⊎_}

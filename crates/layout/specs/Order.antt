@@ -1,4 +1,4 @@
--- Order of a layout, as document 01 words it, and what one write does to it.
+-- Order of a layout, as document 01 words it, and the directions in which rules move.
 -- A layout is the list of its slots' entries, an empty slot's included; reading past its end gives the empty entry.
 use mathlib.Core.Path.{_≡_}
 use mathlib.Core.Bool.{Bool, true, false, not, _&&_}

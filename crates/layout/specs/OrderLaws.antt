@@ -1,4 +1,4 @@
--- End theorems on the definitions of Order: order of a layout, as document 01 words it, and what one write does to it.
+-- End theorems on order: what one write does to it, and order read along a direction.
 use mathlib.Core.Path.{_≡_, sym, ap, subst}
 use mathlib.Core.Bool.{Bool, true, false, not}
 use mathlib.Core.Logic.{_↔_, _⊎_, ⊎-elim, _≢_}

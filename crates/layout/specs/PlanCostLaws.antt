@@ -1,4 +1,4 @@
--- End theorems: down and up costs by slot number, each as document 01 words it, and the walks that they give.
+-- End theorems on down and up costs by slot number, each as document 01 words it, and the walks that they give.
 -- Costs of N or more are infinite: a finite cost is below N, and it is finite exactly where there is a chain.
 use mathlib.Core.Path.{_≡_, sym, ap, _∙_, refl, subst}
 use mathlib.Core.Bool.{Bool, true, false, cond, true≢false}

@@ -1,5 +1,4 @@
--- Replies: in a layout in order the first match is the highest-ranked match among the entries held, wherever they stand.
--- So a reply is a function of the set of entries held, and equal sets give equal replies.
+-- Replies: the highest-ranked match among entries, the first match of a layout, and what both tell of it.
 use mathlib.Core.Path.{_≡_}
 use mathlib.Core.Bool.{Bool, true, false, cond, _&&_}
 use mathlib.Core.Logic.{_⊎_}

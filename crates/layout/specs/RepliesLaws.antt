@@ -1,4 +1,5 @@
--- End theorems on the definitions of Replies: replies: in a layout in order the first match is the highest-ranked match among the entries held, wherever they stand.
+-- End theorems on replies: in a layout in order the first match is the highest-ranked match among the entries held, wherever they stand.
+-- So a reply is a function of the set of entries held, and equal sets give equal replies.
 use mathlib.Core.Path.{_≡_, refl, sym, ap, _∙_}
 use mathlib.Core.Bool.{Bool, true, false, _&&_, true≢false}
 use mathlib.Core.Logic.{_↔_, _⊎_}

@@ -1,5 +1,4 @@
--- A chain's writes, far end first, are valid at every prefix: each fits, and leaves the layout in order with each old entry held.
--- Costs play no part here; any chain will do.
+-- A plan on its way: before the last write each old entry is held, in order; after it each stands once, and the new one once.
 use mathlib.Core.Path.{_≡_}
 use mathlib.Core.Bool.{Bool}
 use mathlib.Core.Logic.{_↔_, _⊎_}

@@ -1,4 +1,5 @@
--- End theorems on the definitions of Valid: a chain's writes, far end first, are valid at every prefix: each fits, and leaves the layout in order with each old entry held.
+-- End theorems on a chain's writes, far end first: each fits, and leaves the layout in order with each old entry held.
+-- Costs play no part here; any chain will do.
 use mathlib.Core.Path.{_≡_, refl, sym, ap, _∙_, subst}
 use mathlib.Core.Bool.{Bool, true, false, true≢false}
 use mathlib.Core.Logic.{_⊎_, ⊎-elim, _≢_}

@@ -1,4 +1,4 @@
--- Laws on the definitions of Write: writes: what one does to a layout, when it fits, and the list of writes that carries a chain out.
+-- Laws on writes: the test of what fits says what it means; the writes of a chain, counted and joined.
 use mathlib.Core.Path.{_≡_, refl, ap}
 use mathlib.Core.Bool.{Bool, true, not, _&&_}
 use mathlib.Core.Logic.{_↔_}

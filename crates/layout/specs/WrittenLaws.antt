@@ -1,4 +1,4 @@
--- Reading a layout after one write: what holds of the entry written, and of each other entry or pair of entries, holds throughout.
+-- Laws on a layout after one write: what holds of the entry written, and of each other entry or pair of entries, holds throughout.
 -- Order, ids and copies after a write are all read so.
 use mathlib.Core.Path.{_≡_, refl}
 use mathlib.Core.Logic.{_≢_}

@@ -1,4 +1,4 @@
--- End theorems on the definitions of Lookup: lookup: what a key is answered; and a slot's record as a part of the lent table.
+-- End theorems on lookup: its three cases in words, the reply, and where a slot's record lies.
 use mathlib.Core.Path.{_≡_, refl, ap, ap₂, _∙_}
 use mathlib.Core.Bool.{true, false, _&&_, false≢true}
 use mathlib.Core.Logic.{_↔_, _⊎_, ⊎-elim}

@@ -1,4 +1,4 @@
--- End theorems on the definitions of Carried: a step of a plan on its progress as numbers: the writes done after it, and its answer as one number.
+-- End theorems on the number that carrying out returns: each case has its own, and a refusal's halves are its number and its spot.
 use mathlib.Core.Path.{_≡_, refl, sym, ap, _∙_}
 use mathlib.Core.Bool.{false, true≢false}
 use mathlib.Core.List.{List}

@@ -1,4 +1,4 @@
--- Laws on the definitions of Cells: lent cells after a call: on a success its data stands in the data cells, on a refusal its spot in the cell for it.
+-- Laws on lent cells: what a success and a refusal leave in each.
 use mathlib.Core.Path.{_≡_, ap, _∙_}
 use Prim.Native.Nat.{ℕ}
 use lib.ListN.{getD}

@@ -1,4 +1,4 @@
--- Laws on the definitions of Neighbours: a new rule against a table: is its id known, does it tie, is there room, and its neighbours A and B. Checks 5 to 10 of document 01.
+-- Laws on a new rule's checks and neighbours: the searches of the code, and how each check ends.
 use mathlib.Core.Path.{_≡_, ap}
 use mathlib.Core.Bool.{true, false}
 use mathlib.Core.List.{List}

@@ -1,5 +1,4 @@
--- The numbers' choice is the layout's: its direction and cost always, and where the cost is finite its slot and the words of its moves.
--- So a plan written from numbers is the plan of the layout that they were taken from.
+-- When a choice in numbers is a layout's: its direction and cost, and where the cost is finite its slot and the words of its moves.
 use mathlib.Core.Path.{_≡_}
 use mathlib.Core.Bool.{not, cond}
 use mathlib.Core.List.{map}

@@ -1,4 +1,5 @@
--- End theorems on the definitions of Agree: the numbers' choice is the layout's: its direction and cost always, and where the cost is finite its slot and the words of its moves.
+-- End theorems on numbers and layouts: the choice that is made in numbers is the layout's.
+-- So a plan written from numbers is the plan of the layout that they were taken from.
 use mathlib.Core.Path.{_≡_, refl, sym, ap, _∙_}
 use mathlib.Core.Bool.{Bool}
 use mathlib.Core.List.{List, [], _∷_, map, map-id, map-append, reverse}

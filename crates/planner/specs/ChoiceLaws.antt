@@ -1,4 +1,4 @@
--- Laws on the definitions of Choice: the choice between the two directions, by the costs of positions.
+-- Laws on the choice between the two directions: as the code makes it, and the words of its plan in the buffer.
 use mathlib.Core.Path.{_≡_, _∙_}
 use mathlib.Core.Bool.{true, false}
 use mathlib.Core.List.{List, [], _∷_, _++_}

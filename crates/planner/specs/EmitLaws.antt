@@ -1,4 +1,4 @@
--- Laws on the definitions of Emit: the words of a chain of moves, walked by positions and costs alone.
+-- Laws on the words of a chain: as many as its moves, and one stored after the other on the way back.
 use mathlib.Core.Path.{_≡_, refl, sym, _∙_}
 use mathlib.Core.Bool.{Bool}
 use mathlib.Core.List.{List, [], _∷_, _++_}

@@ -1,4 +1,4 @@
--- The least number of a stretch, and where it stands, seen from the other end: index i is the index as far from the last one.
+-- Laws on the least number of a stretch, and where it stands, seen from the other end: index i is the index as far from the last one.
 -- The highest index of least value seen from one end is the lowest seen from the other.
 use mathlib.Core.Path.{_≡_, ap, _∙_}
 use Prim.Native.Nat.{ℕ, _+_, _-_, _≤_, _<_}

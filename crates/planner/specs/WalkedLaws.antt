@@ -1,4 +1,4 @@
--- One direction along positions: the walk by a layout's costs is its chain.
+-- Laws on one direction along positions: the walk by a layout's costs is its chain.
 -- Going up the layout is the reversed one and the relation swapped.
 use mathlib.Core.Path.{_≡_, refl, sym, _∙_}
 use mathlib.Core.Bool.{Bool}

@@ -1,5 +1,4 @@
--- A position's slot is one of the slots.
--- Both directions.
+-- Laws on positions: a position's slot is one of the slots.
 use mathlib.Core.Bool.{Bool, true, false}
 use Prim.Native.Nat.{ℕ, _<_}
 use native.Mathlib.Omega.{arith}

@@ -1,4 +1,4 @@
--- Laws on the definitions of Checks: checks 1 to 4 of document 01, each with the lowest slot that fails it, and the first match of a key.
+-- Laws on the lowest slot that fails: a loop over the slots ends in one of two ways.
 use mathlib.Core.Path.{_≡_}
 use mathlib.Core.Bool.{Bool, true, false}
 use Prim.Native.Nat.{ℕ, _<_}

@@ -1,5 +1,4 @@
 -- Document 01's comparison class on plan words: by the layout's class, and in plain terms on the table's words.
--- The law says that the two are the same.
 use mathlib.Core.Path.{_≡_}
 use mathlib.Core.Bool.{true}
 use mathlib.Core.List.{List, map}

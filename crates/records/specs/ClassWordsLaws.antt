@@ -1,4 +1,4 @@
--- End theorems on the definitions of ClassWords: document 01's comparison class on plan words: by the layout's class, and in plain terms on the table's words.
+-- End theorems on the comparison class on plan words: the layout's class and the plain terms are the same.
 use mathlib.Core.Path.{_≡_, refl, ap, subst}
 use mathlib.Core.Bool.{true}
 use mathlib.Core.Logic.{_↔_, _⊎_, ⊎-elim}

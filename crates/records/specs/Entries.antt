@@ -1,5 +1,4 @@
 -- A table of words as a layout: the list of its slots' records, each a list of words, and the tests of such entries.
--- So what is proved of layouts holds of tables; every law here is for any number of words of a value.
 use mathlib.Core.Path.{_≡_}
 use mathlib.Core.Bool.{Bool}
 use mathlib.Core.List.{List, map}

@@ -1,4 +1,5 @@
--- Laws on the definitions of Entries: a table of words as a layout: the list of its slots' records, each a list of words, and the tests of such entries.
+-- Laws on tables as layouts: order, ids and soundness of a table are those of its entries, for any number of words of a value.
+-- So what is proved of layouts holds of tables.
 use mathlib.Core.Path.{_≡_, refl, sym, ap, ap₂, _∙_}
 use mathlib.Core.Bool.{Bool, true, false, not, _&&_, and-comm, true≢false, false≢true}
 use mathlib.Core.Logic.{_↔_, ⊎-elim}

@@ -1,5 +1,4 @@
--- An insert on a table's words: ties, the neighbours A and B of the new rule, and the words of the insert's plan.
--- Each is joined with its meaning in layouts, where the theorems on an insert's plan are.
+-- An insert on a table's words: ties, a new id, the choice of its layout and the words of the plan.
 use mathlib.Core.Path.{_≡_}
 use mathlib.Core.Bool.{false}
 use mathlib.Core.List.{List, map}

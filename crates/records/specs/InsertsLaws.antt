@@ -1,4 +1,4 @@
--- Laws on the definitions of Inserts: an insert on a table's words: ties, the neighbours A and B of the new rule, and the words of the insert's plan.
+-- Laws on an insert on a table's words: the neighbours A and B and the plan, each joined with its meaning in layouts.
 use mathlib.Core.Path.{_≡_, refl, sym, ap, ap₂, _∙_}
 use mathlib.Core.Bool.{Bool, true, false, not, _&&_, and-true, true≢false}
 use mathlib.Core.Logic.{_↔_, _≢_}

@@ -1,4 +1,4 @@
--- End theorems: what the checks say, in document 01's words: shape, records, ids and order, each exactly, and each spot the lowest.
+-- End theorems on the checks, in document 01's words: shape, records, ids and order, each exactly, and each spot the lowest.
 -- These are the sentences a reader goes by; callers cite them and not the text of the definitions.
 use mathlib.Core.Path.{_≡_, refl, sym, ap, _∙_, fun-ext}
 use mathlib.Core.Bool.{Bool, true, false, not, cond, _&&_, false≢true, true≢false}

@@ -1,4 +1,4 @@
--- Laws on the definitions of Order: two records side by side: overlap, precedence, one id in two slots, and which pair is out of order. A table's order.
+-- Laws on a pair out of order: as the code asks, priorities first or patterns first.
 use mathlib.Core.Path.{_≡_}
 use mathlib.Core.Bool.{Bool, true, false, _&&_, and-false}
 use Prim.Native.Nat.{ℕ}

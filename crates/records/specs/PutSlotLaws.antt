@@ -1,4 +1,4 @@
--- A record put into a slot: the table keeps its number of words, each other slot its record, and the layout has the record as that entry.
+-- Laws on a record put into a slot: the table keeps its number of words, each other slot its record, and the layout has the record as that entry.
 -- Every write of a plan is such a store.
 use mathlib.Core.Path.{_≡_, sym, ap, _∙_}
 use mathlib.Core.Logic.{_≢_}

@@ -1,5 +1,4 @@
--- A rule and its slot record: each field of the record is the rule's, and there and back nothing is lost where the priority has 32 bits.
--- So the record, which a table holds, and the rule, which a call takes, say the same.
+-- A rule as the calls hold it: how many words its value and mask have, and the bits of its numbers.
 use mathlib.Core.Path.{_≡_}
 use Prim.Native.Nat.{ℕ, _<_}
 use lib.ListN.{length}

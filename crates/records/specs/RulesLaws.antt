@@ -1,4 +1,5 @@
--- End theorems on the definitions of Rules: a rule and its slot record: each field of the record is the rule's, and there and back nothing is lost where the priority has 32 bits.
+-- End theorems on a rule and its slot record: each field of the record is the rule's, and there and back nothing is lost where the priority has 32 bits.
+-- So the record, which a table holds, and the rule, which a call takes, say the same.
 use mathlib.Core.Path.{_≡_, refl, sym, ap, ap₂, _∙_}
 use mathlib.Core.Bool.{Bool, not, _&&_}
 use mathlib.Core.List.{List, [], _∷_, _++_}

@@ -1,5 +1,5 @@
--- Document 01's write word: its decoding, what a write does to a table's words, and when it fits, joined with the writes of layouts.
--- The decoded write is that of layouts, so that a plan found there is carried out on words here.
+-- Document 01's writes on a table's words: what each does, and when it fits.
+-- A plan word's write is that of layouts (`plan_words`), so that a plan found there is carried out on words here.
 use mathlib.Core.Bool.{Bool, not, _&&_, _||_}
 use mathlib.Core.List.{List, foldl}
 use Prim.Native.Nat.{ℕ}

@@ -1,4 +1,4 @@
--- End theorems on the definitions of Writes: document 01's write word: its decoding, what a write does to a table's words, and when it fits, joined with the writes of layouts.
+-- End theorems on writes to a table's words: they are the layout's, fit exactly where those do, and keep the table's length.
 use mathlib.Core.Path.{_≡_, refl, sym, ap, ap₂, _∙_}
 use mathlib.Core.Bool.{Bool, true, false, not, _&&_, _||_, Bool·not-not}
 use mathlib.Core.Logic.{_↔_}

@@ -1,4 +1,4 @@
--- Laws on the definitions of Scans: which slots are out of order with a slot, and which overlap it: the tests of the searches.
+-- Laws on the searches: slots passed over because their patterns do not overlap or their priorities are higher are not out of order.
 use mathlib.Core.Path.{_≡_, sym, _∙_}
 use mathlib.Core.Bool.{Bool, true, false, not, _&&_}
 use mathlib.Core.Logic.{_⊎_}

@@ -1,4 +1,4 @@
--- How the code meets the definitions of a line: what was done to the table stands at the memory's start, and the words past it stay.
+-- Laws by which the code meets the definitions of a line: what was done to the table stands at the memory's start, and the words past it stay.
 -- A table of at most 1,024 slots has room there.
 use mathlib.Core.Path.{_≡_, refl, sym, ap, ap₂, _∙_, subst}
 use mathlib.Core.Bool.{true, false, _&&_}

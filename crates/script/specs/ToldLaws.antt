@@ -1,4 +1,4 @@
--- Laws on the definitions of Told: what each command is answered on the table that it finds: letter, number and values.
+-- Laws on what T is answered: by a good number of slots, and by another.
 use mathlib.Core.Path.{_≡_}
 use mathlib.Core.Bool.{true, false, _&&_}
 use mathlib.Core.List.{[], _∷_}

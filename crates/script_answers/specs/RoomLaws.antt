@@ -1,4 +1,4 @@
--- How long a plan's lines can get, and the lines of one word more.
+-- Laws on how long a plan's lines can get, and the lines of one word more.
 -- A plan word's line has at most 14 bytes, so that a plan of 1,024 words has at most 7 + 14 × 1,024 = 14,343.
 use mathlib.Core.Path.{_≡_, sym, ap, _∙_}
 use mathlib.Core.List.{List, [], _∷_, _++_, append-assoc, append-nil}

@@ -1,5 +1,5 @@
--- End theorems: what lines mean, said again: only the first 257 bytes of a line count, so that the program need not hold more.
--- A number, printed, is read back; what can be unsound in the rule of an insert; and which keys match it.
+-- End theorems on lines: only the first 257 bytes of a line count, so that the program need not hold more.
+-- A number, printed, is read back; and which keys match the rule of an insert.
 use mathlib.Core.Path.{_≡_, sym, ap, subst, _∙_}
 use mathlib.Core.Bool.{true}
 use mathlib.Core.Logic.{_↔_}

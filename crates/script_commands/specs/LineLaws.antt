@@ -1,5 +1,4 @@
--- What the definitions of lines say of one field more.
--- For the functions that take a line apart, field by field.
+-- Laws on lines, one field more: for the functions that take a line apart, field by field.
 use mathlib.Core.Path.{_≡_, refl, sym, ap, ap₂, _∙_}
 use mathlib.Core.Bool.{Bool, true, false, _&&_}
 use mathlib.Core.List.{List, [], _∷_}

@@ -1,4 +1,4 @@
--- What the definitions of fields say of one byte more, and how large the numbers read can get.
+-- Laws on fields, one byte more, and how large the numbers read can get.
 -- For loops over a field, and for the tests of a number.
 use mathlib.Core.Path.{_≡_, sym, _∙_}
 use mathlib.Core.Bool.{Bool, true, false}

@@ -1,4 +1,4 @@
--- End theorems: patterns and keys, bit by bit: symbol j is bit 127 − j of the 128, highest first; a value bit outside the mask is 0.
+-- End theorems on patterns and keys, bit by bit: symbol j is bit 127 − j of the 128, highest first; a value bit outside the mask is 0.
 -- A star has neither bit, and so have the places past the field's end.
 use mathlib.Core.Path.{_≡_, refl, sym, ap, _∙_}
 use mathlib.Core.Bool.{Bool, true, false, _||_}

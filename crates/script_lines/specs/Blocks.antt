@@ -1,5 +1,5 @@
--- Reading in blocks: however the input is cut, the lines handed out, with their numbers, are those of the whole input.
--- Stated over any handler of lines, so that what the program prints and the last table are those of the whole input.
+-- Reading in blocks: what is held between two blocks, a turn of the reading, and the lines handed out.
+-- Stated over any handler of lines.
 use mathlib.Core.Bool.{cond}
 use mathlib.Core.List.{List, [], _∷_, _++_}
 use Prim.Native.Nat.{ℕ, zero, suc}

@@ -1,4 +1,5 @@
--- End theorems on the definitions of Blocks: reading in blocks: however the input is cut, the lines handed out, with their numbers, are those of the whole input.
+-- End theorems on reading in blocks: however the input is cut, the lines handed out, with their numbers, are those of the whole input.
+-- So what the program prints and the last table are those of the whole input.
 use mathlib.Core.Path.{_≡_, refl, sym, ap, ap₂, _∙_, subst}
 use mathlib.Core.Bool.{true, cond}
 use mathlib.Core.List.{List, [], _∷_, _++_, append-assoc, append-nil}

@@ -1,4 +1,4 @@
--- Laws on the definitions of Held: what the code holds of a line: its first bytes, as many as the lent buffer has.
+-- Laws on what the code holds of a line: a piece put behind the bytes held, and the line that stands when it ends.
 use mathlib.Core.Bool.{Bool, true, false}
 use mathlib.Core.Path.{_≡_, sym, ap, _∙_}
 use mathlib.Core.List.{List, []}

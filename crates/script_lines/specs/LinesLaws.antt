@@ -1,4 +1,4 @@
--- Laws on the definitions of Lines: document 01: lines end in a newline (the last may lack it); nothing after the last newline is no line.
+-- Laws on lines: the first line, and the lines of the rest.
 use mathlib.Core.Path.{_≡_, sym, ap, _∙_}
 use mathlib.Core.Bool.{cond}
 use mathlib.Core.List.{List, [], _∷_}

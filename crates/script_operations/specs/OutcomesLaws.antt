@@ -1,4 +1,4 @@
--- How the code meets the definitions: what a planning call answered comes to the outcome of its line.
+-- Laws by which the code meets the definitions: what a planning call answered comes to the outcome of its line.
 -- A buffer of 1,024 words is never too short, since no plan has more words than the table slots.
 use mathlib.Core.Path.{_≡_, refl, sym, ap, ap₂, _∙_, subst, subst₂}
 use mathlib.Core.Bool.{cond, true≢false}

@@ -1,4 +1,4 @@
--- End theorems on the definitions of Told: what a line is answered: the letter that is printed, and document 01's number and values for each case of the answer.
+-- End theorems on what a line is answered: letter, number and values lose nothing.
 use mathlib.Core.Path.{_≡_, refl, ap, ap₂}
 use Prim.Native.Nat.{ℕ}
 use native.Mathlib.Omega.{arith}

@@ -1,5 +1,4 @@
 -- A printed line: a letter, each number after a space, a newline.
--- A line's length follows from the digits of its numbers: at most 5 for 16 bits, 10 for 32 bits, 20 for 64 bits.
 use mathlib.Core.List.{List, [], _∷_, _++_}
 use Prim.Native.Nat.{ℕ}
 use Rattle.script_text.specs.Decimal.{digitsOf}

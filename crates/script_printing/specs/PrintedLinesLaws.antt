@@ -1,4 +1,4 @@
--- Laws on the definitions of PrintedLines: a printed line: a letter, each number after a space, a newline.
+-- Laws on printed lines: how long they can get: at most 5 digits for 16 bits, 10 for 32 bits, 20 for 64 bits.
 use mathlib.Core.Path.{_≡_}
 use mathlib.Core.List.{[], _∷_}
 use Prim.Native.Nat.{ℕ, _+_, _≤_, _<_}

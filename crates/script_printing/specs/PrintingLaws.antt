@@ -1,4 +1,4 @@
--- Laws on the definitions of Printing: bytes written into a buffer from a place on, all others untouched.
+-- Laws on bytes written into a buffer: what is printed one after the other is printed as one text.
 use mathlib.Core.Path.{_≡_, refl, sym, ap, ap₂, _∙_}
 use mathlib.Core.List.{List, [], _∷_, _++_, append-assoc}
 use Prim.Native.Nat.{ℕ, suc, _+_, _≤_, _<_}

@@ -1,5 +1,5 @@
 -- Numbers in decimal: what a text of digits means, and the digits of a number, highest first.
--- One definition for reading and printing; a number's digits read back are the number.
+-- One definition for reading and printing.
 use mathlib.Core.Bool.{Bool, true, cond, _&&_}
 use mathlib.Core.List.{List, [], _∷_, _++_}
 use Prim.Native.Nat.{ℕ, zero, suc, _+_, _-_, _*_, _/_, _%_}

@@ -1,4 +1,4 @@
--- End theorems on the definitions of Decimal: numbers in decimal: what a text of digits means, and the digits of a number, highest first.
+-- End theorems on numbers in decimal: a number's digits, read back, are the number.
 use mathlib.Core.Path.{_≡_, refl, sym, ap, _∙_}
 use mathlib.Core.Bool.{Bool, true, cond}
 use mathlib.Core.List.{List, [], _∷_, _++_}

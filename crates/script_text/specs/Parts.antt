@@ -1,5 +1,4 @@
 -- The parts of a text between separators: lines between newlines, fields between spaces.
--- The laws say the plain thing: no part holds the separator, and the parts joined by it are the text.
 use mathlib.Core.Bool.{Bool, true, not, cond, _&&_}
 use mathlib.Core.List.{List, [], _∷_, _++_}
 use Prim.Native.Nat.{ℕ}

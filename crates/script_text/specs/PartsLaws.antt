@@ -1,4 +1,4 @@
--- End theorems on the definitions of Parts: the parts of a text between separators: lines between newlines, fields between spaces.
+-- End theorems on the parts of a text: no part holds the separator, and the parts joined by it are the text.
 use mathlib.Core.Path.{_≡_, refl, sym, ap, ap₂, _∙_}
 use mathlib.Core.Bool.{true, false, not, cond, _&&_, false≢true}
 use mathlib.Core.Logic.{_⊎_}

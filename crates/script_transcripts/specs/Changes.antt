@@ -1,5 +1,4 @@
--- Demand 2 of scripts: every table of a script is one without slots, before a good T, or one reached by the changes accepted since the last
--- good T; so an L line prints id and action of the highest-priority match among the rules inserted and not since deleted, or a miss.
+-- Demand 2 of scripts: the changes accepted since the last good T, and the tables that they reach.
 use mathlib.Core.Path.{_≡_}
 use mathlib.Core.Bool.{cond, _&&_}
 use mathlib.Core.Logic.{_⊎_}

@@ -1,4 +1,5 @@
--- End theorems on the definitions of Changes: demand 2 of scripts: every table of a script is one without slots, before a good T, or one reached by the changes accepted since the last.
+-- End theorems: demand 2 of scripts: every table of a script is one without slots, before a good T, or one reached by the changes accepted since the last
+-- good T; so an L line prints id and action of the highest-priority match among the rules inserted and not since deleted, or a miss.
 use mathlib.Core.Path.{_≡_, refl, sym, ap, ap₂, _∙_, subst}
 use mathlib.Core.Bool.{Bool, true, false, cond, _&&_, true≢false}
 use mathlib.Core.Logic.{_⊎_}

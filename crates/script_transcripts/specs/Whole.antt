@@ -1,5 +1,4 @@
--- A whole script: what it comes to from no table, and that a program which calls take_turn until each block's end, writes each answer, and
--- calls last_turn at the end of the input prints exactly that, however the input is cut into blocks.
+-- A whole script: what it comes to from no table, and what a program's calls of take_turn and last_turn leave and print, one after the other.
 use mathlib.Core.List.{List, [], _∷_, _++_}
 use Prim.Native.Nat.{ℕ, _≤_, _<_}
 use lib.ListN.{length, take, drop}

@@ -1,4 +1,5 @@
--- End theorems on the definitions of Whole: a whole script: what it comes to from no table, and that a program which calls take_turn until each block's end, writes each answer, and.
+-- End theorems on whole scripts: a program that calls take_turn until each block's end, writes each answer, and calls last_turn at the end of the input
+-- prints exactly what the script comes to, however the input is cut into blocks.
 use mathlib.Core.Path.{_≡_, refl, sym, ap, ap₂, _∙_, subst}
 use mathlib.Core.Bool.{true, false}
 use mathlib.Core.Logic.{_⊎_}

@@ -1,4 +1,4 @@
--- Reading a script block by block, on lent buffers: each call is one turn of the reading that `lines` proves to be that of the whole input.
+-- Reading a script block by block, on lent buffers: each call is one turn of the reading of `script_lines`.
 -- The reading's table is the one in the lent memory, and what a call prints stands at the start of the lent output.
 use mathlib.Core.Path.{_≡_}
 use mathlib.Core.Bool.{cond}

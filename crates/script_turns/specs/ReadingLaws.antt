@@ -1,4 +1,4 @@
--- How the code meets the definitions of a turn: a line that is run is handed out, and one that is not complete is held.
+-- Laws by which the code meets the definitions of a turn: a line that is run is handed out, and one that is not complete is held.
 -- What a call prints comes after what was printed before it.
 use mathlib.Core.Path.{_≡_, refl, sym, ap, _∙_, subst}
 use mathlib.Core.Bool.{Bool, true, false}

@@ -1,4 +1,4 @@
--- Searches in parts, upward and downward: some indices are passed over at once, others are asked one by one.
+-- Laws on searches in parts, upward and downward: some indices are passed over at once, others are asked one by one.
 -- A part tells the first or the last index at which the test holds, and the search goes on where it found none.
 use mathlib.Core.Path.{_≡_, refl, sym, ap, _∙_, subst}
 use mathlib.Core.Bool.{Bool, true, false, cond, _||_, true≢false}

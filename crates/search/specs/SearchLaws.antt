@@ -1,4 +1,4 @@
--- Laws on the definitions of Search: searches over indices: does a test hold everywhere, somewhere, where first, where last.
+-- Laws on searches: what each finds, that it finds one thing only, and how a loop makes it one index further.
 use mathlib.Core.Path.{_≡_, refl, sym, ap, ap₂, _∙_, subst}
 use mathlib.Core.Bool.{Bool, true, false, cond, _&&_, _||_, or-false, false≢true, true≢false}
 use mathlib.Core.Logic.{_↔_, _⊎_, ⊎-elim}

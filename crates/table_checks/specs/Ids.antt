@@ -1,5 +1,5 @@
--- A column of a table's ids, and what it says of check 3.
--- The column does not tell which slots are occupied: what it finds twice may be no rule's id, but what it does not find twice is no rule's twice.
+-- A column of a table's ids, side by side.
+-- It does not tell which slots are occupied: what it has twice may be no rule's id, but what it has once is no rule's twice.
 use mathlib.Core.Path.{_≡_}
 use mathlib.Core.List.{List}
 use Prim.Native.Nat.{ℕ, _<_}

@@ -1,4 +1,4 @@
--- Laws on the definitions of Ids: a column of a table's ids, and what it says of check 3.
+-- Laws on a column of ids: what it says of check 3.
 use mathlib.Core.Path.{_≡_, refl, ap, ap₂, sym, _∙_}
 use mathlib.Core.Bool.{Bool, true, false, not, _&&_}
 use mathlib.Core.List.{List}

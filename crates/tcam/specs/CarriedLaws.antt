@@ -1,4 +1,4 @@
--- End theorems on the definitions of Carried: a plan carried out through a lent progress record: the result of the call, and what it leaves.
+-- End theorems on carrying out through a lent record: each call joined with the state that demand 2 speaks of.
 use mathlib.Core.Path.{_≡_, ap₂, _∙_}
 use mathlib.Core.List.{List}
 use Prim.Native.Nat.{ℕ, suc}

@@ -1,4 +1,4 @@
--- End theorems on the definitions of Images: what the exported calls that save and load leave: their result, the lent buffer and the lent cells, before and after.
+-- End theorems on saving and loading from C: what a successful save left is loaded to the table that was saved.
 use mathlib.Core.Path.{_≡_, sym, ap, _∙_}
 use mathlib.Core.List.{List, [], _∷_}
 use Prim.Native.Nat.{ℕ}

@@ -1,4 +1,4 @@
--- Laws on the definitions of Reads: what the program makes of what a read and a write answered: a read that fails ends it, no bytes are the end of the input, any bytes are taken.
+-- Laws on what the program makes of its reads and writes: one block more, one turn more, and why it stops.
 use mathlib.Core.Path.{_≡_, refl, sym, ap, subst, _∙_}
 use mathlib.Core.Bool.{Bool, true, false, true≢false, false≢true}
 use mathlib.Core.Logic.{_⊎_}

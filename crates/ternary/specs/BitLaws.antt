@@ -1,4 +1,5 @@
--- Laws on the definitions of Bit: the bits of a number, and what the operators of words do at each bit position.
+-- Laws on bits: what the operators of words do at each bit position.
+-- A word is 0 exactly when each of its bits is; so a test against zero speaks of every position.
 use mathlib.Core.Path.{_≡_, refl, sym, ap, _∙_}
 use mathlib.Core.Logic.{_↔_}
 use Prim.Native.Nat.{ℕ, zero, suc, _+_, _*_, _/_, _%_, _^_, _<_, min, max}

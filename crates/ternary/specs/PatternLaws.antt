@@ -1,4 +1,4 @@
--- End theorems on the definitions of Pattern: patterns of any number of words: match, overlap, value within mask. Document 01's sentences, and the tests that decide them.
+-- End theorems on patterns of any number of words: the tests of match, overlap and value within mask decide document 01's sentences.
 use mathlib.Core.Path.{_≡_, sym, _∙_}
 use mathlib.Core.Bool.{Bool, true, false, true≢false}
 use mathlib.Core.Logic.{_↔_, ⊎-elim}

@@ -1,5 +1,4 @@
--- The three tests of one word, by masks and exclusive-or against zero, and what each says of every bit position.
--- The code computes these tests; the laws beside them are what a reader goes by.
+-- The three tests of one word, by masks and exclusive-or against zero, which the code computes.
 use mathlib.Core.Bool.{Bool}
 use Prim.Native.Nat.{ℕ}
 use lib.Dec.{eqb}

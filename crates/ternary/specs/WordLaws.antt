@@ -1,4 +1,4 @@
--- Laws on the definitions of Word: the three tests of one word, by masks and exclusive-or against zero, and what each says of every bit position.
+-- Laws on the tests of one word: what each says of every bit position.
 use mathlib.Core.Path.{_≡_, sym, ap, _∙_}
 use mathlib.Core.Bool.{true}
 use mathlib.Core.Logic.{_↔_}

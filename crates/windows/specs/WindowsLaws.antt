@@ -1,4 +1,4 @@
--- Laws on the definitions of Windows: the windows of a table's rules, seen along one direction: position p is slot p going down, and slot n − 1 − p going up.
+-- Laws on windows: where they end, going down and going up, as the searches of the code find it.
 use mathlib.Core.Path.{_≡_, sym, ap, _∙_, subst}
 use mathlib.Core.Bool.{Bool, true, false, cond}
 use mathlib.Core.List.{List, _++_}
