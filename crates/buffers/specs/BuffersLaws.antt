@@ -31,10 +31,7 @@ pub buffer-refused : {x checks : Check} {cause : Cause} {spot : ℕ} (contents b
     → (refusal cause spot ≡ bufferAnswer checks (length contents) (length buffer)) × (buffer ≡ bufferAfter checks contents buffer)
 unfolding bufferAnswer bufferAfter
 buffer-refused {cause = cause} {spot} contents buffer e f =
-    let g = sym e ∙ f in (
-      sym (ap (λ (c : Check). unless (orElse c (checkRoom (length contents) (length buffer))) (success (length contents ∷ []))) g),
-      sym (ap (λ (c : Check). cond (passes (orElse c (checkRoom (length contents) (length buffer)))) (contents ++ drop (length contents) buffer) buffer) g),
-    )
+    let g = sym e ∙ f in (rw g, rw g)
 
 pub buffer-short : {x checks : Check} (contents buffer : List ℕ) → x ≡ checks → x ≡ Pass → length buffer < length contents
     → (refusal Short (length contents) ≡ bufferAnswer checks (length contents) (length buffer)) × (buffer ≡ bufferAfter checks contents buffer)

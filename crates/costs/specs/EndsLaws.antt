@@ -18,7 +18,7 @@ use Rattle.costs.specs.CostsLaws.{cost-vacant, cost-occupied}
 use Rattle.costs.specs.Ends.{Ends}
 
 module _ {S : Type 0} (empty : S) (occupied : S → Bool) (misplaced : S → S → Bool) (t : List S) where
-  -- numbers that satisfy the equation of costs, over those ends, are the layout's costs
+  -- numbers that satisfy the equation of costs, over the ends of a layout's windows, are the layout's costs
   pub costs-settled : (ends : List ℕ) (c : ℕ → ℕ) → Ends empty occupied misplaced t ends → SolvedFrom ends (length t) 0 c
       → (p : ℕ) → p < length t → c p ≡ downCost empty occupied misplaced t p
   costs-settled ends c e f = down-cost-only empty occupied misplaced t c (λ i b. at i b (decided (occupied (getD t i empty))))

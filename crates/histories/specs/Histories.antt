@@ -1,5 +1,4 @@
--- Document 01, demand 2: from an empty table, after any accepted inserts and deletes carried out in full, each key is answered by the
--- highest-priority matching rule that was inserted and not since deleted, or by a miss.
+-- Document 01, demand 2: the tables that are reached from an empty one by accepted inserts and deletes, carried out in full.
 use mathlib.Core.Path.{_≡_}
 use mathlib.Core.List.{List, [], _∷_}
 use Prim.Native.Nat.{ℕ, _*_, _≤_, _<_}

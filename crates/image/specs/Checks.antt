@@ -71,7 +71,7 @@ loadChecks w b t =
     orElse (orElse (checkShape w t) (imageChecks w b (slots w t)))
     (orElse (checkTwice w (meant w b (length t))) (checkOrder w (meant w b (length t))))
 
--- checks in turn: all pass, or the first that fails decides
+-- checks in turn
 module _ (check : ℕ → Check) where
   -- the failing check, the ones before it passing
   abbrev pub FirstFails : ℕ → Cause → ℕ → Type 0

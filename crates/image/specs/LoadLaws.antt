@@ -1,5 +1,4 @@
--- End theorems: the table that an image means, slot by slot, and how a load ends.
--- A rule's slot has its record, every other slot is empty.
+-- End theorems on loading: how a load ends, and that of the lent table only the length counts.
 use mathlib.Core.Path.{_≡_, refl, sym, ap, ap₂, _∙_}
 use mathlib.Core.Bool.{cond}
 use mathlib.Core.List.{List, [], _∷_}

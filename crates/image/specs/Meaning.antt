@@ -1,4 +1,4 @@
--- End theorems: the table that an image means, slot by slot: a rule's slot has the record of its entry and body, every other slot is empty.
+-- End theorems on the table that an image means, slot by slot: a rule's slot has the record of its entry and body, every other slot is empty.
 -- An image's slots rise, so that no record overwrites another.
 use mathlib.Core.Path.{_≡_, refl, sym, ap, ap₂, _∙_}
 use mathlib.Core.Bool.{Bool, true, false, not, _&&_, true≢false}

@@ -1,4 +1,4 @@
--- End theorems: sizes of an image and its parts, and how stores rule by rule become the image of a table.
+-- End theorems on the sizes of an image and its parts, and how stores rule by rule become the image of a table.
 -- A rule's entry and body go to places of their own, so that the stores of one pass over the slots may be read as two rows.
 use mathlib.Core.Path.{_≡_, refl, sym, ap, _∙_}
 use mathlib.Core.Bool.{true}

@@ -75,7 +75,7 @@ module _ (w : ℕ) (t : List ℕ) (ends : List ℕ) where
 pub numbers-front : (n : ℕ) (f : Words) (rest : List ℕ) (p : ℕ) → p < n → getD (listed n f ++ rest) p 0 ≡ f p
 numbers-front n f rest p h = List·getD-append (listed n f) rest 0 p (let k = length-listed n f in omega arith) ∙ word-listed n f p h
 
--- as the code finds them, from numbers in front of whatever stood in the buffer
+-- the costs as the code finds them, from numbers in front of whatever stood in the buffer
 pub costed : (w : ℕ) (t : List ℕ) (up : Bool) (ends rest costs : List ℕ) → ends ≡ listed (slots w t) (endAt w t up) ++ rest
     → SolvedFrom ends (slots w t) 0 (costOf costs) → Costed w t up costs
 unfolding positionCost

@@ -1,4 +1,4 @@
--- End theorems: document 01's marked tables, all by one computation, and those worded for any rule or id also for any.
+-- End theorems on document 01's marked tables: all by one computation, and those worded for any rule or id also for any.
 use mathlib.Core.Path.{_≡_, refl, sym, ap, ap₂, _∙_, subst}
 use mathlib.Core.Bool.{Bool, true, false, cond, _&&_, true≢false}
 use mathlib.Core.Logic.{_≢_}

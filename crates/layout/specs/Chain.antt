@@ -28,6 +28,6 @@ unfoldable pub steps : (ℕ → ℕ → ℕ) → ℕ → ℕ → List ℕ
 steps next zero s = []
 steps next (suc k) s = let j = next k s in j ∷ steps next k j
 
--- Code steps by costs alone: with k moves left, going down to the first slot after s of cost k, going up to the last before s.
+-- Code steps by costs alone: with k moves left, to the first position after s of cost k; going up, positions are read from the other end.
 abbrev pub firstOfCost : (ℕ → ℕ) → ℕ → ℕ → ℕ → ℕ
 firstOfCost c n k s = least (λ y. eqb (c y) k) (n - suc s) (suc s)

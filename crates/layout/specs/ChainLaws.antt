@@ -93,7 +93,7 @@ module _ {S : Type 0} {empty : S} {occupied : S → Bool} {misplaced : S → S �
       (window-mirrored empty t misplaced (mirror (length t) s) (mirror (length t) j) (omega arith) (omega arith) .1 (rw (at-s, at-j) w))
       (rw (at-s, at-j) e) (λ y a l u. rw at-j (f (mirror (length t) y) (omega arith) (omega arith) (omega arith))) (walk-mirrored k)
 
--- of the costs they see those of the slots
+-- a step by costs looks at the costs of the slots alone
 pub first-of-cost-cong : {c d : ℕ → ℕ} (n : ℕ) → ((j : ℕ) → j < n → c j ≡ d j) → (k s : ℕ) → firstOfCost c n k s ≡ firstOfCost d n k s
 first-of-cost-cong n h k s = least-cong (n - suc s) (suc s) (λ j l r. ap (λ (x : ℕ). eqb x k) (h j (omega arith)))
 

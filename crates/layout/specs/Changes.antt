@@ -1,4 +1,4 @@
--- End theorems: what a plan does to replies: each key keeps its old reply until the last write, and then has that of the changed set of rules.
+-- End theorems on replies through a plan: each key keeps its old reply until the last write, and then has that of the changed set of rules.
 -- A delete is one emptying write.
 use mathlib.Core.Path.{_≡_}
 use mathlib.Core.Bool.{Bool, false}

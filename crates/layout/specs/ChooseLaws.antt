@@ -13,7 +13,7 @@ use Rattle.layout.specs.Order.{Higher, Lower, swapped}
 use Rattle.layout.specs.Minimum.{LeastAt}
 use Rattle.layout.specs.Chain.{Walk}
 use Rattle.layout.specs.Plan.{Range, Choice, downCost, upCost, downChain, upChain, bestDown, bestUp, slotDown, slotUp, choose}
-use Rattle.layout.specs.MinimumLaws.{minimum-law, lowest-law, highest-law}
+use Rattle.layout.specs.MinimumLaws.{minimum-law, lowest-at-law, highest-at-law}
 use Rattle.layout.specs.Choose.{Chosen}
 use Rattle.layout.specs.PlanCostLaws.{down-walk, up-walk}
 
@@ -65,13 +65,13 @@ module _ {S : Type 0} (empty : S) (occupied : S → Bool) (misordered : S → S 
       → LeastAt Higher (downCost empty occupied misordered t) (r .from) (r .from + (min (r .to) (length t) - r .from))
       (bestDown empty occupied misordered t r) (slotDown empty occupied misordered t r)
   unfolding bestDown slotDown
-  lowest-at r h = lowest-law (downCost empty occupied misordered t) (length t) (min (r .to) (length t) - r .from) (r .from) h
+  lowest-at r h = lowest-at-law (downCost empty occupied misordered t) (length t) (min (r .to) (length t) - r .from) (r .from) h
 
   highest-at : (r : Range) → bestUp empty occupied misordered t r < length t
       → LeastAt Lower (upCost empty occupied misordered t) (r .from) (r .from + (min (r .to) (length t) - r .from))
       (bestUp empty occupied misordered t r) (slotUp empty occupied misordered t r)
   unfolding bestUp slotUp
-  highest-at r h = highest-law (upCost empty occupied misordered t) (length t) (min (r .to) (length t) - r .from) (r .from) h
+  highest-at r h = highest-at-law (upCost empty occupied misordered t) (length t) (min (r .to) (length t) - r .from) (r .from) h
 
   -- in either direction: a slot of least cost by the tie rule, and its walk
   chosen-along : {toward : ℕ → ℕ → Type 0} {misplaced : S → S → Bool} {c : ℕ → ℕ} (r : Range) (choice : Choice)

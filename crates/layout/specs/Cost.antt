@@ -7,7 +7,7 @@ use mathlib.Core.List.{List, [], _∷_}
 use Prim.Native.Nat.{ℕ, suc, _-_, _≤_, _<_, min}
 use lib.ListN.{length, getD}
 use Rattle.search.specs.Search.{least}
-use Rattle.layout.specs.Minimum.{minimum, lowest}
+use Rattle.layout.specs.Minimum.{minimum, lowestAt}
 
 -- Slot j is in the window of slot i: it comes after i, and no slot between the two holds a dependant of i's rule.
 -- So the window reaches up to and including the nearest dependant, or to the layout's end.
@@ -52,6 +52,6 @@ pub record Costs {S : Type 0} (empty : S) (occupied : S → Bool) (toward : ℕ 
       → (j : ℕ) × InWindow empty toward misplaced t i j × (c i ≡ suc (c j)) × ((y : ℕ) → y < length t → toward i y → toward y j → c j < c y)
 
 module _ {S : Type 0} (empty : S) (occupied : S → Bool) (misplaced : S → S → Bool) (top : ℕ) (t : List S) where
-  -- the slot to which the rule of slot s moves: the lowest of least cost in its window
+  -- the slot to which the rule of slot s moves: the lowestAt of least cost in its window
   unfoldable pub nextSlot : ℕ → ℕ
-  nextSlot s = lowest (slotCost empty occupied misplaced top t) top (windowEnd empty misplaced t s - suc s) (suc s)
+  nextSlot s = lowestAt (slotCost empty occupied misplaced top t) top (windowEnd empty misplaced t s - suc s) (suc s)

@@ -13,10 +13,10 @@ use Rattle.search.specs.SearchLaws.{least-law, least-shift, decided}
 use Rattle.layout.specs.Order.{Higher}
 use Rattle.layout.specs.Minimum.{minimum}
 use Rattle.layout.specs.Cost.{InWindow, Costs, WindowOrPast, windowEnd, nextSlot, slotCost, costs}
-use Rattle.layout.specs.MinimumLaws.{Minimum, minimum-law, minimum-shift, lowest-law}
+use Rattle.layout.specs.MinimumLaws.{Minimum, minimum-law, minimum-shift, lowest-at-law}
 
 module _ {S : Type 0} (empty : S) (misplaced : S → S → Bool) where
-  -- the slots from i + 1 up to there are those of the window
+  -- the slots from i + 1 up to the window's end are those of the window
   pub window-end : (t : List S) (i j : ℕ) → InWindow empty Higher misplaced t i j ↔ ((i < j) × (j < windowEnd empty misplaced t i))
   unfolding windowEnd
   window-end t i j = (forth, λ h. record { inside = omega (arith, h .1); after = h .0; between = λ y a u v. law .before y u (omega (arith, h .1)) })
@@ -53,7 +53,7 @@ module _ {S : Type 0} (empty : S) (misplaced : S → S → Bool) where
       rw (n, least-shift (λ y. misplaced (getD (e ∷ rest) y empty) (getD rest i empty)) (length rest - suc i) (suc i)) (omega arith)
 
 module _ {S : Type 0} (empty : S) (occupied : S → Bool) (misplaced : S → S → Bool) where
-  -- the same by slot number
+  -- the equation of costs, by slot number
   pub cost-at : (top : ℕ) (t : List S) (i : ℕ) → i < length t
       → slotCost empty occupied misplaced top t i ≡ cond (occupied (getD t i empty)) (suc (minimum (slotCost empty occupied misplaced top t) top (windowEnd empty misplaced t i - suc i) (suc i))) 0
   unfolding costs
@@ -105,7 +105,7 @@ module _ {S : Type 0} (empty : S) (occupied : S → Bool) (misplaced : S → S �
   unfolding nextSlot
   next-law s b o h =
       let e = cost-occupied s b o in
-      let r = lowest-law (slotCost empty occupied misplaced top t) top (windowEnd empty misplaced t s - suc s) (suc s) (omega arith) in (
+      let r = lowest-at-law (slotCost empty occupied misplaced top t) top (windowEnd empty misplaced t s - suc s) (suc s) (omega arith) in (
         window-end empty misplaced t s (nextSlot empty occupied misplaced top t s) .1 (r .from, omega (arith, r .below, r .from)),
         e ∙ ap suc (sym (r .value)),
         λ y a l u. omega (arith, r .tie y l (omega (arith, r .below)) u, r .value),

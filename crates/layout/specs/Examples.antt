@@ -1,4 +1,4 @@
--- Worked examples: small layouts, evaluated: the definitions compute, and give document 01's plans.
+-- Worked examples of small layouts: the definitions compute, and give document 01's plans.
 -- The last two show what is not claimed: mixed directions may do with fewer writes, and a crossed rule may have a sequence in the class.
 use mathlib.Core.Path.{_≡_, refl, sym, ap, _∙_}
 use mathlib.Core.Bool.{Bool, true, false, not, _&&_, _||_, and-false}
@@ -12,7 +12,7 @@ use Rattle.search.specs.Search.{all, any, least, afterLast}
 use Rattle.search.specs.SearchLaws.{all-law, and-both, and-left, and-right}
 use Rattle.layout.specs.Order.{Laws, inOrder}
 use Rattle.layout.specs.Held.{free}
-use Rattle.layout.specs.Minimum.{minimum, lowest, highest}
+use Rattle.layout.specs.Minimum.{minimum, lowestAt, highestAt}
 use Rattle.layout.specs.Cost.{windowEnd, costs, nextSlot}
 use Rattle.layout.specs.Chain.{steps}
 use Rattle.layout.specs.Write.{Write, copy, put, moves}
@@ -63,7 +63,7 @@ laws ps = record {
 }
 
 plan : List Pair → List ℕ → ℕ → List Write
-unfolding all any least afterLast minimum lowest highest windowEnd costs nextSlot steps moves downCost upCost downChain upChain bestDown bestUp slotDown slotUp choose afterPreceding firstDependant insertChoice listedSlots
+unfolding all any least afterLast minimum lowestAt highestAt windowEnd costs nextSlot steps moves downCost upCost downChain upChain bestDown bestUp slotDown slotUp choose afterPreceding firstDependant insertChoice listedSlots
 plan ps t new = writes (insertChoice 0 occupied (misordered ps) t new)
 
 -- one empty slot: one write, to 0
@@ -108,7 +108,7 @@ down-plan : plan (on 2 1 ∷ on 3 1 ∷ on 2 3 ∷ []) (0 ∷ 1 ∷ 2 ∷ 0 ∷ 
 unfolding plan
 down-plan = refl
 
--- of slots of equal cost a down plan takes the lowest, an up plan the highest
+-- of slots of equal cost a down plan takes the lowestAt, an up plan the highestAt
 lowest-plan : plan [] (1 ∷ 0 ∷ 0 ∷ []) 2 ≡ put 1 ∷ []
 unfolding plan
 lowest-plan = refl

@@ -1,4 +1,4 @@
--- End theorems: existence: with an empty slot and A < B the choice is finite, so the plan has at most N writes.
+-- End theorems on existence: with an empty slot and A < B the choice is finite, so the plan has at most N writes.
 -- An empty slot after A serves a down plan, one at or before A an up plan.
 use mathlib.Core.Path.{_≡_, sym, _∙_, subst}
 use mathlib.Core.Bool.{Bool, true, false, true≢false}

@@ -159,7 +159,7 @@ module _
     unfolding insertChoice
     insert-valid h = choice-valid (rangeDown empty misordered t new) (rangeUp empty misordered t new) (omega arith) (omega arith) (omega arith) (omega arith) h
 
-    -- with an empty slot and A < B there is such a plan
+    -- with an empty slot and A < B there is a valid plan of least count
     pub insert-plan : (e : ℕ) → e < length t → occupied (getD t e empty) ≡ false → Uncrossed empty misordered t new
         → LeastPlan empty occupied same misordered t new (insertChoice empty occupied misordered t new)
     insert-plan e b o uncrossed =

@@ -1,4 +1,4 @@
--- End theorems: the lower bound: no sequence of the comparison class has fewer writes than the cost of the new rule's slot plus 1.
+-- End theorems on the lower bound: no sequence of the comparison class has fewer writes than the cost of the new rule's slot plus 1.
 -- Nothing is asked of the first layout but that its ids are unique: neither its order nor what its entries are.
 use mathlib.Core.Path.{_≡_, refl, sym, ap, _∙_, subst}
 use mathlib.Core.Bool.{Bool, true, false, true≢false}
@@ -17,7 +17,7 @@ use Rattle.layout.specs.Cost.{InWindow, Costs, WindowOrPast}
 use Rattle.layout.specs.Write.{Write}
 use Rattle.layout.specs.Class.{Sequence}
 use Rattle.layout.specs.WrittenLaws.{entry-written}
-use Rattle.layout.specs.OrderLaws.{distinct, in-order-shows}
+use Rattle.layout.specs.OrderLaws.{toward-distinct, in-order-shows}
 use Rattle.layout.specs.HeldLaws.{unique-coherent, coherent-copied, held-outside, held-copied}
 
 module _
@@ -42,7 +42,7 @@ module _
     alone = λ i k b g h d. unique k i g b d;
     coherent = unique-coherent laws first unique;
     held = λ x h. h;
-    onward = λ a k b g s l. true≢false (sym s ∙ unique k a g b (distinct direction k a l));
+    onward = λ a k b g s l. true≢false (sym s ∙ unique k a g b (toward-distinct direction k a l));
   }
 
   -- a slot of positive cost was occupied

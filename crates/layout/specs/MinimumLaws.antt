@@ -1,4 +1,4 @@
--- End theorems on the least of the numbers at a stretch of indices: it is attained, and lowest and highest are where it first and last is.
+-- Laws on the least of the numbers at a stretch of indices: it is attained, and lowestAt and highestAt are where it first and last is.
 use mathlib.Core.Path.{_≡_, refl, sym, ap, ap₂, _∙_}
 use mathlib.Core.Logic.{_≢_}
 use mathlib.Core.Bool.{false, true≢false}
@@ -10,7 +10,7 @@ use borrow.Author.Tests.{eqb-true, eqb-false, eq-eqb}
 use Rattle.search.specs.Search.{Least, AfterLast}
 use Rattle.search.specs.SearchLaws.{least-law, after-last-law}
 use Rattle.layout.specs.Order.{Higher, Lower}
-use Rattle.layout.specs.Minimum.{minimum, LeastAt, lowest, highest}
+use Rattle.layout.specs.Minimum.{minimum, LeastAt, lowestAt, highestAt}
 
 -- m is the least of top and the values of c from i on, below e
 pub record Minimum (c : ℕ → ℕ) (top i e m : ℕ) : Type 0 where
@@ -91,10 +91,10 @@ module _ {c : ℕ → ℕ} {top i e m : ℕ} (minimal : Minimum c top i e m) (fi
           absurd (true≢false (sym (eq-eqb (c (w .0)) m (w .3)) ∙ l .after (w .0) (omega (arith, w .1)) (w .2)))
 
 module _ (c : ℕ → ℕ) (top k i : ℕ) (finite : minimum c top k i < top) where
-  pub lowest-law : LeastAt Higher c i (i + k) (minimum c top k i) (lowest c top k i)
-  unfolding lowest
-  lowest-law = lowest-of (minimum-law c top k i) finite (least-law (λ j. eqb (c j) (minimum c top k i)) k i)
+  pub lowest-at-law : LeastAt Higher c i (i + k) (minimum c top k i) (lowestAt c top k i)
+  unfolding lowestAt
+  lowest-at-law = lowest-of (minimum-law c top k i) finite (least-law (λ j. eqb (c j) (minimum c top k i)) k i)
 
-  pub highest-law : LeastAt Lower c i (i + k) (minimum c top k i) (highest c top k i)
-  unfolding highest
-  highest-law = highest-of (minimum-law c top k i) finite (after-last-law (λ j. eqb (c j) (minimum c top k i)) (i + k))
+  pub highest-at-law : LeastAt Lower c i (i + k) (minimum c top k i) (highestAt c top k i)
+  unfolding highestAt
+  highest-at-law = highest-of (minimum-law c top k i) finite (after-last-law (λ j. eqb (c j) (minimum c top k i)) (i + k))

@@ -97,8 +97,8 @@ module _ {S : Type 0} {empty : S} {misordered misplaced : S → S → Bool} {tow
   pub asymmetric : (x y : ℕ) → toward x y → toward y x → ⊥
   asymmetric x y l r = direction .irreflexive x (direction .transitive x y x l r)
 
-  pub distinct : (x y : ℕ) → toward x y → x ≢ y
-  distinct x y l d = direction .irreflexive y (subst (λ (z : ℕ). toward z y) d l)
+  pub toward-distinct : (x y : ℕ) → toward x y → x ≢ y
+  toward-distinct x y l d = direction .irreflexive y (subst (λ (z : ℕ). toward z y) d l)
 
   -- a write keeps order if its entry stands right against what comes before it and after it
   pub in-order-put : (t : List S) (j : ℕ) (e : S) → j < length t → InOrder empty misordered t
@@ -108,7 +108,7 @@ module _ {S : Type 0} {empty : S} {misordered misplaced : S → S → Bool} {tow
       let n : length (set t j e) ≡ length t = length-set t j e in
       direction .ordered (set t j e) (λ x y a b l.
       pairs-written empty t j e h (λ x y a b. toward x y → misplaced a b ≡ false) (λ k b d. before k b) (λ k b d. after k b)
-      (λ x y a b p q d l. direction .along t o x y a b l) x y (omega arith) (omega arith) (distinct x y l) l)
+      (λ x y a b p q d l. direction .along t o x y a b l) x y (omega arith) (omega arith) (toward-distinct x y l) l)
 
   -- and only then
   pub in-order-shows : (t : List S) (j : ℕ) (e : S) → j < length t → InOrder empty misordered (set t j e) → (k : ℕ) → k < length t
@@ -116,8 +116,8 @@ module _ {S : Type 0} {empty : S} {misordered misplaced : S → S → Bool} {tow
   in-order-shows t j e h o k b =
       let n : length (set t j e) ≡ length t = length-set t j e in
       let here : getD (set t j e) j empty ≡ e = getD-set-same t j e empty h in (
-        λ l. rw (getD-set-other t j k e empty (distinct k j l), here) at (direction .along (set t j e) o k j (omega arith) (omega arith) l),
-        λ l. rw (getD-set-other t j k e empty (λ d. distinct j k l (sym d)), here) at (direction .along (set t j e) o j k (omega arith) (omega arith) l),
+        λ l. rw (getD-set-other t j k e empty (toward-distinct k j l), here) at (direction .along (set t j e) o k j (omega arith) (omega arith) l),
+        λ l. rw (getD-set-other t j k e empty (λ d. toward-distinct j k l (sym d)), here) at (direction .along (set t j e) o j k (omega arith) (omega arith) l),
       )
 
 -- the laws are the same in both directions

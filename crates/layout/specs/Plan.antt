@@ -7,7 +7,7 @@ use lib.Dec.{leb}
 use lib.ListN.{length, getD}
 use Rattle.search.specs.Search.{least, afterLast}
 use Rattle.layout.specs.Order.{swapped}
-use Rattle.layout.specs.Minimum.{minimum, lowest, highest}
+use Rattle.layout.specs.Minimum.{minimum, lowestAt, highestAt}
 use Rattle.layout.specs.Cost.{slotCost, nextSlot}
 use Rattle.layout.specs.Mirror.{mirror}
 use Rattle.layout.specs.Chain.{steps}
@@ -30,11 +30,11 @@ module _ {S : Type 0} (empty : S) (misordered : S → S → Bool) where
   unfoldable pub windowStart : List S → ℕ → ℕ
   windowStart t i = afterLast (λ y. misordered (getD t i empty) (getD t y empty)) i - 1
 
-  -- A + 1, where A is the highest slot holding a rule that precedes the new one
+  -- A + 1, where A is the highestAt slot holding a rule that precedes the new one
   unfoldable pub afterPreceding : List S → S → ℕ
   afterPreceding t new = afterLast (λ i. misordered new (getD t i empty)) (length t)
 
-  -- B, the lowest slot holding a rule that depends on the new one
+  -- B, the lowestAt slot holding a rule that depends on the new one
   unfoldable pub firstDependant : List S → S → ℕ
   firstDependant t new = least (λ i. misordered (getD t i empty) new) (length t) 0
 
@@ -65,7 +65,7 @@ module _ {S : Type 0} (empty : S) (occupied : S → Bool) (misordered : S → S 
   upChain t s =
       map (mirror (length t)) (steps (λ k. nextSlot empty occupied (swapped misordered) (length t) (reverse t)) (upCost t s) (mirror (length t) s))
 
-  -- the least cost in a range, within the layout, and the slot where it is: the lowest going down, the highest going up
+  -- the least cost in a range, within the layout, and the slot where it is: the lowestAt going down, the highestAt going up
   unfoldable pub bestDown : List S → Range → ℕ
   bestDown t r = minimum (downCost t) (length t) (min (r .to) (length t) - r .from) (r .from)
 
@@ -73,10 +73,10 @@ module _ {S : Type 0} (empty : S) (occupied : S → Bool) (misordered : S → S 
   bestUp t r = minimum (upCost t) (length t) (min (r .to) (length t) - r .from) (r .from)
 
   unfoldable pub slotDown : List S → Range → ℕ
-  slotDown t r = lowest (downCost t) (length t) (min (r .to) (length t) - r .from) (r .from)
+  slotDown t r = lowestAt (downCost t) (length t) (min (r .to) (length t) - r .from) (r .from)
 
   unfoldable pub slotUp : List S → Range → ℕ
-  slotUp t r = highest (upCost t) (length t) (min (r .to) (length t) - r .from) (r .from)
+  slotUp t r = highestAt (upCost t) (length t) (min (r .to) (length t) - r .from) (r .from)
 
   -- the smaller of the two wins, down if equal
   unfoldable pub choose : List S → Range → Range → Choice

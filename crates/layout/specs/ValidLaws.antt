@@ -17,7 +17,7 @@ use Rattle.layout.specs.Chain.{Chain}
 use Rattle.layout.specs.Write.{Write, copy, put, clear, carried, Fits, moves}
 use Rattle.layout.specs.Class.{Sequence, last, more}
 use Rattle.layout.specs.WrittenLaws.{pairs-written}
-use Rattle.layout.specs.OrderLaws.{asymmetric, distinct, in-order-put}
+use Rattle.layout.specs.OrderLaws.{asymmetric, toward-distinct, in-order-put}
 use Rattle.layout.specs.HeldLaws.{same-turned, unique-coherent, held-filled}
 use Rattle.layout.specs.ChainLaws.{chain-inside}
 use Rattle.layout.specs.WriteLaws.{carried-append}
@@ -53,7 +53,7 @@ module _
   module _ (s j : ℕ) (u : List S) (b : s < length first) (full : occupied (getD first s empty) ≡ true)
       (w : InWindow empty toward misplaced first s j) (m : Moved j u) where
     onward : s ≢ j
-    onward = distinct direction s j (w .after)
+    onward = toward-distinct direction s j (w .after)
 
     inside : j < length u
     inside = omega (arith, m .slots, w .inside)
@@ -216,7 +216,7 @@ module _
       m = chain-moved new x
 
       here : Fits empty occupied same u (copy s j)
-      here = (omega (arith, m .slots), omega (arith, m .slots, w .inside), distinct direction s j (w .after), ap occupied (source s j u b o w m) ∙ o, m .free)
+      here = (omega (arith, m .slots), omega (arith, m .slots, w .inside), toward-distinct direction s j (w .after), ap occupied (source s j u b o w m) ∙ o, m .free)
 
       Stepped : List Write → Type 0
       Stepped vs =

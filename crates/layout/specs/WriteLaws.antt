@@ -14,7 +14,7 @@ use Rattle.layout.specs.HeldLaws.{free-law}
 use Rattle.layout.specs.Write.{carried, applied, moves, Write, Fits, copy, clear, put}
 
 module _ {S : Type 0} (empty : S) (occupied : S → Bool) (same : S → S → Bool) where
-  -- the same as a test
+  -- when a write fits, as a test
   unfoldable pub fits : List S → Write → Bool
   fits t (copy from to) = ltb from (length t) && (ltb to (length t) && (not (eqb from to) && (occupied (getD t from empty) && free empty occupied same t to)))
   fits t (put to) = ltb to (length t) && free empty occupied same t to

@@ -52,7 +52,7 @@ partLength w t i = cond (shown w t i) (recordWords w) 0
 abbrev pub recordPart : ℕ → List ℕ → ℕ → List ℕ
 recordPart w t i = take (partLength w t i) (drop (partStart w t i) t)
 
--- What lookup answers, in words: each case has its answer, and one of the cases holds.
+-- the cases of a lookup, in words
 module _ (w : ℕ) (t : List ℕ) (key : Words) where
   -- slot i is the lowest that matches
   abbrev pub FirstAt : ℕ → Type 0

@@ -1,4 +1,4 @@
--- End theorems: no word is lost in its write and no write in its word (word-of-write, write-of-word, word-once).
+-- End theorems on plan words: no word is lost in its write and no write in its word.
 -- With them what the code's decoder and encoder are proved by, and the words of lists of writes.
 use mathlib.Core.List.{List, [], _∷_, map}
 use Prim.Native.Nat.{ℕ, _<_, suc, _≤_}

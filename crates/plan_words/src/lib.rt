@@ -2,7 +2,7 @@
 // What a write does to a table, and when it fits, is in `records`; `writes` makes it.
 ghost use mathlib.Core.Path.{_≡_};
 ghost use Prim.Native.Nat.{_<_};
-ghost use Rattle.plan_words.specs.PlanWords.{wordOf, writeWord, writeOf, writeMeant, SlotsBelow};
+ghost use Rattle.plan_words.specs.PlanWords.{emptying, wordOf, writeWord, writeOf, writeMeant, SlotsBelow};
 
 // A write of a plan: a copy from one slot to another, the new rule put into a slot, or a slot emptied.
 pub enum PlanWrite {
@@ -27,9 +27,9 @@ fn join(from: u32, to: u32) -> u32
     from * HALF + to
 }
 
-// The word of a write.
+// The word of a write; its slots are below 65,534, so that no copy reads as another write.
 pub fn word_of(write: PlanWrite) -> u32
-    requires { ⌜ SlotsBelow 65536 (writeMeant write) ⌝ }
+    requires { ⌜ SlotsBelow emptying (writeMeant write) ⌝ }
     ensures { λ r. ⌜ r ≡ writeWord (writeMeant write) ⌝ }
 {
     match write {

@@ -10,7 +10,7 @@ use lib.Dec.{eqb}
 use lib.ListN.{length, length-reverse}
 use Rattle.search.specs.SearchLaws.{least-cong}
 use Rattle.layout.specs.Order.{swapped}
-use Rattle.layout.specs.Minimum.{minimum, lowest}
+use Rattle.layout.specs.Minimum.{minimum, lowestAt}
 use Rattle.layout.specs.Cost.{slotCost}
 use Rattle.layout.specs.Mirror.{mirror}
 use Rattle.layout.specs.Write.{moves, put}
@@ -31,14 +31,14 @@ use Rattle.planner.specs.ChoiceLaws.{preferred-down, preferred-up, best-
 use Rattle.planner.specs.MirroredLaws.{minimum-mirror, highest-mirror}
 use Rattle.planner.specs.Agree.{Agrees, rangeOf, Emits}
 
--- then the whole plan's words are those of the layout's writes, the new rule last
+-- where a choice in numbers gives the layout's moves, the whole plan's words are those of the layout's writes, the new rule last
 pub plan-law : {c : ℕ → ℕ} {n : ℕ} {choice : PositionChoice} {planned : Choice} → Emits c n choice planned → choiceWords c n choice ≡ map writeWord (writes planned)
 unfolding choiceWords
 plan-law {planned = planned} e =
     rw (e .words, e .slot) (sym (map-append writeWord (moves (planned .slot) (planned .chain)) (put (planned .slot) ∷ [])))
 
-lowest-cong : {c d : ℕ → ℕ} (top k i : ℕ) → ((j : ℕ) → i ≤ j → j < i + k → c j ≡ d j) → lowest c top k i ≡ lowest d top k i
-unfolding lowest
+lowest-cong : {c d : ℕ → ℕ} (top k i : ℕ) → ((j : ℕ) → i ≤ j → j < i + k → c j ≡ d j) → lowestAt c top k i ≡ lowestAt d top k i
+unfolding lowestAt
 lowest-cong {d = d} top k i h =
     rw (minimum-cong top k i h) (least-cong k i (λ j l r. ap (λ (x : ℕ). eqb x (minimum d top k i)) (h j l r)))
 

@@ -5,7 +5,7 @@ use mathlib.Core.List.{List, [], _∷_, _++_}
 use Prim.Native.Nat.{ℕ, _-_, min}
 use lib.Dec.{leb}
 use Rattle.layout.specs.Write.{put}
-use Rattle.layout.specs.Minimum.{minimum, lowest}
+use Rattle.layout.specs.Minimum.{minimum, lowestAt}
 use Rattle.plan_words.specs.PlanWords.{writeWord}
 use Rattle.positions.specs.Positions.{slotAt}
 use Rattle.planner.specs.Emit.{emitted}
@@ -15,7 +15,7 @@ use Rattle.planner.specs.declared.PositionChoice.{PositionChoice}
 
 -- the least cost in a stretch of positions, and the first position that has it
 abbrev pub bestOf : (ℕ → ℕ) → ℕ → ℕ → ℕ → Best
-bestOf c slots from to = record { cost = minimum c slots (to - from) from; position = lowest c slots (to - from) from }
+bestOf c slots from to = record { cost = minimum c slots (to - from) from; position = lowestAt c slots (to - from) from }
 
 -- the best going down and going up
 abbrev pub bestBelow : (ℕ → ℕ) → ℕ → SlotRange → Best

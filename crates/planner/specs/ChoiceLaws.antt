@@ -9,8 +9,8 @@ use borrow.Author.Tests.{le-leb, lt-leb}
 use lib.ListN.{length, drop, set, length-append}
 use Rattle.search.specs.Search.{least}
 use Rattle.layout.specs.Write.{put}
-use Rattle.layout.specs.Minimum.{minimum, lowest}
-use Rattle.layout.specs.MinimumLaws.{lowest-law}
+use Rattle.layout.specs.Minimum.{minimum, lowestAt}
+use Rattle.layout.specs.MinimumLaws.{lowest-at-law}
 use Rattle.plan_words.specs.PlanWords.{writeWord}
 use Rattle.positions.specs.Positions.{slotAt}
 use Rattle.planner.specs.Emit.{emitted}
@@ -41,13 +41,13 @@ preferred-up down up h = rw (lt-leb (down .cost) (up .cost) h)
 pub best-at : (c : ℕ → ℕ) (slots from to : ℕ) → to ≤ slots → bestOf c slots from to .cost < slots
     → (bestOf c slots from to .position < slots) × (c (bestOf c slots from to .position) ≡ bestOf c slots from to .cost)
 best-at c slots from to h finite =
-    let r = lowest-law c slots (to - from) from finite in
+    let r = lowest-at-law c slots (to - from) from finite in
     (omega (arith, r .below, r .from), r .value)
 
 -- found in two steps, the cost first
 pub best-found : (c : ℕ → ℕ) (slots from to m p : ℕ) → m ≡ minimum c slots (to - from) from → p ≡ least (λ j. eqb (c j) m) (to - from) from
     → record { cost = m; position = p } ≡ bestOf c slots from to
-unfolding lowest
+unfolding lowestAt
 best-found c slots from to m p e f = rw (f, e)
 
 pub choice-found : (down up : ℕ → ℕ) (slots : ℕ) (below above : SlotRange) (end start past : ℕ) (best-down best-up : Best) (choice : PositionChoice)

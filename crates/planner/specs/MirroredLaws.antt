@@ -1,13 +1,13 @@
 -- Laws on the least number of a stretch, and where it stands, seen from the other end: index i is the index as far from the last one.
--- The highest index of least value seen from one end is the lowest seen from the other.
+-- The highestAt index of least value seen from one end is the lowestAt seen from the other.
 use mathlib.Core.Path.{_≡_, ap, _∙_}
 use Prim.Native.Nat.{ℕ, _+_, _-_, _≤_, _<_}
 use native.Mathlib.Omega.{arith}
 use native.Mathlib.Decide.{decLt}
 use Rattle.layout.specs.Order.{Higher, Lower}
-use Rattle.layout.specs.Minimum.{minimum, lowest, highest, LeastAt}
+use Rattle.layout.specs.Minimum.{minimum, lowestAt, highestAt, LeastAt}
 use Rattle.layout.specs.Mirror.{mirror}
-use Rattle.layout.specs.MinimumLaws.{Minimum, minimum-law, minimum-unique, lowest-law, highest-law}
+use Rattle.layout.specs.MinimumLaws.{Minimum, minimum-law, minimum-unique, lowest-at-law, highest-at-law}
 use Rattle.layout.specs.MirrorLaws.{mirror-twice}
 
 -- of two indices of least value neither comes before the other
@@ -37,10 +37,10 @@ module _ (c : ℕ → ℕ) (n from to : ℕ) (h : to ≤ n) where
       }
 
   pub highest-mirror : (top : ℕ) → minimum c top count (n - to) < top
-      → mirror n (lowest c top count (n - to)) ≡ highest (λ i. c (mirror n i)) top (to - from) from
+      → mirror n (lowestAt c top count (n - to)) ≡ highestAt (λ i. c (mirror n i)) top (to - from) from
   highest-mirror top finite =
-      highest-unique (turned (lowest-law c top count (n - to) finite))
-      (rw (minimum-mirror top) at (highest-law (λ i. c (mirror n i)) top (to - from) from (rw (minimum-mirror top) finite)))
+      highest-unique (turned (lowest-at-law c top count (n - to) finite))
+      (rw (minimum-mirror top) at (highest-at-law (λ i. c (mirror n i)) top (to - from) from (rw (minimum-mirror top) finite)))
     where
       turned : {m j : ℕ} → LeastAt Higher c (n - to) (n - to + count) m j → LeastAt Lower (λ i. c (mirror n i)) from (from + (to - from)) m (mirror n j)
       turned {m} {j} r = record {

@@ -89,7 +89,7 @@ one-if-same true false e = absurd (omega arith)
 one-if-same false true e = absurd (omega arith)
 one-if-same false false e = refl
 
--- it is what the words of value and mask ask of the key's word
+-- what the symbols ask of a key is what the words of value and mask ask of its word
 pub word-asks : (pattern key : List ℕ) (from : ℕ)
     → ((i : ℕ) → bit (symbolWord maskBit pattern from) i ≡ 1 → bit (symbolWord valueBit key from) i ≡ bit (symbolWord valueBit pattern from) i)
     ↔ Asks pattern key from 64

@@ -6,7 +6,7 @@ use Prim.Native.Nat.{ℕ}
 use Rattle.search.specs.Search.{all, any, least, afterLast}
 use Rattle.ternary.specs.Word.{agree, inside, both}
 use Rattle.ternary.specs.Pattern.{overlaps, within, matches}
-use Rattle.layout.specs.Minimum.{minimum, lowest as lowestOf, highest as highestOf}
+use Rattle.layout.specs.Minimum.{minimum, lowestAt as lowestOf, highestAt as highestOf}
 use Rattle.layout.specs.Cost.{windowEnd, costs, nextSlot}
 use Rattle.layout.specs.Chain.{steps}
 use Rattle.layout.specs.Write.{moves}

@@ -25,7 +25,7 @@ use Rattle.script_turns.specs.Reading.{readingOf, turnOf, Turned}
 use Rattle.script_turns.specs.ReadingLaws.{turned-table}
 use Rattle.script_transcripts.specs.Whole.{Kept, keeping, Read, opening, Called, scriptOutcome, Through, nextOf}
 
--- however the input is cut into blocks, the reading comes to that
+-- however the input is cut into blocks, the reading comes to what the script does
 pub blocks-script : (line : List ℕ) (blocks : List (List ℕ)) → length line ≡ 257
     → outcome lineOutcome (finished lineOutcome (blocksRead lineOutcome (started lineOutcome [] line) blocks)) ≡ scriptOutcome (whole blocks)
 unfolding scriptOutcome

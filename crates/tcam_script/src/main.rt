@@ -1,5 +1,5 @@
 // The script program of document 01: reads standard input block by block, and prints what each line is answered.
-// What a line does, prints and is refused for is the crate `script`, taking lines out of blocks `turns`; here bytes are only read and written.
+// What a line does, prints and is refused for is the crate `script`, taking lines out of blocks `script_turns`; here bytes are only read and written.
 ghost use mathlib.Core.Path.{_≡_};
 ghost use Prim.Native.Nat.{_+_};
 ghost use lib.ListN.{replicate};

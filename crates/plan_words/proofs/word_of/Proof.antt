@@ -3,7 +3,7 @@
 use mathlib.Core.Path.{sym, ap, subst, _∙_}
 use native.Mathlib.Omega.{arith}
 use borrow.Author.Needs.{needs}
-use Rattle.plan_words.specs.PlanWords.{writeWord, writeMeant, SlotsBelow}
+use Rattle.plan_words.specs.PlanWords.{emptying, writeWord, writeMeant, SlotsBelow}
 use Rattle.plan_words.specs.declared.PlanWrite.{PlanWrite}
 use Rattle.plan_words.proofs.word_of.Statement.{statement}
 use Rattle.plan_words.proofs.word_of.Tie as tie
@@ -12,21 +12,25 @@ enum-known-write : tie.Need-enum-known-write
 enum-known-write c = search needs
 
 join-requires : tie.Need-join-requires
-join-requires c κs = subst (λ (x : PlanWrite). SlotsBelow 65536 (writeMeant x)) (c .before .write .given .1) (c .before .before .before .pre)
+join-requires c κs =
+    let below = subst (λ (x : PlanWrite). SlotsBelow emptying (writeMeant x)) (c .before .write .given .1) (c .before .before .before .pre) in
+    (omega (arith, below .0), omega (arith, below .1))
 
 enum-known-write-2 : tie.Need-enum-known-write-2
 enum-known-write-2 c = search needs
 
 join-requires-2 : tie.Need-join-requires-2
 join-requires-2 c κs =
-    (omega arith, subst (λ (x : PlanWrite). SlotsBelow 65536 (writeMeant x)) (c .before .write2 .given .1) (c .before .before .before .pre))
+    let below = subst (λ (x : PlanWrite). SlotsBelow emptying (writeMeant x)) (c .before .write2 .given .1) (c .before .before .before .pre) in
+    (omega arith, omega (arith, below))
 
 enum-known-write-3 : tie.Need-enum-known-write-3
 enum-known-write-3 c = search needs
 
 join-requires-3 : tie.Need-join-requires-3
 join-requires-3 c κs =
-    (omega arith, subst (λ (x : PlanWrite). SlotsBelow 65536 (writeMeant x)) (c .before .write3 .given .1) (c .before .before .before .pre))
+    let below = subst (λ (x : PlanWrite). SlotsBelow emptying (writeMeant x)) (c .before .write3 .given .1) (c .before .before .before .pre) in
+    (omega arith, omega (arith, below))
 
 returns : tie.Need-returns
 returns c = c .join .ensures ∙ ap (λ (x : PlanWrite). writeWord (writeMeant x)) (sym (c .before .before .write .given .1))
