@@ -70,8 +70,8 @@ new to = 65535 * 65536 + to
 
 -- what a call is asked
 pub data Asked : Type 0 where
-  insert : Rule → Asked
-  delete : ℕ → Asked
+  inserting : Rule → Asked
+  deleting : ℕ → Asked
 
 -- what it gives: the answer, and the plan buffer afterwards
 pub record Result : Type 0 where
@@ -80,8 +80,8 @@ pub record Result : Type 0 where
 
 -- as the contracts of plan_insert and plan_delete have it
 abbrev pub result : List ℕ → Asked → List ℕ → Result
-result t (insert rule) plan = record { answer = insertAnswer 2 t rule (length plan); buffer = insertPlan 2 t rule plan }
-result t (delete id) plan = record { answer = deleteAnswer 2 t id (length plan); buffer = deletePlan 2 t id plan }
+result t (inserting rule) plan = record { answer = insertAnswer 2 t rule (length plan); buffer = insertPlan 2 t rule plan }
+result t (deleting id) plan = record { answer = deleteAnswer 2 t id (length plan); buffer = deletePlan 2 t id plan }
 
 -- as document 01 has it: so many words and the buffer, or a refusal's number and spot and the buffer
 abbrev pub planned : ℕ → List ℕ → Result
@@ -155,46 +155,46 @@ rule-new = line 15 40 (one ∷ one ∷ nought ∷ []) 5
 unfoldable pub items : List Item
 items =
     -- one empty slot: one write, to 0
-    record { table = vacancy; asked = insert rule1; buffer = 801 ∷ 802 ∷ []; expected = planned 1 (new 0 ∷ 802 ∷ []) }
+    record { table = vacancy; asked = inserting rule1; buffer = 801 ∷ 802 ∷ []; expected = planned 1 (new 0 ∷ 802 ∷ []) }
     -- one slot, occupied, a sound rule of new id that ties with nothing: 9
-    ∷ record { table = held rule1; asked = insert rule3; buffer = 801 ∷ 802 ∷ []; expected = declined 9 0 (801 ∷ 802 ∷ []) }
+    ∷ record { table = held rule1; asked = inserting rule3; buffer = 801 ∷ 802 ∷ []; expected = declined 9 0 (801 ∷ 802 ∷ []) }
     -- the third insert of the script
-    ∷ record { table = before-third; asked = insert rule3; buffer = 801 ∷ 802 ∷ 803 ∷ []; expected = planned 2 (moved 1 2 ∷ new 1 ∷ 803 ∷ []) }
+    ∷ record { table = before-third; asked = inserting rule3; buffer = 801 ∷ 802 ∷ 803 ∷ []; expected = planned 2 (moved 1 2 ∷ new 1 ∷ 803 ∷ []) }
     -- its tie
-    ∷ record { table = after-third; asked = insert rule4; buffer = 801 ∷ 802 ∷ []; expected = declined 8 1 (801 ∷ 802 ∷ []) }
+    ∷ record { table = after-third; asked = inserting rule4; buffer = 801 ∷ 802 ∷ []; expected = declined 8 1 (801 ∷ 802 ∷ []) }
     -- its crossing
-    ∷ record { table = before-crossing; asked = insert rule7; buffer = 801 ∷ 802 ∷ []; expected = declined 10 4 (801 ∷ 802 ∷ []) }
+    ∷ record { table = before-crossing; asked = inserting rule7; buffer = 801 ∷ 802 ∷ []; expected = declined 10 4 (801 ∷ 802 ∷ []) }
     -- slots 0 a, 1 other, 2 c, 3 d, 4 empty; the new rule before a: 1→4, 0→1, new→0
     ∷ record {
       table = held rule-a ++ held rule-other ++ held rule-c ++ held rule-d ++ vacancy;
-      asked = insert rule-new;
+      asked = inserting rule-new;
       buffer = 801 ∷ 802 ∷ 803 ∷ 804 ∷ 805 ∷ [];
       expected = planned 3 (moved 1 4 ∷ moved 0 1 ∷ new 0 ∷ 804 ∷ 805 ∷ []);
     }
     -- 0 empty, 1 a, 2 b, b depends on a; new between: 1→0, new→1; a, b and new are the rules 1, 2 and 3 of the script
     ∷ record {
       table = vacancy ++ held rule1 ++ held rule2;
-      asked = insert rule3;
+      asked = inserting rule3;
       buffer = 801 ∷ 802 ∷ 803 ∷ [];
       expected = planned 2 (moved 1 0 ∷ new 1 ∷ 803 ∷ []);
     }
     -- with slot 3 empty too: 2→3, new→2
     ∷ record {
       table = vacancy ++ held rule1 ++ held rule2 ++ vacancy;
-      asked = insert rule3;
+      asked = inserting rule3;
       buffer = 801 ∷ 802 ∷ 803 ∷ [];
       expected = planned 2 (moved 2 3 ∷ new 2 ∷ 803 ∷ []);
     }
     -- a plan of two in a one-word buffer: 11, spot 2
-    ∷ record { table = before-third; asked = insert rule3; buffer = 801 ∷ []; expected = declined 11 2 (801 ∷ []) }
+    ∷ record { table = before-third; asked = inserting rule3; buffer = 801 ∷ []; expected = declined 11 2 (801 ∷ []) }
     -- delete of an absent id: 7
-    ∷ record { table = before-third; asked = delete 3; buffer = 801 ∷ 802 ∷ []; expected = declined 7 0 (801 ∷ 802 ∷ []) }
+    ∷ record { table = before-third; asked = deleting 3; buffer = 801 ∷ 802 ∷ []; expected = declined 7 0 (801 ∷ 802 ∷ []) }
     ∷ []
 
 -- the table with a rule put in by its plan
-unfoldable pub inserted : List ℕ → Rule → List ℕ
+unfoldable pub afterInsert : List ℕ → Rule → List ℕ
 unfolding run writeOf putSlot
-inserted t rule = applyWords 2 t rule (insertWords 2 t rule)
+afterInsert t rule = applyWords 2 t rule (insertWords 2 t rule)
 
 -- row by row, which of the rules that rule precedes
 unfoldable pub precedence : List Rule → List (List Bool)

@@ -35,14 +35,14 @@ use Rattle.delete_plans.specs.DeletesLaws.{id-accepted, id-absent}
 use Rattle.insert_plans.specs.Inserts.{insertWords}
 use Rattle.insert_plans.specs.InsertableLaws.{rule-words}
 use Rattle.insert_plans.specs.Tables.{moved, planned, rule2, new, valueFrom, before-crossing, rule-d, before-third, rule-new, declined, rule5}
-use Rattle.insert_plans.specs.Tables.{delete, rule3, rule-a, rule-other, maskFrom, expected, rule7, rule6, rule-c, rule1, result, run, items}
-use Rattle.insert_plans.specs.Tables.{rule4, vacancy, after-third, insert, line, inserted, precedence}
+use Rattle.insert_plans.specs.Tables.{deleting, rule3, rule-a, rule-other, maskFrom, expected, rule7, rule6, rule-c, rule1, result, run, items}
+use Rattle.insert_plans.specs.Tables.{rule4, vacancy, after-third, inserting, line, afterInsert, precedence}
 
 -- the tables of the items are those which the script's inserts leave, carried out by their plans
-script-tables : (foldl inserted (vacancy ++ vacancy ++ vacancy ++ vacancy ++ vacancy ++ vacancy) (rule1 ∷ rule2 ∷ []) ≡ before-third)
-    × (inserted before-third rule3 ≡ after-third)
-    × (foldl inserted after-third (rule5 ∷ rule6 ∷ []) ≡ before-crossing)
-unfolding inserted before-third after-third before-crossing rule1 rule2 rule3 rule5 rule6 line valueFrom maskFrom
+script-tables : (foldl afterInsert (vacancy ++ vacancy ++ vacancy ++ vacancy ++ vacancy ++ vacancy) (rule1 ∷ rule2 ∷ []) ≡ before-third)
+    × (afterInsert before-third rule3 ≡ after-third)
+    × (foldl afterInsert after-third (rule5 ∷ rule6 ∷ []) ≡ before-crossing)
+unfolding afterInsert before-third after-third before-crossing rule1 rule2 rule3 rule5 rule6 line valueFrom maskFrom
 script-tables = (refl, refl, refl)
 
 -- the premises of the five-slot table, and of the new rule between a and b
@@ -70,7 +70,7 @@ tables-at-the-edge = refl
 
 -- a plan whose words are known, in a buffer that holds them
 words-outcome : (t : List ℕ) (rule : Rule) {words : List ℕ} → Pass ≡ insertChecks 2 t rule → insertWords 2 t rule ≡ words → (plan : List ℕ)
-    → length words ≤ length plan → result t (insert rule) plan ≡ planned (length words) (words ++ drop (length words) plan)
+    → length words ≤ length plan → result t (inserting rule) plan ≡ planned (length words) (words ++ drop (length words) plan)
 words-outcome t rule checks e plan room =
     let r = buffer-written (insertWords 2 t rule) plan checks refl (subst (λ (l : List ℕ). length l ≤ length plan) (sym e) room) in
     let answer = sym (r .0) ∙ ap (λ (l : List ℕ). success (length l ∷ [])) e in
@@ -115,7 +115,7 @@ vacant-words rule =
     (ap (λ (b : Bool). cond b 0 1) (entry-laws 2 .misordered-left vacancy (recordOf 2 rule) refl))
 
 pub one-empty-slot : (rule : Rule) → soundRule 2 rule ≡ true → (plan : List ℕ) → 1 ≤ length plan
-    → result vacancy (insert rule) plan ≡ planned 1 (new 0 ∷ drop 1 plan)
+    → result vacancy (inserting rule) plan ≡ planned 1 (new 0 ∷ drop 1 plan)
 one-empty-slot rule sound plan room = words-outcome vacancy rule (vacant-checks rule sound) (vacant-words rule) plan room
 
 -- One slot, occupied, any sound rule of new id that ties with nothing: 9.
@@ -128,7 +128,7 @@ module _ (t : List ℕ) (one-slot : slots 2 t ≡ 1) where
       → (rule : Rule) → soundRule 2 rule ≡ true → rule .action < 4294967296
       → ident 2 (slotWords 2 t 0) ≢ rule .id
       → (Overlap 2 (value (slotWords 2 t 0)) (mask 2 (slotWords 2 t 0)) (word (rule .value)) (word (rule .mask)) → rank 2 (slotWords 2 t 0) ≢ rule .priority)
-      → (plan : List ℕ) → result t (insert rule) plan ≡ declined 9 0 plan
+      → (plan : List ℕ) → result t (inserting rule) plan ≡ declined 9 0 plan
   unfolding insertChecks newChecks checkKnown checkTie
   one-slot-full table filled rule sound small id-new untied plan =
       let r = buffer-refused (insertWords 2 t rule) plan checks refl in λ k. record { answer = sym (r .0) k; buffer = sym (r .1) k }
@@ -217,7 +217,7 @@ module _ (t : List ℕ) (rule : Rule) (checks : insertChecks 2 t rule ≡ Pass) 
   chosen l choice e f =
       ap (λ (l : List (List ℕ)). planWords (insertChoice (vacant 2) (entryOccupied 2) (entryMisordered 2) l (recordOf 2 rule))) e ∙ ap planWords f
 
-  pub between-up : slots 2 t ≡ 3 → (plan : List ℕ) → 2 ≤ length plan → result t (insert rule) plan ≡ planned 2 (moved 1 0 ∷ new 1 ∷ drop 2 plan)
+  pub between-up : slots 2 t ≡ 3 → (plan : List ℕ) → 2 ≤ length plan → result t (inserting rule) plan ≡ planned 2 (moved 1 0 ∷ new 1 ∷ drop 2 plan)
   unfolding entries listed moves
   between-up three plan room =
       let layout : entries 2 t ≡ vacancy ∷ entryAt 2 t 1 ∷ entryAt 2 t 2 ∷ [] =
@@ -225,7 +225,7 @@ module _ (t : List ℕ) (rule : Rule) (checks : insertChecks 2 t rule ≡ Pass) 
       words-outcome t rule (sym checks) (chosen _ _ layout (up-choice (vacant 2) _ _ _ _ _ _ between)) plan room
 
   pub between-down : slots 2 t ≡ 4 → empty 2 (slotWords 2 t 3) ≡ true → (plan : List ℕ) → 2 ≤ length plan
-      → result t (insert rule) plan ≡ planned 2 (moved 2 3 ∷ new 2 ∷ drop 2 plan)
+      → result t (inserting rule) plan ≡ planned 2 (moved 2 3 ∷ new 2 ∷ drop 2 plan)
   unfolding entries listed moves
   between-down four vacant-3 plan room =
       let layout : entries 2 t ≡ vacancy ∷ entryAt 2 t 1 ∷ entryAt 2 t 2 ∷ vacancy ∷ [] =
@@ -295,7 +295,7 @@ pub five-slots : (t : List ℕ) (rule : Rule) → insertChecks 2 t rule ≡ Pass
     → overlapping 2 (slotWords 2 t 1) (slotWords 2 t 2) ≡ false → overlapping 2 (slotWords 2 t 1) (slotWords 2 t 3) ≡ false
     → precedes 2 (word (recordOf 2 rule)) (slotWords 2 t 0) ≡ true
     → ((i : ℕ) → 1 ≤ i → i < 4 → overlapping 2 (slotWords 2 t i) (word (recordOf 2 rule)) ≡ false)
-    → (plan : List ℕ) → 3 ≤ length plan → result t (insert rule) plan ≡ planned 3 (moved 1 4 ∷ moved 0 1 ∷ new 0 ∷ drop 3 plan)
+    → (plan : List ℕ) → 3 ≤ length plan → result t (inserting rule) plan ≡ planned 3 (moved 1 4 ∷ moved 0 1 ∷ new 0 ∷ drop 3 plan)
 unfolding entries listed moves empty all
 five-slots t rule checks five filled vacant-4 a-c c-d a-other a-d other-c other-d rule-a clear plan room =
     words-outcome t rule (sym checks)
@@ -353,14 +353,14 @@ five-slots t rule checks five filled vacant-4 a-c c-d a-other a-d other-c other-
 
 -- Any plan of two in a one-word buffer: 11, spot 2.
 pub one-word-short : (t : List ℕ) (rule : Rule) → insertChecks 2 t rule ≡ Pass → length (insertWords 2 t rule) ≡ 2
-    → (filler : ℕ) → result t (insert rule) (filler ∷ []) ≡ declined 11 2 (filler ∷ [])
+    → (filler : ℕ) → result t (inserting rule) (filler ∷ []) ≡ declined 11 2 (filler ∷ [])
 one-word-short t rule checks two filler =
     let r = buffer-short (insertWords 2 t rule) (filler ∷ []) refl checks (omega arith) in
     λ k. record { answer = (sym (r .0) ∙ ap (refusal Short) two) k; buffer = sym (r .1) k }
 
 -- Delete of an absent id, any table that passes checks 1 to 4 and any id but 0: 7. An empty slot's id word is 0.
 pub absent-id : (t : List ℕ) → tableChecks 2 t ≡ Pass → (id : ℕ) → id ≢ 0 → ((i : ℕ) → i < slots 2 t → ident 2 (slotWords 2 t i) ≢ id)
-    → (plan : List ℕ) → result t (delete id) plan ≡ declined 7 0 plan
+    → (plan : List ℕ) → result t (deleting id) plan ≡ declined 7 0 plan
 unfolding deleteChecks slotOfId hasId
 absent-id t table id named absent plan =
     let none : slotOfId 2 t id ≡ slots 2 t = least-none (hasId 2 t id) (slots 2 t) (λ i h. rw (ne-eqb (ident 2 (slotWords 2 t i)) id (absent i h))) in

@@ -17,16 +17,16 @@ use Rattle.script_commands.specs.Commands.{commandOf, insertedRule, keyOf}
 use Rattle.script_commands.specs.declared.Command.{Command}
 use Rattle.script_commands.specs.declared.Command.the-variants.{Table, Insert, Delete, Lookup, Malformed}
 use Rattle.script_answers.specs.Answers.{tableBytes}
-use Rattle.script_operations.specs.Outcomes.{outcome, refused, lookupBytes, insertOutcome, deleteOutcome}
+use Rattle.script_operations.specs.Outcomes.{outcomeOf, refused, lookupBytes, insertOutcome, deleteOutcome}
 use Rattle.script.specs.declared.Ran.{Ran}
 
 -- `T slots` makes an empty table
 unfoldable pub tableOutcome : List ℕ → ℕ → Outcome (List ℕ)
-tableOutcome t slots = cond (leb 1 slots && leb slots 1024) (outcome (emptyTable 2 slots) (tableBytes slots)) (refused t (causeNumber Shape) 0)
+tableOutcome t slots = cond (leb 1 slots && leb slots 1024) (outcomeOf (emptyTable 2 slots) (tableBytes slots)) (refused t (causeNumber Shape) 0)
 
 -- `L key`
 abbrev pub lookupOutcome : List ℕ → List ℕ → Outcome (List ℕ)
-lookupOutcome t key = outcome t (lookupBytes (lookupAnswer 2 t (word key)))
+lookupOutcome t key = outcomeOf t (lookupBytes (lookupAnswer 2 t (word key)))
 
 -- what a command does; a malformed line is refused with its number
 abbrev pub commandOutcome : List ℕ → ℕ → Command → Outcome (List ℕ)

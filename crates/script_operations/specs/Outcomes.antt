@@ -20,16 +20,16 @@ use Rattle.script_printing.specs.Printing.{Shown}
 use Rattle.script_answers.specs.Answers.{planBytes, missBytes, refusalBytes}
 
 -- a table afterwards, and the bytes printed
-abbrev pub outcome : List ℕ → List ℕ → Outcome (List ℕ)
-outcome table bytes = record { table = table; printed = bytes }
+abbrev pub outcomeOf : List ℕ → List ℕ → Outcome (List ℕ)
+outcomeOf table bytes = record { table = table; printed = bytes }
 
 -- `R number spot`, and the table as it was
 abbrev pub refused : List ℕ → ℕ → ℕ → Outcome (List ℕ)
-refused t number spot = outcome t (refusalBytes number spot)
+refused t number spot = outcomeOf t (refusalBytes number spot)
 
 -- a change with its checks: the plan's words, printed, and the table with all its writes made
 abbrev pub changeOutcome : List ℕ → Check → List ℕ → List ℕ → Outcome (List ℕ)
-changeOutcome t Pass words after = outcome after (planBytes words)
+changeOutcome t Pass words after = outcomeOf after (planBytes words)
 changeOutcome t (Fail cause spot) words after = refused t (causeNumber cause) spot
 
 -- `I id priority pattern action` inserts and carries out

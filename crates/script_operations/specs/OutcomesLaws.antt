@@ -28,13 +28,13 @@ use Rattle.histories.specs.Demand2Laws.{demand-2-insert, demand-2-delete, carri
 use Rattle.script_lines.specs.Blocks.{Outcome}
 use Rattle.script_printing.specs.Printing.{Shown}
 use Rattle.script_answers.specs.Answers.{planBytes, refusalBytes}
-use Rattle.script_operations.specs.Outcomes.{outcome, lookupBytes, changeOutcome, insertOutcome, deleteOutcome, noRule, Changed, refused}
+use Rattle.script_operations.specs.Outcomes.{outcomeOf, lookupBytes, changeOutcome, insertOutcome, deleteOutcome, noRule, Changed, refused}
 
 -- a planning call's answer, carried out in full and printed: by its number and values
 unfoldable pub planOutcome : Told → List ℕ → List ℕ → Rule → Outcome (List ℕ)
 planOutcome told t plan rule =
     let count = getD (told .values) 0 0 in
-    cond (eqb (told .number) 0) (outcome (afterCalls 2 t plan rule count count .table) (planBytes (take count plan))) (refused t (told .number) count)
+    cond (eqb (told .number) 0) (outcomeOf (afterCalls 2 t plan rule count count .table) (planBytes (take count plan))) (refused t (told .number) count)
 
 -- the words that a planning call counted are in the buffer
 abbrev pub WithinRoom : Told → ℕ → Type 0
@@ -75,7 +75,7 @@ plan-is t rule Pass words plan after long made =
     ap (take (length words)) (sym (r .1)) ∙ take-append-seam words (drop (length words) plan) in (
       λ z. let count : getD (bufferAnswer Pass (length words) (length plan) .values) 0 0 ≡ length words = ap (λ (x : Told). getD (x .values) 0 0) e in omega (arith, count, n, long refl),
       ap (λ (x : Told). planOutcome x t (bufferAfter Pass words plan) rule) e
-          ∙ ap₂ (λ (a b : List ℕ). outcome a (planBytes b)) (made refl) front,
+          ∙ ap₂ (λ (a b : List ℕ). outcomeOf a (planBytes b)) (made refl) front,
     )
 
 -- the plan of an insert has at most as many words as the table has slots
