@@ -1,15 +1,16 @@
 // The list of the files to believe, where it stands in the table of promises, and the kinds of files.
 
 use crate::believed::Believed;
-use specs::promises::promised;
-use specs::reach::{closure, named_items, stands_at};
+use specs::promises::PROMISES;
+use specs::reach::closure;
 use specs::tree::Module;
 use std::collections::BTreeSet;
 use std::fmt::Write;
 
-pub const PROMISES: &str = "docs/PROMISES.md";
 const BEGIN: &str = "<!-- believed: begin -->\n";
 const END: &str = "<!-- believed: end -->";
+/// A law this long, that a definition needs, has a file of laws to stand in.
+const LONG_LAW: usize = 20;
 
 /// The files with their lines and the sum, as Markdown; and how many statements there are to read beside them.
 pub fn listing(believed: &Believed) -> String {
@@ -28,9 +29,10 @@ pub fn listing(believed: &Believed) -> String {
     text
 }
 
+/// The lines of a law's type, and of the heads of the blocks around it, whose parameters it is about.
 fn statement_lines(believed: &Believed, entry: usize) -> usize {
     let item = &believed.tree.entries[entry].item;
-    item.statement_line - item.first_line + 1
+    item.lines_around + item.statement_line - item.first_line + 1
 }
 
 /// The same, each file with the definitions in it that are to be believed.
@@ -68,24 +70,24 @@ pub fn standing(text: &str, list: &str) -> Vec<String> {
     found
 }
 
-/// Each item that stands in a file of the wrong kind, and each name that the table of promises has wrong.
+/// Each item that stands in a file of the wrong kind.
 pub fn breaches(believed: &Believed) -> Vec<String> {
     let mut found = Vec::new();
     for (number, module) in believed.tree.modules.iter().enumerate() {
+        if module.is_of_examples() {
+            continue; // what an example is about stands beside it
+        }
         if is_of_laws(module) {
-            if is_of_examples(module) {
-                continue; // what an example is about stands beside it
-            }
             found.extend(
                 believed_in(believed, number).map(|name| format!("{}: {name} is believed, in a file of laws", module.path)),
             );
-        } else if module.name != "Lib" {
+        } else {
             let uncited = uncited_laws(believed, number);
             found.extend(uncited.map(|name| format!("{}: {name} is a law that no definition of the file cites", module.path)));
+            found.extend(long_laws(believed, number));
         }
     }
     found.extend(promised_elsewhere(believed));
-    found.extend(wrong_names(believed));
     found.extend(believed.unknown.iter().map(|name| format!("tests/specs/kinds.rs: it is not known whether {name} is data")));
     found
 }
@@ -104,11 +106,7 @@ fn promised_elsewhere(believed: &Believed) -> Vec<String> {
 }
 
 fn is_of_theorems(module: &Module) -> bool {
-    module.first_line.starts_with("-- End theorems") || is_of_examples(module)
-}
-
-fn is_of_examples(module: &Module) -> bool {
-    module.first_line.starts_with("-- Worked examples")
+    module.first_line.starts_with("-- End theorems") || module.is_of_examples()
 }
 
 fn is_of_laws(module: &Module) -> bool {
@@ -129,17 +127,15 @@ fn uncited_laws<'a>(believed: &'a Believed, module: usize) -> impl Iterator<Item
     own.into_iter().filter(move |entry| !cited.contains(entry)).map(|entry| entries[entry].item.name.as_str())
 }
 
-/// Names of the table of promises for which it gives a place, as crate/Module, where no such item stands; and names with a
-/// hyphen, as only items have them, that no item has.
-fn wrong_names(believed: &Believed) -> Vec<String> {
+/// The laws of a file of definitions that are too long for it, though a definition may cite them.
+fn long_laws(believed: &Believed, module: usize) -> Vec<String> {
+    let Module { path, entries, .. } = &believed.tree.modules[module];
     let mut found = Vec::new();
-    for named in promised(&believed.tree.promises) {
-        let items = named_items(believed.tree, &named);
-        let given = named.places.iter().any(|place| place.contains('/'));
-        if given && !items.iter().any(|&entry| stands_at(believed.tree, entry, &named.places)) {
-            found.push(format!("{PROMISES}:{}: {} does not stand in {}", named.line, named.name, named.places.join(", ")));
-        } else if items.is_empty() && named.name.trim_matches('-').contains('-') {
-            found.push(format!("{PROMISES}:{}: there is no {}", named.line, named.name));
+    for &entry in entries.iter().filter(|&&entry| !believed.definition[entry]) {
+        let item = &believed.tree.entries[entry].item;
+        let lines = item.last_line - item.first_line + 1;
+        if lines >= LONG_LAW {
+            found.push(format!("{path}: {} is a law of {lines} lines, in a file of definitions", item.name));
         }
     }
     found

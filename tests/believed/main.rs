@@ -3,9 +3,14 @@
 
 mod believed;
 mod files;
+mod known;
+mod names;
 
 use crate::believed::Believed;
-use crate::files::{breaches, listing, replaced, standing, with_names, PROMISES};
+use crate::files::{breaches, listing, replaced, standing, with_names};
+use crate::known::Known;
+use crate::names::wrong_names;
+use specs::promises::PROMISES;
 use specs::tree::Tree;
 use std::path::Path;
 use std::process::ExitCode;
@@ -56,6 +61,7 @@ fn write(believed: &Believed) -> ExitCode {
 fn check(believed: &Believed) -> ExitCode {
     let mut wrong = standing(&believed.tree.promises, &listing(believed));
     wrong.extend(breaches(believed));
+    wrong.extend(wrong_names(believed.tree, &Known::new(believed.tree, Path::new("."))));
     for line in &wrong {
         println!("{line}");
     }

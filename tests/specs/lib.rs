@@ -1,6 +1,9 @@
 // Reads the specifications, proofs, sources and promises of the repository: which items there are, whether each is a definition
 // or a law, and which names each mentions.
 
+pub mod code;
+pub mod comments;
+pub mod disk;
 pub mod items;
 pub mod kinds;
 pub mod mentions;
@@ -12,6 +15,14 @@ pub mod tree;
 pub mod uses;
 
 #[cfg(test)]
+mod comments_test;
+#[cfg(test)]
+mod items_test;
+#[cfg(test)]
 mod mentions_test;
+#[cfg(test)]
+mod promises_test;
+#[cfg(test)]
+mod sources_test;
 #[cfg(test)]
 mod tree_test;

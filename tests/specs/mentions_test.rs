@@ -6,7 +6,7 @@ use crate::tokens::tokens;
 
 /// The names mentioned by the one item of a text; `Some` and `Pair` are constructors.
 fn mentioned(text: &str) -> Vec<String> {
-    let found = items(&tokens(text, 1), &[]);
+    let found = items("Test.antt", &tokens("Test.antt", text, 1));
     assert_eq!(found.len(), 1);
     let whole = of_item(&found[0], &|name| name == "Some" || name == "Pair").whole;
     let mut names: Vec<String> = whole.into_iter().map(|mention| mention.path.join(".")).collect();
@@ -49,6 +49,6 @@ fn blocks() {
     let text = "module _ (a : p)\n    (b : q) where\n  -- why\n  pub f : r a\n  f c = (\n    s b c,\n  )\n";
     assert_eq!(mentioned(text), ["p", "q", "r", "s"]);
     let text = "f : t\nf = record {\n  a = b;\n}\n\ng : t\ng = f\n";
-    let found = items(&tokens(text, 1), &[]);
+    let found = items("Test.antt", &tokens("Test.antt", text, 1));
     assert_eq!(found.iter().map(|item| (item.first_line, item.last_line)).collect::<Vec<_>>(), [(1, 4), (6, 7)]);
 }

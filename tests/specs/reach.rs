@@ -1,7 +1,7 @@
 // Which items are reached from others, by the names that their texts mention.
 
 use crate::mentions::of_text;
-use crate::promises::{is_place, promised, Promised};
+use crate::promises::{groups, Place, Quoted};
 use crate::sources::Function;
 use crate::tree::Tree;
 use std::collections::BTreeSet;
@@ -21,9 +21,7 @@ pub fn ends(tree: &Tree) -> BTreeSet<usize> {
     let mut found = contracts(tree, true, |_, _| true);
     found.extend(&tree.proved_with);
     found.extend(promises(tree));
-    let examples = tree.modules.iter().filter(|module| {
-        module.first_line.starts_with("-- Worked examples") || module.name == "Examples" || module.name == "Tables"
-    });
+    let examples = tree.modules.iter().filter(|module| module.is_of_examples());
     found.extend(examples.flat_map(|module| &module.entries));
     found
 }
@@ -44,19 +42,18 @@ pub fn contracts(tree: &Tree, ghost: bool, test: impl Fn(&Function, bool) -> boo
 
 /// The items that the table of promises names.
 pub fn promises(tree: &Tree) -> BTreeSet<usize> {
-    promised(&tree.promises).iter().flat_map(|named| named_items(tree, named)).collect()
+    let found = groups(&tree.promises, &tree.crates);
+    found.iter().flat_map(|group| &group.quoted).flat_map(|quoted| named_items(tree, quoted)).collect()
 }
 
-/// The items of a name: those at the places given, or all that are public, or all. A crate's name means the crate, unless an
-/// item of that name stands at a place given.
-pub fn named_items(tree: &Tree, named: &Promised) -> Vec<usize> {
-    let all: Vec<usize> = (0..tree.entries.len()).filter(|&entry| tree.entries[entry].item.name == named.name).collect();
-    let there: Vec<usize> = all.iter().copied().filter(|&entry| stands_at(tree, entry, &named.places)).collect();
-    if !there.is_empty() {
+/// The items of a name: those at the places given, or all that are public, or all. A crate's name means the crate, and a name
+/// that the code has at a place given means the code, unless an item of that name stands at such a place.
+pub fn named_items(tree: &Tree, quoted: &Quoted) -> Vec<usize> {
+    let Some(name) = &quoted.name else { return Vec::new() };
+    let all: Vec<usize> = (0..tree.entries.len()).filter(|&entry| tree.entries[entry].item.name == *name).collect();
+    let there: Vec<usize> = all.iter().copied().filter(|&entry| stands_at(tree, entry, &quoted.places)).collect();
+    if !there.is_empty() || tree.crates.contains(name) || code_stands_at(tree, name, &quoted.places) {
         return there;
-    }
-    if tree.crates.contains(&named.name) {
-        return Vec::new();
     }
     let public: Vec<usize> = all.iter().copied().filter(|&entry| tree.entries[entry].item.public).collect();
     if public.is_empty() {
@@ -66,7 +63,17 @@ pub fn named_items(tree: &Tree, named: &Promised) -> Vec<usize> {
     }
 }
 
-pub fn stands_at(tree: &Tree, entry: usize, places: &[String]) -> bool {
+pub fn stands_at(tree: &Tree, entry: usize, places: &[Place]) -> bool {
     let module = &tree.modules[tree.entries[entry].module];
-    places.iter().any(|place| is_place(place, &module.crate_name, &module.name))
+    places.iter().any(|place| !place.code && place.is(&module.crate_name, &module.name))
+}
+
+/// Whether the code declares the name in a crate, or in a file of code, that is one of these places.
+pub fn code_stands_at(tree: &Tree, name: &str, places: &[Place]) -> bool {
+    let sources = || tree.sources.iter().filter(|source| source.declared.contains(name));
+    let at = |place: &Place| match place.code {
+        true => sources().any(|source| place.is(&source.crate_name, &source.name)),
+        false => place.module.is_none() && sources().any(|source| place.in_crate(&source.crate_name)),
+    };
+    places.iter().any(at)
 }

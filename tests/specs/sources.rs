@@ -1,7 +1,12 @@
-// The functions of a source file, with what their contracts say.
+// The functions of a source file, with what their contracts say, and the names that the file declares.
 
+use crate::code::{closing, words, Word};
+use crate::comments::without_code_comments;
+use crate::disk::stem;
 use crate::tokens::{tokens, Token};
 use crate::uses::{imports, Import};
+use std::collections::BTreeSet;
+use std::path::Path;
 
 pub struct Function {
     pub name: String,
@@ -16,93 +21,157 @@ pub struct Function {
 pub struct Source {
     pub path: String,
     pub crate_name: String,
+    pub name: String,
     /// A program's functions are nobody's to call.
     pub library: bool,
     pub imports: Vec<Import>,
     pub functions: Vec<Function>,
+    /// Functions and the names of their clauses, types with their fields and variants, constants and modules.
+    pub declared: BTreeSet<String>,
 }
 
 pub fn source(path: &str, crate_name: &str, library: bool, text: &str) -> Source {
-    Source {
+    let text = without_code_comments(path, text);
+    let mut found = Source {
         path: path.to_string(),
         crate_name: crate_name.to_string(),
+        name: stem(Path::new(path)),
         library,
-        imports: imports(text, "ghost "),
-        functions: functions(text),
-    }
-}
-
-fn functions(text: &str) -> Vec<Function> {
-    let lines: Vec<&str> = text.lines().collect();
-    let starts: Vec<usize> = (0..lines.len()).filter(|&number| name_in(lines[number]).is_some()).collect();
-    let ends = starts.iter().skip(1).copied().chain([lines.len()]);
-    starts.iter().zip(ends).map(|(&start, end)| function(&lines[start..end], start + 1)).collect()
-}
-
-/// The name of the function whose head this line begins.
-fn name_in(line: &str) -> Option<&str> {
-    let line = line.trim_start();
-    let line = line.strip_prefix("pub ").unwrap_or(line);
-    let line = line.strip_prefix("extern \"C\" ").unwrap_or(line);
-    let rest = line.strip_prefix("fn ")?;
-    rest.split(['(', '<']).next()
-}
-
-fn function(lines: &[&str], first_line: usize) -> Function {
-    let mut found = Function {
-        name: name_in(lines[0]).unwrap_or_default().to_string(),
-        public: lines[0].trim_start().starts_with("pub "),
-        arguments: arguments(lines),
-        contracts: Vec::new(),
-        ghost: Vec::new(),
+        imports: imports(&text, "ghost "),
+        functions: Vec::new(),
+        declared: BTreeSet::new(),
     };
-    let mut at = 0;
-    while at < lines.len() {
-        let line = lines[at].trim_start();
-        let mut next = at + 1;
-        if line.starts_with("requires") || line.starts_with("ensures") {
-            next = at + clause_lines(&lines[at..]);
-            let text = lines[at..next].join("\n");
-            let opening = text.find('{').map_or(0, |place| place + 1);
-            let closing = text.rfind('}').unwrap_or(text.len());
-            found.contracts.push(tokens(&text[opening..closing], first_line + at));
-        } else if line.contains('⌜') || line.starts_with("ghost ") && !line.starts_with("ghost use ") {
-            found.ghost.push(tokens(line, first_line + at));
-        }
-        at = next;
-    }
+    let characters: Vec<char> = text.chars().collect();
+    Reader { path, characters: &characters, words: words(path, &characters), source: &mut found }.all();
     found
 }
 
-/// A clause goes on until its braces are closed.
-fn clause_lines(lines: &[&str]) -> usize {
-    let mut open = 0;
-    for (number, line) in lines.iter().enumerate() {
-        open += line.matches('{').count() as i64 - line.matches('}').count() as i64;
-        if open == 0 && line.contains('}') {
-            return number + 1;
-        }
-    }
-    lines.len()
+struct Reader<'a> {
+    path: &'a str,
+    characters: &'a [char],
+    words: Vec<Word>,
+    source: &'a mut Source,
 }
 
-/// The names before the colons, up to the bracket that closes the head's.
-fn arguments(lines: &[&str]) -> Vec<String> {
-    let text = lines.join("\n");
-    let Some(open) = text.find('(') else { return Vec::new() };
-    let mut depth = 0;
-    let mut parts = vec![String::new()];
-    for character in text[open..].chars() {
-        match character {
-            '(' | '[' | '<' => depth += 1,
-            ')' | ']' | '>' => depth -= 1,
-            ',' if depth == 1 => parts.push(String::new()),
-            _ => parts.last_mut().into_iter().for_each(|part| part.push(character)),
-        }
-        if depth == 0 {
-            break;
+impl Reader<'_> {
+    fn all(&mut self) {
+        let mut at = 0;
+        while at < self.words.len() {
+            let named = self.words.get(at + 1).is_some_and(Word::is_name);
+            at = match self.text(at) {
+                "fn" if named => self.function(at),
+                "struct" | "enum" if named => self.type_names(at),
+                "const" | "type" | "mod" if named => {
+                    self.source.declared.insert(self.text(at + 1).to_string());
+                    at + 1
+                }
+                _ => at + 1,
+            };
         }
     }
-    let names = parts.iter().filter_map(|part| part.split_once(':')).map(|(name, _)| name.trim());
-    names.map(|name| name.strip_prefix("mut ").unwrap_or(name).to_string()).collect()
+
+    /// The word at this place; past the end there is none.
+    fn text(&self, at: usize) -> &str {
+        self.words.get(at).map_or("", |word| word.text.as_str())
+    }
+
+    fn closing(&self, open: usize) -> usize {
+        closing(self.path, &self.words, open)
+    }
+
+    /// The place of a word that must follow this one.
+    fn find(&self, from: usize, text: &str) -> usize {
+        let found = (from..self.words.len()).find(|&at| self.text(at) == text);
+        found.unwrap_or_else(|| panic!("{}:{}: no {text} follows {}", self.path, self.words[from].line, self.text(from)))
+    }
+
+    /// Returns the place where the function's body begins.
+    fn function(&mut self, at: usize) -> usize {
+        let name = self.text(at + 1).to_string();
+        let open = self.find(at, "(");
+        let close = self.closing(open);
+        let mut found = Function {
+            public: is_public(&self.words[..at]),
+            arguments: arguments(&self.words[open..close]),
+            contracts: Vec::new(),
+            ghost: Vec::new(),
+            name,
+        };
+        let body = self.clauses(close + 1, &mut found);
+        found.ghost = self.ghost(body);
+        self.source.declared.insert(found.name.clone());
+        self.source.functions.push(found);
+        body
+    }
+
+    /// The clauses between a function's arguments and its body, on whatever line they stand.
+    fn clauses(&mut self, from: usize, found: &mut Function) -> usize {
+        let mut at = from;
+        loop {
+            match self.text(at) {
+                "requires" | "ensures" => {
+                    let open = self.find(at, "{");
+                    let close = self.closing(open);
+                    found.contracts.push(self.contract(open, close));
+                    self.source.declared.extend((at + 1..open).map(|place| self.words[place].text.clone()));
+                    at = close + 1;
+                }
+                "[" => at = self.closing(at) + 1, // a type such as `[u64; 2]`
+                "{" | ";" | "" => return at,
+                _ => at += 1,
+            }
+        }
+    }
+
+    /// What stands between the brackets of a clause.
+    fn contract(&self, open: usize, close: usize) -> Vec<Token> {
+        let text: String = self.characters[self.words[open].end..self.words[close].start].iter().collect();
+        // a bracket in such a comment would not be told from the clause's own
+        let comment = text.contains("--") || text.contains("{-");
+        assert!(!comment, "{}:{}: a comment in a contract", self.path, self.words[open].line);
+        tokens(self.path, &text, self.words[open].line)
+    }
+
+    /// The lines for the checker between this place and the next function.
+    fn ghost(&self, from: usize) -> Vec<Vec<Token>> {
+        let Some(first) = self.words.get(from) else { return Vec::new() };
+        let next = (from..self.words.len()).find(|&at| self.text(at) == "fn");
+        let end = next.map_or(self.characters.len(), |at| self.words[at].start);
+        let text: String = self.characters[first.start..end].iter().collect();
+        let lines = text.lines().enumerate().map(|(number, line)| (first.line + number, line.trim_start()));
+        let ghost = lines.filter(|(_, line)| line.contains('⌜') || line.starts_with("ghost ") && !line.starts_with("ghost use "));
+        ghost.map(|(number, line)| tokens(self.path, line, number)).collect()
+    }
+
+    /// The type's name, its fields or variants, and the fields of these. Returns the place behind them.
+    fn type_names(&mut self, at: usize) -> usize {
+        self.source.declared.insert(self.text(at + 1).to_string());
+        let open = (at..self.words.len()).find(|&place| ["{", ";", "("].contains(&self.text(place)));
+        let Some(open) = open.filter(|&open| self.text(open) == "{") else { return at + 2 };
+        let close = self.closing(open);
+        let mut place = open + 1;
+        while place < close {
+            let before = self.text(place - 1);
+            if self.words[place].is_name() && ["{", ",", "pub", "]", ")"].contains(&before) && self.text(place) != "pub" {
+                self.source.declared.insert(self.text(place).to_string());
+            }
+            // the types in round brackets are declared elsewhere
+            place = if self.text(place) == "(" { self.closing(place) + 1 } else { place + 1 };
+        }
+        close + 1
+    }
+}
+
+/// Whether the words that end before `fn` make the function public.
+fn is_public(before: &[Word]) -> bool {
+    let marks = ["pub", "(", "crate", ")", "extern", "\"C\"", "const"];
+    before.iter().rev().take_while(|word| marks.contains(&word.text.as_str())).any(|word| word.text == "pub")
+}
+
+/// The names before the colons of a function's arguments.
+fn arguments(words: &[Word]) -> Vec<String> {
+    let colons = (1..words.len()).filter(|&at| words[at].text == ":" && words[at - 1].is_name());
+    // in a path, `a::b`, a second colon follows
+    let single = colons.filter(|&at| words.get(at + 1).is_none_or(|next| next.text != ":"));
+    single.map(|at| words[at - 1].text.clone()).collect()
 }

@@ -1,5 +1,7 @@
 // The words of a specification, a proof or a contract: names, fields, steps of a path, and marks. Comments are left out.
 
+use crate::comments::{quoted_end, without_comments};
+
 #[derive(Clone, Copy, PartialEq, Eq, Debug)]
 pub enum Kind {
     /// A name, a numeral or a word of the language.
@@ -40,13 +42,21 @@ impl Token {
     }
 }
 
-/// The words of a text whose first line has this number.
-pub fn tokens(text: &str, first_line: usize) -> Vec<Token> {
+/// The words of a text of this file whose first line has this number.
+pub fn tokens(path: &str, text: &str, first_line: usize) -> Vec<Token> {
     let mut found = Vec::new();
-    for (number, line) in text.lines().enumerate() {
+    for (number, (line, written)) in without_comments(path, text, first_line).lines().zip(text.lines()).enumerate() {
+        // a declaration is told by its column, which a comment before it moves
+        if !line.trim().is_empty() && indent(line) != indent(written) {
+            panic!("{path}:{}: a comment before the first word of the line", first_line + number);
+        }
         line_tokens(line, first_line + number, &mut found);
     }
     found
+}
+
+fn indent(line: &str) -> usize {
+    line.chars().take_while(|character| character.is_whitespace()).count()
 }
 
 fn line_tokens(line: &str, number: usize, found: &mut Vec<Token>) {
@@ -58,9 +68,6 @@ fn line_tokens(line: &str, number: usize, found: &mut Vec<Token>) {
             at += 1;
             continue;
         }
-        if characters[at] == '-' && characters.get(at + 1) == Some(&'-') {
-            return;
-        }
         let (kind, start, end) = token_at(&characters, at);
         let text = characters[start..end].iter().filter(|character| !matches!(character, '«' | '»')).collect();
         found.push(Token { kind, text, line: number, column: at, leads: found.len() == before });
@@ -71,30 +78,26 @@ fn line_tokens(line: &str, number: usize, found: &mut Vec<Token>) {
 /// The kind of the word that begins here, and where its text begins and ends.
 fn token_at(characters: &[char], at: usize) -> (Kind, usize, usize) {
     match characters[at] {
-        '«' => (Kind::Name, at, past(characters, at, '»')),
-        '"' => (Kind::Name, at, past(characters, at, '"')),
+        '"' => (Kind::Name, at, quoted_end(characters, at).unwrap_or(characters.len())),
         '.' if characters.get(at + 1).is_some_and(|&next| in_name(next) || next == '«') => {
             let tight = at > 0 && (in_name(characters[at - 1]) || characters[at - 1] == '»');
             (if tight { Kind::Step } else { Kind::Field }, at + 1, name_end(characters, at + 1))
         }
-        character if in_name(character) => (Kind::Name, at, name_end(characters, at)),
+        character if in_name(character) || character == '«' => (Kind::Name, at, name_end(characters, at)),
         _ => (Kind::Mark, at, at + 1),
     }
 }
 
-fn in_name(character: char) -> bool {
+pub fn in_name(character: char) -> bool {
     !character.is_whitespace() && !matches!(character, '(' | ')' | '{' | '}' | '.' | ';' | ',' | '@' | '"' | '«' | '»')
 }
 
-fn name_end(characters: &[char], start: usize) -> usize {
+/// The end of the name that begins here; between `«` and `»` anything may stand.
+pub fn name_end(characters: &[char], start: usize) -> usize {
     if characters[start] == '«' {
-        return past(characters, start, '»');
+        return (start..characters.len()).find(|&at| characters[at] == '»').map_or(characters.len(), |at| at + 1);
     }
     (start..characters.len()).find(|&at| !in_name(characters[at])).unwrap_or(characters.len())
-}
-
-fn past(characters: &[char], start: usize, last: char) -> usize {
-    (start + 1..characters.len()).find(|&at| characters[at] == last).map_or(characters.len(), |at| at + 1)
 }
 
 /// The place of the bracket that closes the one at `open`.

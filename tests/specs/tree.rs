@@ -1,13 +1,15 @@
 // The repository's specifications, proofs, sources and promises, with every name resolved to the item that it means.
 
+use crate::comments::without_comments;
+use crate::disk::{files, folder, read, stem};
 use crate::items::{items, Form, Item};
 use crate::mentions::{of_item, of_text, Mention};
+use crate::promises::PROMISES;
 use crate::sources::{source, Source};
 use crate::tokens::tokens;
 use crate::uses::{imports, own_path, Import};
 use std::collections::{BTreeSet, HashMap};
-use std::fs::{read_dir, read_to_string};
-use std::path::{Path, PathBuf};
+use std::path::Path;
 
 /// A file of specifications.
 pub struct Module {
@@ -20,6 +22,13 @@ pub struct Module {
     pub entries: Vec<usize>,
     /// The items by name, and data types by their constructors' names too.
     names: HashMap<String, usize>,
+}
+
+impl Module {
+    /// Only the first line makes a file one of worked examples, whatever its name is.
+    pub fn is_of_examples(&self) -> bool {
+        self.first_line.starts_with("-- Worked examples")
+    }
 }
 
 /// An item of a module, and the items of the tree that its text mentions.
@@ -70,7 +79,7 @@ impl Tree {
             sources: Vec::new(),
             users: Vec::new(),
             proved_with: BTreeSet::new(),
-            promises: read_to_string(root.join("docs/PROMISES.md")).unwrap_or_default(),
+            promises: read(&root.join(PROMISES)),
             places: HashMap::new(),
         };
         for name in &crates {
@@ -87,24 +96,24 @@ impl Tree {
     fn read_specs(&mut self, root: &Path, crate_name: &str) {
         let folder = root.join("crates").join(crate_name).join("specs");
         for path in files(&folder, "antt") {
-            let text = read_to_string(&path).unwrap_or_default();
-            let name = path.file_stem().unwrap_or_default().to_string_lossy().to_string();
+            let (path, name, text) = (shown(root, &path), stem(&path), read(&path));
             let module = self.modules.len();
-            self.places.insert((crate_name.to_string(), name.clone()), module);
+            let other = self.places.insert((crate_name.to_string(), name.clone()), module);
+            assert!(other.is_none(), "{path}: the crate has another file of this name");
             let mut entries = Vec::new();
-            for item in items(&tokens(&text, 1), &[]) {
+            for item in items_of(&path, &text) {
                 entries.push(self.entries.len());
                 self.entries.push(Entry { module, item, statement: BTreeSet::new(), whole: BTreeSet::new() });
             }
             self.modules.push(Module {
                 crate_name: crate_name.to_string(),
-                path: format!("{crate_name}/specs/{name}.antt"),
                 name,
                 first_line: text.lines().next().unwrap_or_default().to_string(),
                 lines: text.lines().count(),
-                imports: imports(&text, ""),
+                imports: imports(&without_comments(&path, &text, 1), ""),
                 names: names_of(&self.entries, &entries),
                 entries,
+                path,
             });
         }
     }
@@ -127,16 +136,17 @@ impl Tree {
 
     fn read_proofs(&mut self, root: &Path, crate_name: &str) {
         for path in files(&root.join("crates").join(crate_name).join("proofs"), "antt") {
-            let text = read_to_string(&path).unwrap_or_default();
-            let imports = imports(&text, "");
+            let (path, text) = (shown(root, &path), read(&path));
+            let imports = imports(&without_comments(&path, &text, 1), "");
             let mut mentioned = vec![false; imports.len()];
-            let constructors = own_constructors(&text);
-            for item in items(&tokens(&text, 1), &[]) {
-                let names = of_item(&item, &|name| constructors.contains(name) || self.is_constructor(&imports, None, name));
+            let items = items_of(&path, &text);
+            let constructors = own_constructors(&items);
+            for item in &items {
+                let names = of_item(item, &|name| constructors.contains(name) || self.is_constructor(&imports, None, name));
                 let found = self.resolve_all(&imports, None, &names.whole, &mut mentioned);
                 self.proved_with.extend(found);
             }
-            self.users.push(User { path: shown(root, &path), imports, mentioned });
+            self.users.push(User { path, imports, mentioned });
         }
     }
 
@@ -144,7 +154,7 @@ impl Tree {
         let folder = root.join("crates").join(crate_name).join("src");
         let library = folder.join("lib.rt").exists();
         for path in files(&folder, "rt") {
-            let found = source(&shown(root, &path), crate_name, library, &read_to_string(&path).unwrap_or_default());
+            let found = source(&shown(root, &path), crate_name, library, &read(&path));
             let mut mentioned = vec![false; found.imports.len()];
             for function in &found.functions {
                 for text in function.contracts.iter().chain(&function.ghost) {
@@ -235,41 +245,32 @@ fn names_of(all: &[Entry], entries: &[usize]) -> HashMap<String, usize> {
     found
 }
 
-fn own_constructors(text: &str) -> BTreeSet<String> {
-    let found = items(&tokens(text, 1), &[]).into_iter().filter(|item| item.form == Form::Data);
-    found.flat_map(|item| item.members).map(|member| member.name).collect()
+fn items_of(path: &str, text: &str) -> Vec<Item> {
+    items(path, &tokens(path, text, 1))
+}
+
+fn own_constructors(items: &[Item]) -> BTreeSet<&str> {
+    let types = items.iter().filter(|item| item.form == Form::Data);
+    types.flat_map(|item| &item.members).map(|member| member.name.as_str()).collect()
 }
 
 /// The crates in the order of their list, then those that stand in no line of it.
 fn crate_names(root: &Path) -> Vec<String> {
-    let list = read_to_string(root.join("crates.txt")).unwrap_or_default();
-    let listed = list.lines().filter(|line| !line.starts_with('#')).filter_map(|line| line.split_once(':'));
-    let mut found: Vec<String> = listed.map(|(name, _)| name.trim().to_string()).collect();
-    for folder in entries_of(&root.join("crates")) {
-        let name = folder.file_name().unwrap_or_default().to_string_lossy().to_string();
-        if !found.contains(&name) {
-            found.push(name);
-        }
+    let there: Vec<String> = folder(&root.join("crates")).iter().map(|path| stem(path)).collect();
+    let mut found = listed_crates(&root.join("crates.txt"));
+    for name in &found {
+        assert!(there.contains(name), "crates.txt: there is no folder crates/{name}");
     }
+    found.extend(there.into_iter().filter(|name| !found.contains(name)).collect::<Vec<_>>());
     found
 }
 
-/// The files of this kind in a folder and the folders below, in the order of their names.
-fn files(folder: &Path, extension: &str) -> Vec<PathBuf> {
+fn listed_crates(list: &Path) -> Vec<String> {
     let mut found = Vec::new();
-    for path in entries_of(folder) {
-        if path.is_dir() {
-            found.extend(files(&path, extension));
-        } else if path.extension().is_some_and(|end| end == extension) {
-            found.push(path);
-        }
+    for (number, line) in read(list).lines().enumerate().filter(|(_, line)| !line.starts_with('#') && !line.trim().is_empty()) {
+        let Some((name, _)) = line.split_once(':') else { panic!("{}:{}: no crate is named", list.display(), number + 1) };
+        found.push(name.trim().to_string());
     }
-    found
-}
-
-fn entries_of(folder: &Path) -> Vec<PathBuf> {
-    let mut found: Vec<PathBuf> = read_dir(folder).into_iter().flatten().flatten().map(|entry| entry.path()).collect();
-    found.sort();
     found
 }
 

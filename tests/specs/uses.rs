@@ -14,7 +14,7 @@ pub struct Import {
     pub line: usize,
 }
 
-/// What the lines that begin with `use`, behind this word if it is given, bring in.
+/// What the lines of a text without comments that begin with `use`, behind this word if it is given, bring in.
 pub fn imports(text: &str, word: &str) -> Vec<Import> {
     let mut found = Vec::new();
     let lines: Vec<&str> = text.lines().collect();
@@ -40,7 +40,7 @@ fn whole_line(first: &str, following: &[&str]) -> String {
         whole.push(' ');
         whole.push_str(line.trim());
     }
-    whole.trim_end_matches(';').to_string()
+    whole.trim_end().trim_end_matches(';').to_string()
 }
 
 fn brought(text: &str, public: bool, line: usize) -> Vec<Import> {

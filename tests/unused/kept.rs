@@ -1,6 +1,8 @@
 // The laws that are kept although nothing reaches them.
 
+use specs::disk::read;
 use specs::tree::Tree;
+use std::path::Path;
 
 pub const FILE: &str = "tests/unused/kept.txt";
 
@@ -14,7 +16,7 @@ pub struct Kept {
 pub fn kept(tree: &Tree) -> (Vec<Kept>, Vec<String>) {
     let mut found = Vec::new();
     let mut wrong = Vec::new();
-    let text = std::fs::read_to_string(FILE).unwrap_or_default();
+    let text = read(Path::new(FILE));
     for (number, line) in text.lines().enumerate().filter(|(_, line)| !line.starts_with('#') && !line.trim().is_empty()) {
         let mut words = line.split_whitespace();
         let (place, name) = (words.next().unwrap_or_default(), words.next().unwrap_or_default());

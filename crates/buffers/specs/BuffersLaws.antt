@@ -1,6 +1,6 @@
 -- End theorems on lent buffers: how a call that writes into one ends, and that its answer loses nothing.
 use mathlib.Core.Path.{_≡_, refl, sym, ap, ap₂, _∙_}
-use mathlib.Core.Bool.{cond, true≢false}
+use mathlib.Core.Bool.{true≢false}
 use mathlib.Core.List.{List, [], _∷_, _++_}
 use Prim.Native.Nat.{ℕ, _<_, _≤_}
 use native.Mathlib.Decide.{decLt}
@@ -8,7 +8,7 @@ use native.Mathlib.Omega.{arith}
 use lib.Dec.{eqb}
 use lib.ListN.{length, getD, drop}
 use borrow.Author.Tests.{lt-ltb, le-ltb}
-use Rattle.records.specs.Checks.{Told, success, refusal, unless, passes, orElse}
+use Rattle.records.specs.Checks.{Told, success, refusal}
 use Rattle.records.specs.Laws.{cause-number-once, cause-not-zero}
 use Rattle.records.specs.declared.Cause.{Cause}
 use Rattle.records.specs.declared.Cause.the-variants.{Short}

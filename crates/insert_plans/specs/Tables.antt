@@ -97,9 +97,9 @@ pub record Item : Type 0 where
   pub buffer : List ℕ
   pub expected : Result
 
-unfoldable pub run : Item → Result
+unfoldable pub resultOf : Item → Result
 unfolding all any least afterLast agree inside both overlaps within minimum lowestOf highestOf windowEnd costs nextSlot steps moves downCost upCost downChain upChain bestDown bestUp slotDown slotUp choose afterPreceding firstDependant insertChoice listed empty soundParts recordOf distinct precedes tied sameId misordered entries lowest shaped checkShape unsoundAt checkRecords twiceAt checkTwice disorderAt checkOrder slotChecks tableChecks checkRoom bufferAnswer bufferAfter checkRule checkKnown checkTie checkFull afterA slotB checkCrossed newChecks insertChecks hasId slotOfId checkId checkUnknown deleteChecks
-run item = result (item .table) (item .asked) (item .buffer)
+resultOf item = result (item .table) (item .asked) (item .buffer)
 
 unfoldable pub expected : Item → Result
 expected item = item .expected
@@ -193,10 +193,10 @@ items =
 
 -- the table with a rule put in by its plan
 unfoldable pub afterInsert : List ℕ → Rule → List ℕ
-unfolding run writeOf putSlot
+unfolding resultOf writeOf putSlot
 afterInsert t rule = applyWords 2 t rule (insertWords 2 t rule)
 
 -- row by row, which of the rules that rule precedes
 unfoldable pub precedence : List Rule → List (List Bool)
-unfolding run
+unfolding resultOf
 precedence rules = map (λ a. map (λ b. precedes 2 (word (held a)) (word (held b))) rules) rules

@@ -35,7 +35,7 @@ use Rattle.delete_plans.specs.DeletesLaws.{id-accepted, id-absent}
 use Rattle.insert_plans.specs.Inserts.{insertWords}
 use Rattle.insert_plans.specs.InsertableLaws.{rule-words}
 use Rattle.insert_plans.specs.Tables.{moved, planned, rule2, new, valueFrom, before-crossing, rule-d, before-third, rule-new, declined, rule5}
-use Rattle.insert_plans.specs.Tables.{deleting, rule3, rule-a, rule-other, maskFrom, expected, rule7, rule6, rule-c, rule1, result, run, items}
+use Rattle.insert_plans.specs.Tables.{deleting, rule3, rule-a, rule-other, maskFrom, expected, rule7, rule6, rule-c, rule1, result, resultOf, items}
 use Rattle.insert_plans.specs.Tables.{rule4, vacancy, after-third, inserting, line, afterInsert, precedence}
 
 -- the tables of the items are those which the script's inserts leave, carried out by their plans
@@ -64,8 +64,8 @@ between-pairs : precedence (rule1 ∷ rule3 ∷ rule2 ∷ [])
 unfolding precedence rule1 rule2 rule3 line valueFrom maskFrom
 between-pairs = refl
 
-pub tables-at-the-edge : map run items ≡ map expected items
-unfolding run expected items before-third after-third before-crossing rule1 rule2 rule3 rule4 rule5 rule6 rule7 rule-a rule-other rule-c rule-d rule-new line valueFrom maskFrom
+pub tables-at-the-edge : map resultOf items ≡ map expected items
+unfolding resultOf expected items before-third after-third before-crossing rule1 rule2 rule3 rule4 rule5 rule6 rule7 rule-a rule-other rule-c rule-d rule-new line valueFrom maskFrom
 tables-at-the-edge = refl
 
 -- a plan whose words are known, in a buffer that holds them
@@ -84,11 +84,11 @@ vacant-slot zero h = refl
 vacant-slot (suc i) h = absurd (omega arith)
 
 vacant-table : tableChecks 2 vacancy ≡ Pass
-unfolding run
+unfolding resultOf
 vacant-table = refl
 
 vacant-room : checkFull 2 vacancy ≡ Pass
-unfolding run
+unfolding resultOf
 vacant-room = refl
 
 vacant-known : (x : Words) → checkKnown 2 vacancy x ≡ Pass
@@ -108,7 +108,7 @@ vacant-checks rule sound =
 
 -- no rule precedes the new one, and none depends on it
 vacant-words : (rule : Rule) → insertWords 2 vacancy rule ≡ new 0 ∷ []
-unfolding run
+unfolding resultOf
 vacant-words rule =
     ap₂ (λ (a b : ℕ). planWords (choose (vacant 2) (entryOccupied 2) (entryMisordered 2) (entries 2 vacancy) (record { from = a; to = suc b }) (record { from = a - 1; to = b })))
     (ap (λ (b : Bool). cond b 1 0) (entry-laws 2 .misordered-right (recordOf 2 rule) vacancy refl))
@@ -175,11 +175,11 @@ record Between {S : Type 0} (full : S → Bool) (wrong : S → S → Bool) (e a 
 -- .. the choice from them, ..
 module _ {S : Type 0} (none : S) (full : S → Bool) (wrong : S → S → Bool) (e a b fresh : S) (p : Between full wrong e a b fresh) where
   up-choice : insertChoice none full wrong (e ∷ a ∷ b ∷ []) fresh ≡ record { down = false; cost = 1; slot = 1; chain = 0 ∷ [] }
-  unfolding run
+  unfolding resultOf
   up-choice = simp (p .empty-e, p .full-a, p .full-b, p .before-e, p .after-e, p .b-a, p .fresh-a, p .a-fresh, p .b-fresh, p .fresh-b)
 
   down-choice : insertChoice none full wrong (e ∷ a ∷ b ∷ e ∷ []) fresh ≡ record { down = true; cost = 1; slot = 2; chain = 3 ∷ [] }
-  unfolding run
+  unfolding resultOf
   down-choice = simp (p .empty-e, p .full-a, p .full-b, p .before-e, p .after-e, p .b-a, p .fresh-a, p .a-fresh, p .b-fresh, p .fresh-b)
 
 vacant-entry : (t : List ℕ) (i : ℕ) → empty 2 (slotWords 2 t i) ≡ true → entryAt 2 t i ≡ vacancy
@@ -256,7 +256,7 @@ record FiveSlots {S : Type 0} (full : S → Bool) (wrong : S → S → Bool) (a 
 
 five-choice : {S : Type 0} (none : S) (full : S → Bool) (wrong : S → S → Bool) (a other c d e fresh : S) → FiveSlots full wrong a other c d e fresh
     → insertChoice none full wrong (a ∷ other ∷ c ∷ d ∷ e ∷ []) fresh ≡ record { down = true; cost = 2; slot = 0; chain = 1 ∷ 4 ∷ [] }
-unfolding run
+unfolding resultOf
 five-choice none full wrong a other c d e fresh p =
     simp (
       p .empty-e,
