@@ -69,7 +69,7 @@ pub fn plan_delete(table: &[u64], id: u32, plan: &mut [u32]) -> PlanAnswer
     if plan.len() < 1 {
         return PlanAnswer::Refused(Cause::Short, 1);
     }
-    let slot = slot_of_id(table, id as u64);
-    plan[0] = word_of(PlanWrite::Clear(slot as u32));
+    let slot = slot_of_id(table, id as u64) as u32;
+    plan[0] = word_of(PlanWrite::Clear(slot));
     PlanAnswer::Planned(PlanInfo { count: 1 })
 }

@@ -59,9 +59,9 @@ fn move_word(slots: usize, up: bool, from: usize, to: usize) -> u32
     requires { ⌜ to < slots ⌝ }
     ensures { λ r. ⌜ r ≡ writeWord (copy (slotAt slots up from) (slotAt slots up to)) ⌝ }
 {
-    let source = slot_at(slots, up, from);
-    let target = slot_at(slots, up, to);
-    word_of(PlanWrite::Copy(source as u32, target as u32))
+    let source = slot_at(slots, up, from) as u32;
+    let target = slot_at(slots, up, to) as u32;
+    word_of(PlanWrite::Copy(source, target))
 }
 
 // The words of the chain from a position with `left` moves to make: each is stored on the way back, so that the far end stands first.
@@ -142,6 +142,6 @@ pub fn write_plan(costs: &[u16], slots: usize, choice: PositionChoice, plan: &mu
 {
     let cost = choice.cost;
     emit(costs, slots, choice.up, plan, choice.position, cost);
-    let slot = slot_at(slots, choice.up, choice.position);
-    plan[cost] = word_of(PlanWrite::PutIn(slot as u32));
+    let slot = slot_at(slots, choice.up, choice.position) as u32;
+    plan[cost] = word_of(PlanWrite::PutIn(slot));
 }

@@ -38,8 +38,8 @@ slot-of-id-requires c κs = search needs
 low : (c : tie.After-slot-of-id) → c .slot-of-id .result ≤ 1024
 low c = omega (arith, c .slot-of-id .ensures, delete-small _ _ (sym (c .before .before .before .before .check-delete .ensures) ∙ c .before .before .enum-told .given .1))
 
-cast-t13 : tie.Need-cast-t13
-cast-t13 c = omega (arith, low c)
+cast-slot : tie.Need-cast-slot
+cast-slot c = omega (arith, low c)
 
 word-of-requires : tie.Need-word-of-requires
 word-of-requires c κs = omega (arith, low c)
@@ -69,7 +69,7 @@ plan-delete-spec =
     enum-told
     returns-2
     slot-of-id-requires
-    cast-t13
+    cast-slot
     word-of-requires
     slice-write-plan
     same-length

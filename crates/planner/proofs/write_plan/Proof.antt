@@ -30,8 +30,8 @@ low c =
       slot-below (start .args .slots) (start .args .choice .up) (start .args .choice .position) (stays-here _ _ _ _ (walk .stays)),
     )
 
-cast-t11 : tie.Need-cast-t11
-cast-t11 c = omega (arith, low c)
+cast-slot : tie.Need-cast-slot
+cast-slot c = omega (arith, low c)
 
 word-of-requires : tie.Need-word-of-requires
 word-of-requires c κs = omega (arith, low c)
@@ -57,7 +57,7 @@ write-plan-spec =
     (tie.spec
     emit-requires
     slot-at-requires
-    cast-t11
+    cast-slot
     word-of-requires
     mul-plan
     slice-write-plan
