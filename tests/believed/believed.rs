@@ -18,13 +18,13 @@ pub struct Believed<'a> {
 }
 
 impl<'a> Believed<'a> {
-    /// From the contracts of the library's public functions and the names promised: everything that a definition's text mentions,
+    /// From the contracts of all functions and the names promised: everything that a definition's text mentions,
     /// and that a law's statement does. A law's proof need not be read.
     pub fn new(tree: &'a Tree) -> Believed<'a> {
         let kinds = Kinds::new(tree);
         let definition: Vec<bool> = (0..tree.entries.len()).map(|entry| kinds.is_definition(entry)).collect();
         let promised = promises(tree);
-        let mut roots = contracts(tree, false, |function, library| library && function.public);
+        let mut roots = contracts(tree, false);
         roots.extend(&promised);
         let next = |entry: usize| {
             let found = &tree.entries[entry];

@@ -2,7 +2,6 @@
 
 use crate::mentions::of_text;
 use crate::promises::{groups, Place, Quoted};
-use crate::sources::Function;
 use crate::tree::Tree;
 use std::collections::BTreeSet;
 
@@ -18,7 +17,7 @@ pub fn closure<'a>(roots: &BTreeSet<usize>, next: impl Fn(usize) -> &'a BTreeSet
 
 /// What an item has to be reached from to be of use: what the code and its proofs mention, what is promised, and worked examples.
 pub fn ends(tree: &Tree) -> BTreeSet<usize> {
-    let mut found = contracts(tree, true, |_, _| true);
+    let mut found = contracts(tree, true);
     found.extend(&tree.proved_with);
     found.extend(promises(tree));
     let examples = tree.modules.iter().filter(|module| module.is_of_examples());
@@ -27,10 +26,10 @@ pub fn ends(tree: &Tree) -> BTreeSet<usize> {
 }
 
 /// The items that the contracts of functions mention; with `ghost` also those that any other text for the checker does.
-pub fn contracts(tree: &Tree, ghost: bool, test: impl Fn(&Function, bool) -> bool) -> BTreeSet<usize> {
+pub fn contracts(tree: &Tree, ghost: bool) -> BTreeSet<usize> {
     let mut found = BTreeSet::new();
     for source in &tree.sources {
-        for function in source.functions.iter().filter(|function| test(function, source.library)) {
+        for function in &source.functions {
             for text in function.contracts.iter().chain(function.ghost.iter().filter(|_| ghost)) {
                 let mentions = of_text(text, &function.arguments);
                 found.extend(tree.resolve_all(&source.imports, None, &mentions, &mut vec![false; source.imports.len()]));

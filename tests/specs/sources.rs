@@ -22,21 +22,18 @@ pub struct Source {
     pub path: String,
     pub crate_name: String,
     pub name: String,
-    /// A program's functions are nobody's to call.
-    pub library: bool,
     pub imports: Vec<Import>,
     pub functions: Vec<Function>,
     /// Functions and the names of their clauses, types with their fields and variants, constants and modules.
     pub declared: BTreeSet<String>,
 }
 
-pub fn source(path: &str, crate_name: &str, library: bool, text: &str) -> Source {
+pub fn source(path: &str, crate_name: &str, text: &str) -> Source {
     let text = without_code_comments(path, text);
     let mut found = Source {
         path: path.to_string(),
         crate_name: crate_name.to_string(),
         name: stem(Path::new(path)),
-        library,
         imports: imports(&text, "ghost "),
         functions: Vec::new(),
         declared: BTreeSet::new(),

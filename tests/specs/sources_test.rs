@@ -41,7 +41,7 @@ fn four() {}
 ";
 
 fn read() -> Source {
-    source("low/src/test.rt", "low", true, SOURCE)
+    source("low/src/test.rt", "low", SOURCE)
 }
 
 /// The names that texts of a function mention, apart from symbols.
@@ -83,11 +83,11 @@ fn names_declared() {
 #[test]
 #[should_panic(expected = "test.rt:2: a bracket that nothing closes")]
 fn a_clause_without_an_end() {
-    source("test.rt", "low", true, "fn one()\n    ensures { ⌜ first ⌝\n");
+    source("test.rt", "low", "fn one()\n    ensures { ⌜ first ⌝\n");
 }
 
 #[test]
 #[should_panic(expected = "test.rt:2: a comment in a contract")]
 fn a_comment_in_a_clause() {
-    source("test.rt", "low", true, "fn one()\n    ensures { ⌜ first -- }\n      second ⌝ }\n{}\n");
+    source("test.rt", "low", "fn one()\n    ensures { ⌜ first -- }\n      second ⌝ }\n{}\n");
 }

@@ -152,9 +152,8 @@ impl Tree {
 
     fn read_sources(&mut self, root: &Path, crate_name: &str) {
         let folder = root.join("crates").join(crate_name).join("src");
-        let library = folder.join("lib.rt").exists();
         for path in files(&folder, "rt") {
-            let found = source(&shown(root, &path), crate_name, library, &read(&path));
+            let found = source(&shown(root, &path), crate_name, &read(&path));
             let mut mentioned = vec![false; found.imports.len()];
             for function in &found.functions {
                 for text in function.contracts.iter().chain(&function.ghost) {

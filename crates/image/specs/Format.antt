@@ -7,7 +7,7 @@ use lib.ListN.{length}
 use Rattle.ternary.specs.Pattern.{Words}
 use Rattle.records.specs.Record.{listed, slotWords, ident, action, rank, occupied}
 use Rattle.records.specs.Order.{slots}
-use Rattle.image.specs.Bytes.{bytesOf, numberAt, pieces}
+use Rattle.image.specs.Bytes.{bytesOf, numberAt, pieces, store}
 use Rattle.image.specs.Indices.{indices, index}
 
 -- sizes: a body has 16 bytes for each word of a value, and 8 more
@@ -76,3 +76,8 @@ unfoldable pub recordAt : ℕ → List ℕ → ℕ → ℕ → List ℕ
 recordAt w b e k =
     listed (2 * w) (λ j. numberAt b (bodyPlace w e k + j * 8) 8)
     ++ (idAt b k * 4294967296 + numberAt b (bodyPlace w e k + (2 * w * 8 + 4)) 4) ∷ numberAt b (bodyPlace w e k + 2 * w * 8) 4 ∷ []
+
+module _ (w : ℕ) (t : List ℕ) where
+  -- a buffer with the entries and bodies of the first k rules
+  unfoldable pub stored : List ℕ → ℕ → List ℕ
+  stored b k = store (store b 4 (pieces (entryBytes w t) k)) (4 + ruleCount w t * 10) (pieces (ruleBytes w t) k)

@@ -19,7 +19,7 @@ use Rattle.image.specs.Answers.{saveAnswer}
 use Rattle.image.specs.Bytes.{bytesOf, store, pieces}
 use Rattle.image.specs.Indices.{indices, index}
 use Rattle.image.specs.Format.{bodyBytes, imageBytes, entryPlace, bodyPlace, entryOf, bodyOf, holds, ruleCount, ruleSlot, entryBytes, ruleBytes}
-use Rattle.image.specs.Format.{imageOf}
+use Rattle.image.specs.Format.{stored, imageOf}
 use Rattle.image.specs.BytesLaws.{length-bytes, pieces-length, store-none, store-length, store-next, store-then, store-swap}
 use Rattle.image.specs.IndicesLaws.{count-high, index-at}
 
@@ -99,18 +99,13 @@ module _ (w : ℕ) (t : List ℕ) where
       let shape = or-else-pass (checkShape w t) (checkRecords w t) .0 (or-else-pass (slotChecks w t) (orElse (checkTwice w t) (checkOrder w t)) .0 passed .0) .0 in
       omega (arith, count-high (holds w t) (slots w t), shaped-slots w t shape .1)
 
-  -- a buffer with the entries and bodies of the first k rules
-  unfoldable pub stored : List ℕ → ℕ → List ℕ
-  unfolding contents bodies
-  stored b k = store (store b 4 (pieces (entryBytes w t) k)) (4 + ruleCount w t * 10) (pieces (ruleBytes w t) k)
-
   module _ (b : List ℕ) (fits : imageBytes w (ruleCount w t) ≤ length b) where
-    pub stored-none : b ≡ stored b 0
+    pub stored-none : b ≡ stored w t b 0
     unfolding stored pieces
     stored-none = sym (store-none (store b 4 []) (4 + ruleCount w t * 10) ∙ store-none b 4)
 
     pub stored-more : (k : ℕ) → k < ruleCount w t
-        → store (store (stored b k) (entryPlace k) (entryBytes w t k)) (bodyPlace w (ruleCount w t) k) (ruleBytes w t k) ≡ stored b (suc k)
+        → store (store (stored w t b k) (entryPlace k) (entryBytes w t k)) (bodyPlace w (ruleCount w t) k) (ruleBytes w t k) ≡ stored w t b (suc k)
     unfolding stored pieces contents bodies e
     stored-more k h =
         ap (λ (x : List ℕ). store x (bodyPlace w e k) (ruleBytes w t k))
@@ -132,21 +127,21 @@ module _ (w : ℕ) (t : List ℕ) where
         more = store-length b 4 (contents (suc k)) (omega (arith, contents-length (suc k), image-bytes w e))
 
     -- the loop over the slots: a slot that holds a rule holds the next one
-    pub rule-stored : {image : List ℕ} (slot k : ℕ) → slot < slots w t → holds w t slot ≡ true → k ≡ length (indices (holds w t) slot) → image ≡ stored b k
+    pub rule-stored : {image : List ℕ} (slot k : ℕ) → slot < slots w t → holds w t slot ≡ true → k ≡ length (indices (holds w t) slot) → image ≡ stored w t b k
         → store (store image (entryPlace k) (entryOf (ident w (slotWords w t slot)) slot (bodyPlace w (ruleCount w t) k)))
         (bodyPlace w (ruleCount w t) k) (bodyOf w (slotWords w t slot))
-        ≡ stored b (suc k)
+        ≡ stored w t b (suc k)
     unfolding entryBytes ruleBytes
     rule-stored slot k h t' c i =
         let found = index-at (holds w t) (slots w t) slot h t' in
         let here : slot ≡ ruleSlot w t k = sym (ap (index (holds w t) (slots w t)) c ∙ found .1) in
         ap (λ (x : List ℕ). store (store x (entryPlace k) (entryOf (ident w (slotWords w t slot)) slot (bodyPlace w (ruleCount w t) k))) (bodyPlace w (ruleCount w t) k) (bodyOf w (slotWords w t slot))) i
-        ∙ (ap (λ (s : ℕ). store (store (stored b k) (entryPlace k) (entryOf (ident w (slotWords w t s)) s (bodyPlace w (ruleCount w t) k))) (bodyPlace w (ruleCount w t) k) (bodyOf w (slotWords w t s))) here
+        ∙ (ap (λ (s : ℕ). store (store (stored w t b k) (entryPlace k) (entryOf (ident w (slotWords w t s)) s (bodyPlace w (ruleCount w t) k))) (bodyPlace w (ruleCount w t) k) (bodyOf w (slotWords w t s))) here
         ∙ stored-more k (omega (arith, found .0)))
 
     -- behind the header the rules make the image, and what stood past it stays
     pub image-stored : {first second image : List ℕ} → first ≡ store b 0 (bytesOf 2 (slots w t)) → second ≡ store first 2 (bytesOf 2 (ruleCount w t))
-        → image ≡ stored second (ruleCount w t) → image ≡ imageOf w t ++ drop (length (imageOf w t)) b
+        → image ≡ stored w t second (ruleCount w t) → image ≡ imageOf w t ++ drop (length (imageOf w t)) b
     unfolding stored imageOf contents bodies e store
     image-stored f s i =
         let header = bytesOf 2 (slots w t) ++ bytesOf 2 e in

@@ -35,8 +35,8 @@ use Rattle.delete_plans.specs.DeletesLaws.{id-accepted, id-absent}
 use Rattle.insert_plans.specs.Inserts.{insertWords}
 use Rattle.insert_plans.specs.InsertableLaws.{rule-words}
 use Rattle.insert_plans.specs.Tables.{moved, planned, rule2, new, valueFrom, before-crossing, rule-d, before-third, rule-new, declined, rule5}
-use Rattle.insert_plans.specs.Tables.{deleting, rule3, rule-a, rule-other, maskFrom, expected, rule7, rule6, rule-c, rule1, result, resultOf, items}
-use Rattle.insert_plans.specs.Tables.{rule4, vacancy, after-third, inserting, line, afterInsert, precedence}
+use Rattle.insert_plans.specs.Tables.{deleting, rule3, rule-a, rule-other, maskFrom, expected, rule7, rule6, rule-c, rule1, result, resultOf}
+use Rattle.insert_plans.specs.Tables.{items, rule4, vacancy, after-third, inserting, line, afterInsert, precedence}
 
 -- the tables of the items are those which the script's inserts leave, carried out by their plans
 script-tables : (foldl afterInsert (vacancy ++ vacancy ++ vacancy ++ vacancy ++ vacancy ++ vacancy) (rule1 ∷ rule2 ∷ []) ≡ before-third)

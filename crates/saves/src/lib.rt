@@ -15,8 +15,7 @@ ghost use Prim.Native.Nat.{_+_, _/_, _≤_, _<_};
 ghost use lib.ListN.{length, drop};
 ghost use Rattle.records.specs.Record.{slotWords, ident};
 ghost use Rattle.image.specs.Bytes.{bytesOf, store, pieces};
-ghost use Rattle.image.specs.Format.{ruleCount, bodyPlace, entryPlace, imageBytes, entryOf, bodyOf, imageOf};
-ghost use Rattle.image.specs.SaveLaws.{stored};
+ghost use Rattle.image.specs.Format.{ruleCount, bodyPlace, entryPlace, imageBytes, entryOf, bodyOf, imageOf, stored};
 ghost use Rattle.image.specs.Answers.{saveTold, saveAnswer, saveBuffer};
 
 // How many slots hold a rule.

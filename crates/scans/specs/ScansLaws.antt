@@ -1,28 +1,24 @@
 -- Laws on the searches: slots passed over because their patterns do not overlap or their priorities are higher are not out of order.
 use mathlib.Core.Path.{_≡_, sym, _∙_}
-use mathlib.Core.Bool.{Bool, true, false, not, _&&_}
+use mathlib.Core.Bool.{true, false, not, _&&_}
 use mathlib.Core.Logic.{_⊎_}
 use mathlib.Core.Logic._⊎_.{inl, inr}
 use mathlib.Core.List.{List, [], _∷_}
 use Prim.Native.Nat.{ℕ, _+_, _-_, _*_, _<_}
 use native.Mathlib.Omega.{arith}
-use lib.Dec.{eqb, ltb}
+use lib.Dec.{eqb}
 use borrow.Author.Tests.{not-false, ltb-true, lt-leb}
-use Rattle.search.specs.Search.{all, least}
-use Rattle.search.specs.SearchLaws.{decided, and-left, and-right, NoneFrom, NoneAbove, none-from-start}
+use Rattle.search.specs.Search.{all, least, NoneFrom, NoneAbove}
+use Rattle.search.specs.SearchLaws.{decided, and-left, and-right, none-from-start}
 use Rattle.search.specs.PartsLaws.{none-from-weaker, none-above-weaker, none-from-four, least-open}
-use Rattle.ternary.specs.Pattern.{Words, overlaps}
-use Rattle.records.specs.Record.{word, slotWords, value, mask, rank}
+use Rattle.ternary.specs.Pattern.{overlaps}
+use Rattle.records.specs.Record.{word, slotWords, rank}
 use Rattle.records.specs.Order.{slots, overlapping}
 use Rattle.records.specs.Checks.{checkRecords}
 use Rattle.records.specs.Laws.{id-word}
 use Rattle.records.specs.declared.Check.the-variants.{Pass}
 use Rattle.records.specs.OrderLaws.{misordered-higher, misordered-apart, misordered-empty}
-use Rattle.scans.specs.Scans.{notAfter, notBefore}
-
--- slot i's priority is higher than r
-abbrev pub higherThan : ℕ → List ℕ → ℕ → ℕ → Bool
-higherThan w t r i = ltb r (rank w (slotWords w t i))
+use Rattle.scans.specs.Scans.{notAfter, notBefore, meets, meetsSlot, higherThan}
 
 pub higher-before : (w : ℕ) (t : List ℕ) (s r i : ℕ) → r ≡ rank w (slotWords w t s) → higherThan w t r i ≡ true → notBefore w t s i ≡ false
 higher-before w t s r i e h =
@@ -42,13 +38,6 @@ four-higher w t s r i e h =
       higher-before w t s r (i + 3) e (and-right (higherThan w t r i && higherThan w t r (i + 1) && higherThan w t r (i + 2)) (higherThan w t r (i + 3)) h),
     )) in
     least-open (notBefore w t s) i (i + 4) (i + 4) none (omega arith)
-
--- the rule in slot i overlaps a pattern, and slot s's pattern: a slot with no word of id and action holds none
-abbrev pub meets : ℕ → List ℕ → Words → Words → ℕ → Bool
-meets w t v m i = overlaps w (value (slotWords w t i)) (mask w (slotWords w t i)) v m && not (eqb (slotWords w t i (2 * w)) 0)
-
-abbrev pub meetsSlot : ℕ → List ℕ → ℕ → ℕ → Bool
-meetsSlot w t s i = overlapping w (slotWords w t i) (slotWords w t s) && not (eqb (slotWords w t i (2 * w)) 0)
 
 -- the pattern at hand is slot s's
 pub meets-slot : (t : List ℕ) (s i vh vl mh ml : ℕ) → vh ≡ slotWords 2 t s 0 → vl ≡ slotWords 2 t s 1 → mh ≡ slotWords 2 t s 2 → ml ≡ slotWords 2 t s 3

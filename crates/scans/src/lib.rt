@@ -8,14 +8,11 @@ ghost use mathlib.Core.Bool.{_||_, _&&_};
 ghost use mathlib.Core.List.{[], _∷_};
 ghost use Prim.Native.Nat.{_+_, _-_, _≤_, _<_, _/_, min};
 ghost use lib.ListN.{length};
-ghost use Rattle.search.specs.Search.{least, afterLast};
-ghost use Rattle.search.specs.SearchLaws.{NoneFrom, NoneAbove};
-ghost use Rattle.search.specs.PartsLaws.{lastOf};
+ghost use Rattle.search.specs.Search.{least, afterLast, NoneFrom, NoneAbove, lastOf};
 ghost use Rattle.records.specs.Record.{word, slotWords};
 ghost use Rattle.records.specs.Checks.{checkRecords};
 ghost use Rattle.records.specs.declared.Check.the-variants.{Pass};
-ghost use Rattle.scans.specs.Scans.{notBefore, notAfter};
-ghost use Rattle.scans.specs.ScansLaws.{higherThan, meets, meetsSlot};
+ghost use Rattle.scans.specs.Scans.{notBefore, notAfter, higherThan, meets, meetsSlot};
 
 // Whether the rule in a slot overlaps a pattern whose words are at hand. A slot whose word of id and action is 0 holds none where check 2 passes.
 fn rule_overlaps(

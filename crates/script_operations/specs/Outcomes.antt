@@ -3,9 +3,9 @@
 use mathlib.Core.Path.{_≡_}
 use mathlib.Core.Bool.{cond}
 use mathlib.Core.List.{List, [], _∷_}
-use Prim.Native.Nat.{ℕ}
+use Prim.Native.Nat.{ℕ, _≤_}
 use lib.Dec.{eqb}
-use lib.ListN.{length, getD}
+use lib.ListN.{length, getD, take}
 use Rattle.records.specs.Checks.{Told, causeNumber}
 use Rattle.records.specs.Writes.{applyWords}
 use Rattle.records.specs.declared.Rule.{Rule}
@@ -14,6 +14,7 @@ use Rattle.records.specs.declared.Check.the-variants.{Pass, Fail}
 use Rattle.neighbours.specs.Neighbours.{insertChecks}
 use Rattle.delete_plans.specs.Deletes.{deleteChecks, deleteWords}
 use Rattle.insert_plans.specs.Inserts.{insertWords}
+use Rattle.carrying.specs.Calls.{afterCalls}
 use Rattle.script_lines.specs.Blocks.{Outcome}
 use Rattle.script_printing.specs.PrintedLines.{printed}
 use Rattle.script_printing.specs.Printing.{Shown}
@@ -53,3 +54,13 @@ lookupBytes told =
 pub record Changed (told : Outcome (List ℕ)) (count : ℕ) (table′ out out′ : List ℕ) : Type 0 where
   pub table : table′ ≡ told .table
   pub shown : Shown out (told .printed) count out′
+
+-- a planning call's answer, carried out in full and printed: by its number and values
+unfoldable pub planOutcome : Told → List ℕ → List ℕ → Rule → Outcome (List ℕ)
+planOutcome told t plan rule =
+    let count = getD (told .values) 0 0 in
+    cond (eqb (told .number) 0) (outcomeOf (afterCalls 2 t plan rule count count .table) (planBytes (take count plan))) (refused t (told .number) count)
+
+-- the words that a planning call counted are in the buffer
+abbrev pub WithinRoom : Told → ℕ → Type 0
+WithinRoom told room = told .number ≡ 0 → getD (told .values) 0 0 ≤ room

@@ -1,7 +1,7 @@
 -- Laws by which the code meets the definitions: what a planning call answered comes to the outcome of its line.
 -- A buffer of 1,024 words is never too short, since no plan has more words than the table slots.
 use mathlib.Core.Path.{_≡_, refl, sym, ap, ap₂, _∙_, subst, subst₂}
-use mathlib.Core.Bool.{cond, true≢false}
+use mathlib.Core.Bool.{true≢false}
 use mathlib.Core.List.{List, [], _∷_}
 use Prim.Native.Nat.{ℕ, _≤_, _+_, _-_, _<_}
 use lib.Dec.{eqb}
@@ -28,17 +28,8 @@ use Rattle.histories.specs.Demand2Laws.{demand-2-insert, demand-2-delete, carri
 use Rattle.script_lines.specs.Blocks.{Outcome}
 use Rattle.script_printing.specs.Printing.{Shown}
 use Rattle.script_answers.specs.Answers.{planBytes, refusalBytes}
-use Rattle.script_operations.specs.Outcomes.{outcomeOf, lookupBytes, changeOutcome, insertOutcome, deleteOutcome, noRule, Changed, refused}
-
--- a planning call's answer, carried out in full and printed: by its number and values
-unfoldable pub planOutcome : Told → List ℕ → List ℕ → Rule → Outcome (List ℕ)
-planOutcome told t plan rule =
-    let count = getD (told .values) 0 0 in
-    cond (eqb (told .number) 0) (outcomeOf (afterCalls 2 t plan rule count count .table) (planBytes (take count plan))) (refused t (told .number) count)
-
--- the words that a planning call counted are in the buffer
-abbrev pub WithinRoom : Told → ℕ → Type 0
-WithinRoom told room = told .number ≡ 0 → getD (told .values) 0 0 ≤ room
+use Rattle.script_operations.specs.Outcomes.{outcomeOf, lookupBytes, changeOutcome, insertOutcome, deleteOutcome, noRule, Changed, WithinRoom}
+use Rattle.script_operations.specs.Outcomes.{planOutcome}
 
 -- a plan's answer is carried out and printed, or the refusal is
 module _ (t plan : List ℕ) (rule : Rule) {told : Told} {r : ℕ} {out out′ : List ℕ} where

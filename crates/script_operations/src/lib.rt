@@ -27,8 +27,7 @@ ghost use Rattle.insert_plans.specs.Inserts.{insertAnswer};
 ghost use Rattle.script_printing.specs.Printing.{Shown};
 ghost use Rattle.script_answers.specs.Answers.{refusalBytes};
 ghost use Rattle.script_operations.specs.Told.{lineTold, changeTold, lookedTold};
-ghost use Rattle.script_operations.specs.Outcomes.{lookupBytes, insertOutcome, deleteOutcome, Changed};
-ghost use Rattle.script_operations.specs.OutcomesLaws.{planOutcome, WithinRoom};
+ghost use Rattle.script_operations.specs.Outcomes.{lookupBytes, insertOutcome, deleteOutcome, Changed, planOutcome, WithinRoom};
 
 // What a line is answered: the slots of the new table, a plan's count, a hit or a miss, or a refusal.
 pub enum LineAnswer {

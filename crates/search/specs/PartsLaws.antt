@@ -10,14 +10,8 @@ use native.Mathlib.Omega.{arith}
 use native.Mathlib.Decide.{ℕ-discrete, decLt}
 use lib.Dec.{ltb}
 use borrow.Author.Tests.{lt-ltb, le-ltb}
-use Rattle.search.specs.Search.{any, least, Least, afterLast}
-use Rattle.search.specs.SearchLaws.{any-some, any-none, least-law, least-unique, after-last-law, after-last-unique, decided, NoneFrom}
-use Rattle.search.specs.SearchLaws.{NoneAbove}
-
--- of the k indices below n, one past the last at which the test holds; n − k where there is none
-unfoldable pub lastOf : (ℕ → Bool) → ℕ → ℕ → ℕ
-lastOf p zero n = n
-lastOf p (suc k) n = cond (p (n - 1)) n (lastOf p k (n - 1))
+use Rattle.search.specs.Search.{any, least, Least, afterLast, NoneFrom, NoneAbove, lastOf}
+use Rattle.search.specs.SearchLaws.{any-some, any-none, least-law, least-unique, after-last-law, after-last-unique, decided}
 
 -- m is one past the last index below n, not below b, at which the test holds, or b where there is none
 pub record LastOf (p : ℕ → Bool) (b n m : ℕ) : Type 0 where

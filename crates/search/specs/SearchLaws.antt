@@ -6,7 +6,7 @@ use mathlib.Core.Logic._⊎_.{inl, inr}
 use Prim.Native.Nat.{ℕ, zero, suc, _+_, _-_, _≤_, _<_}
 use native.Mathlib.Omega.{arith}
 use native.Mathlib.Decide.{ℕ-discrete, decLt}
-use Rattle.search.specs.Search.{all, any, least, AfterLast, Least, afterLast}
+use Rattle.search.specs.Search.{all, any, least, AfterLast, Least, afterLast, NoneFrom, NoneAbove}
 
 -- a Bool is one of the two, with the equation at hand
 pub decided : (b : Bool) → (b ≡ true) ⊎ (b ≡ false)
@@ -208,10 +208,6 @@ unfolding afterLast
 after-last-cong zero h = refl
 after-last-cong (suc n) h = rw (h n (omega arith), after-last-cong n (λ j l. h j (omega arith)))
 
--- the same from an index on
-abbrev pub NoneFrom : (ℕ → Bool) → ℕ → ℕ → ℕ → Type 0
-NoneFrom p from n i = (from ≤ i) × (i ≤ n) × ((k : ℕ) → from ≤ k → k < i → p k ≡ false)
-
 pub none-from-start : (p : ℕ → Bool) (from n : ℕ) → from ≤ n → NoneFrom p from n from
 none-from-start p from n h = (omega arith, h, λ k l r. absurd (omega arith))
 
@@ -221,10 +217,6 @@ none-from-more p from n i inv h f = (omega (arith, inv .0), omega arith, λ k l 
     pick : (k : ℕ) → from ≤ k → k < i + 1 → Dec (k ≡ i) → p k ≡ false
     pick k l r (yes e) = ap p e ∙ f
     pick k l r (no e) = inv .2 k l (omega arith)
-
--- the invariant of a search loop that counts down: the test has held nowhere from i on
-abbrev pub NoneAbove : (ℕ → Bool) → ℕ → ℕ → Type 0
-NoneAbove p n i = (i ≤ n) × ((k : ℕ) → i ≤ k → k < n → p k ≡ false)
 
 pub none-above : (p : ℕ → Bool) (n : ℕ) → NoneAbove p n n
 none-above p n = (omega arith, λ k l r. absurd (omega arith))

@@ -8,12 +8,11 @@ use native.Mathlib.Decide.{ℕ-discrete}
 use lib.Dec.{eqb}
 use lib.ListN.{length, getD, set}
 use lib.Seq.{getD-set-same, getD-set-other}
-use Rattle.search.specs.Search.{any}
 use Rattle.search.specs.SearchLaws.{any-no, any-none, and-stop}
 use Rattle.records.specs.Record.{slotWords, ident, empty, occupied}
 use Rattle.records.specs.Order.{sameId}
 use Rattle.records.specs.Checks.{twiceAt}
-use Rattle.table_checks.specs.Ids.{IdColumn}
+use Rattle.table_checks.specs.Ids.{IdColumn, listedTwice}
 
 -- one store more of a column that is filled from the front
 pub column-more : (w : ℕ) (t ids : List ℕ) (n id : ℕ) → n < length ids → IdColumn w t ids n → id ≡ ident w (slotWords w t n)
@@ -23,10 +22,6 @@ column-more w t ids n id h below e k l = pick (ℕ-discrete k n)
     pick : Dec (k ≡ n) → getD (set ids n id) k 0 ≡ ident w (slotWords w t k)
     pick (yes s) = rw s (getD-set-same ids n id 0 h ∙ e)
     pick (no s) = getD-set-other ids n k id 0 s ∙ below k (omega arith)
-
--- entry j of the column stands in it earlier too
-unfoldable pub listedTwice : List ℕ → ℕ → Bool
-listedTwice ids j = any (λ (i : ℕ). eqb (getD ids i 0) (getD ids j 0)) j
 
 -- ids that differ in the column differ in the table
 pub unlisted : (w : ℕ) (t ids : List ℕ) (n j : ℕ) → IdColumn w t ids n → j < n → listedTwice ids j ≡ false → twiceAt w t j ≡ false

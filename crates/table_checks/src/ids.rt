@@ -11,8 +11,7 @@ ghost use Prim.Native.Nat.{_≤_, _<_, _/_};
 ghost use lib.ListN.{length};
 ghost use Rattle.records.specs.Record.{slotWords, ident};
 ghost use Rattle.records.specs.Checks.{checkTwice, twiceAt};
-ghost use Rattle.table_checks.specs.Ids.{IdColumn};
-ghost use Rattle.table_checks.specs.IdsLaws.{listedTwice};
+ghost use Rattle.table_checks.specs.Ids.{IdColumn, listedTwice};
 
 // The id of a slot's record, as a number of 32 bits.
 fn short_id(table: &[u64], slot: usize) -> u32

@@ -15,7 +15,7 @@ ghost use mathlib.Core.Bool.{_||_};
 ghost use mathlib.Core.List.{[], _∷_};
 ghost use Prim.Native.Nat.{_+_, _≤_, _<_, _/_};
 ghost use lib.ListN.{length};
-ghost use Rattle.search.specs.SearchLaws.{NoneFrom};
+ghost use Rattle.search.specs.Search.{NoneFrom};
 ghost use Rattle.records.specs.Record.{word};
 ghost use Rattle.records.specs.declared.Check.the-variants.{Pass};
 ghost use Rattle.records.specs.Checks.{checkShape, checkRecords, checkTwice, checkOrder, slotChecks, tableChecks, disorderAt, matchesAt, firstMatch};

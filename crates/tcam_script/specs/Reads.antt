@@ -53,3 +53,14 @@ pub record Ended (start : Kept) (went : Went) (memory′ out′ : List ℕ) : Ty
   pub table : tableIn memory′ (went .place .slots) ≡ scriptOutcome (whole blocks) .table
   pub handed : went .sent .bytes ≡ capped (length (scriptOutcome (whole blocks) .printed))
   pub written : went .sent .well ≡ true
+
+-- the blocks read one after the other, one for each read, and as many bytes handed to the output as their answers have
+pub record ReadAll (start : Kept) (went : Went) (end : Kept) : Type 0 where
+  pub failed : went .well ≡ false → Failed went
+  pub read : went .well ≡ true
+      → (blocks : List (List ℕ)) × (bytes : List ℕ) × Stopped blocks went × (went .got .reads ≡ length blocks)
+      × (went .sent .bytes ≡ capped (length bytes)) × Read start blocks bytes end
+
+pub record RanAll (start : Kept) (went : Went) (memory′ out′ : List ℕ) : Type 0 where
+  pub failed : went .well ≡ false → Failed went
+  pub ended : went .well ≡ true → Ended start went memory′ out′

@@ -23,18 +23,7 @@ use Rattle.io.specs.Counts.{clamped}
 use Rattle.tcam_script.specs.declared.console.Got.{Got}
 use Rattle.tcam_script.specs.declared.console.Sent.{Sent}
 use Rattle.tcam_script.specs.declared.Went.{Went}
-use Rattle.tcam_script.specs.Reads.{TookBlock, Ended, Stopped, capped, TookRead, Failed}
-
--- the blocks read one after the other, one for each read, and as many bytes handed to the output as their answers have
-pub record ReadAll (start : Kept) (went : Went) (end : Kept) : Type 0 where
-  pub failed : went .well ≡ false → Failed went
-  pub read : went .well ≡ true
-      → (blocks : List (List ℕ)) × (bytes : List ℕ) × Stopped blocks went × (went .got .reads ≡ length blocks)
-      × (went .sent .bytes ≡ capped (length bytes)) × Read start blocks bytes end
-
-pub record RanAll (start : Kept) (went : Went) (memory′ out′ : List ℕ) : Type 0 where
-  pub failed : went .well ≡ false → Failed went
-  pub ended : went .well ≡ true → Ended start went memory′ out′
+use Rattle.tcam_script.specs.Reads.{TookBlock, Stopped, capped, TookRead, Failed, ReadAll, RanAll}
 
 -- while blocks are read: so many more may be
 pub record ReadSome (start : Kept) (turns : ℕ) (went : Went) (end : Kept) : Type 0 where

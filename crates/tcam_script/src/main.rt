@@ -4,8 +4,7 @@ ghost use mathlib.Core.Path.{_≡_};
 ghost use Prim.Native.Nat.{_+_};
 ghost use lib.ListN.{replicate};
 ghost use Rattle.script_transcripts.specs.Whole.{keeping, opening};
-ghost use Rattle.tcam_script.specs.Reads.{capped, TookBlock, TookRead};
-ghost use Rattle.tcam_script.specs.ReadsLaws.{ReadAll, RanAll};
+ghost use Rattle.tcam_script.specs.Reads.{capped, TookBlock, TookRead, ReadAll, RanAll};
 
 mod console;
 

@@ -5,7 +5,8 @@ use Prim.Native.Nat.{ℕ}
 use native.Mathlib.Omega.{arith}
 use borrow.Author.Needs.{needs}
 use Rattle.image.specs.Bytes.{bytesOf, store}
-use Rattle.image.specs.SaveLaws.{stored, image-stored}
+use Rattle.image.specs.SaveLaws.{image-stored}
+use Rattle.image.specs.Format.{stored}
 use Rattle.saves.proofs.put_image.Statement.{statement}
 use Rattle.saves.proofs.put_image.Tie as tie
 

@@ -10,8 +10,8 @@ use lib.ListN.{length}
 use Rattle.records.specs.Record.{slotWords, ident}
 use Rattle.image.specs.Bytes.{store}
 use Rattle.image.specs.Indices.{indices}
-use Rattle.image.specs.Format.{holds, entryPlace, bodyPlace, entryOf, bodyOf}
-use Rattle.image.specs.SaveLaws.{stored, stored-none, rule-stored}
+use Rattle.image.specs.Format.{holds, entryPlace, bodyPlace, entryOf, bodyOf, stored}
+use Rattle.image.specs.SaveLaws.{stored-none, rule-stored}
 use Rattle.image.specs.IndicesLaws.{count-more, count-same, count-high, index-at}
 use Rattle.saves.proofs.put_rules.Statement.{statement}
 use Rattle.saves.proofs.put_rules.Tie as tie

@@ -4,8 +4,9 @@ use Prim.Native.Nat.{_+_, _*_, _≤_}
 use mathlib.Core.Path.{sym}
 use native.Mathlib.Omega.{arith}
 use borrow.Author.Needs.{needs}
-use Rattle.search.specs.SearchLaws.{NoneFrom, none-from-start}
+use Rattle.search.specs.SearchLaws.{none-from-start}
 use Rattle.search.specs.PartsLaws.{none-from-join, none-from-part, least-in-part, least-rest}
+use Rattle.search.specs.Search.{NoneFrom}
 use Rattle.scans.specs.Scans.{notBefore}
 use Rattle.scans.proofs.first_asked.Statement.{statement}
 use Rattle.scans.proofs.first_asked.Tie as tie

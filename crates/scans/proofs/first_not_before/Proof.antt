@@ -5,8 +5,9 @@ use mathlib.Core.Path.{sym}
 use native.Mathlib.Omega.{arith}
 use denote.Ref.{now}
 use borrow.Author.Needs.{needs}
-use Rattle.search.specs.SearchLaws.{NoneFrom, none-from-start}
+use Rattle.search.specs.SearchLaws.{none-from-start}
 use Rattle.search.specs.PartsLaws.{none-from-weaker, none-from-join, none-from-part, least-in-part, least-open}
+use Rattle.search.specs.Search.{NoneFrom}
 use Rattle.scans.specs.Scans.{notBefore}
 use Rattle.scans.specs.ScansLaws.{apart}
 use Rattle.scans.proofs.first_not_before.Statement.{statement}

@@ -4,8 +4,9 @@ use Prim.Native.Nat.{_-_}
 use mathlib.Core.Path.{sym, _∙_}
 use native.Mathlib.Omega.{arith}
 use borrow.Author.Needs.{needs}
-use Rattle.search.specs.SearchLaws.{NoneFrom, none-from-start, none-from-more}
+use Rattle.search.specs.SearchLaws.{none-from-start, none-from-more}
 use Rattle.search.specs.PartsLaws.{least-here, least-open}
+use Rattle.search.specs.Search.{NoneFrom}
 use Rattle.scans.specs.Scans.{notBefore}
 use Rattle.scans.proofs.first_of_few.Statement.{statement}
 use Rattle.scans.proofs.first_of_few.Tie as tie

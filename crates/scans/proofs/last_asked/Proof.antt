@@ -4,8 +4,9 @@ use Prim.Native.Nat.{_≤_}
 use mathlib.Core.Path.{sym, _∙_}
 use native.Mathlib.Omega.{arith}
 use borrow.Author.Needs.{needs}
-use Rattle.search.specs.SearchLaws.{NoneAbove, none-above, none-lower}
+use Rattle.search.specs.SearchLaws.{none-above, none-lower}
 use Rattle.search.specs.PartsLaws.{last-here, last-open}
+use Rattle.search.specs.Search.{NoneAbove}
 use Rattle.scans.specs.Scans.{notAfter}
 use Rattle.scans.proofs.last_asked.Statement.{statement}
 use Rattle.scans.proofs.last_asked.Tie as tie

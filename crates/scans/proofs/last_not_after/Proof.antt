@@ -4,8 +4,9 @@ use mathlib.Core.Path.{sym}
 use native.Mathlib.Omega.{arith}
 use denote.Ref.{now}
 use borrow.Author.Needs.{needs}
-use Rattle.search.specs.SearchLaws.{NoneAbove, none-above, after-last-none}
+use Rattle.search.specs.SearchLaws.{none-above, after-last-none}
 use Rattle.search.specs.PartsLaws.{none-above-weaker, none-above-join, none-above-part, last-in-part}
+use Rattle.search.specs.Search.{NoneAbove}
 use Rattle.scans.specs.Scans.{notAfter}
 use Rattle.scans.specs.ScansLaws.{apart}
 use Rattle.scans.proofs.last_not_after.Statement.{statement}

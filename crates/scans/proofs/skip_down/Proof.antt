@@ -4,10 +4,12 @@ use mathlib.Core.Path.{sym, _∙_}
 use mathlib.Core.List.{[], _∷_}
 use native.Mathlib.Omega.{arith}
 use denote.Ref.{now}
-use Rattle.search.specs.SearchLaws.{NoneAbove, none-above}
+use Rattle.search.specs.SearchLaws.{none-above}
 use Rattle.search.specs.PartsLaws.{none-above-four}
+use Rattle.search.specs.Search.{NoneAbove}
 use Rattle.records.specs.Record.{word}
-use Rattle.scans.specs.ScansLaws.{meets, skipped-down}
+use Rattle.scans.specs.ScansLaws.{skipped-down}
+use Rattle.scans.specs.Scans.{meets}
 use Rattle.scans.proofs.skip_down.Statement.{statement}
 use Rattle.scans.proofs.skip_down.Tie as tie
 

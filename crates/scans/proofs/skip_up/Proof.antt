@@ -5,10 +5,12 @@ use mathlib.Core.Path.{sym, _∙_}
 use mathlib.Core.List.{[], _∷_}
 use native.Mathlib.Omega.{arith}
 use denote.Ref.{now}
-use Rattle.search.specs.SearchLaws.{NoneFrom, none-from-start}
+use Rattle.search.specs.SearchLaws.{none-from-start}
 use Rattle.search.specs.PartsLaws.{none-from-four}
+use Rattle.search.specs.Search.{NoneFrom}
 use Rattle.records.specs.Record.{word}
-use Rattle.scans.specs.ScansLaws.{meets, skipped-up}
+use Rattle.scans.specs.ScansLaws.{skipped-up}
+use Rattle.scans.specs.Scans.{meets}
 use Rattle.scans.proofs.skip_up.Statement.{statement}
 use Rattle.scans.proofs.skip_up.Tie as tie
 

@@ -7,7 +7,8 @@ use denote.Ref.{now}
 use borrow.Author.Needs.{needs}
 use Rattle.records.specs.Checks.{Told}
 use Rattle.buffers.specs.Buffers.{planTold}
-use Rattle.script_operations.specs.OutcomesLaws.{WithinRoom, changed-planned, changed-refused}
+use Rattle.script_operations.specs.OutcomesLaws.{changed-planned, changed-refused}
+use Rattle.script_operations.specs.Outcomes.{WithinRoom}
 use Rattle.script_operations.proofs.carry_and_print.Statement.{statement}
 use Rattle.script_operations.proofs.carry_and_print.Tie as tie
 

@@ -5,7 +5,8 @@ use mathlib.Core.Path.{sym, _∙_}
 use mathlib.Core.List.{[], _∷_}
 use native.Mathlib.Omega.{arith}
 use borrow.Author.Needs.{needs}
-use Rattle.search.specs.SearchLaws.{NoneFrom, none-from-more, least-at, least-none}
+use Rattle.search.specs.SearchLaws.{none-from-more, least-at, least-none}
+use Rattle.search.specs.Search.{NoneFrom}
 use Rattle.records.specs.Record.{word}
 use Rattle.records.specs.Checks.{matchesAt, firstMatch}
 use Rattle.table_checks.proofs.first_match.Statement.{statement}

@@ -6,8 +6,9 @@ use mathlib.Core.List.{[], _∷_}
 use native.Mathlib.Omega.{arith}
 use lib.ListN.{length}
 use borrow.Author.Needs.{needs}
-use Rattle.search.specs.SearchLaws.{NoneFrom, none-from-start}
+use Rattle.search.specs.SearchLaws.{none-from-start}
 use Rattle.search.specs.PartsLaws.{none-from-four}
+use Rattle.search.specs.Search.{NoneFrom}
 use Rattle.records.specs.Record.{word}
 use Rattle.records.specs.Checks.{matchesAt}
 use Rattle.table_checks.proofs.skip_unmatched.Statement.{statement}

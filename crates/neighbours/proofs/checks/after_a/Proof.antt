@@ -3,7 +3,8 @@
 use Prim.Native.Nat.{ℕ}
 use mathlib.Core.Path.{sym, _∙_}
 use native.Mathlib.Omega.{arith}
-use Rattle.search.specs.SearchLaws.{NoneAbove, none-above, none-lower, after-last-at, after-last-none}
+use Rattle.search.specs.SearchLaws.{none-above, none-lower, after-last-at, after-last-none}
+use Rattle.search.specs.Search.{NoneAbove}
 use Rattle.records.specs.Record.{slotWords}
 use Rattle.records.specs.Order.{precedes}
 use Rattle.neighbours.specs.Neighbours.{afterA}

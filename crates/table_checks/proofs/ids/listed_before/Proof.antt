@@ -8,7 +8,7 @@ use lib.Dec.{eqb}
 use lib.ListN.{getD}
 use denote.Ref.{now}
 use Rattle.search.specs.Search.{any}
-use Rattle.table_checks.specs.IdsLaws.{listedTwice}
+use Rattle.table_checks.specs.Ids.{listedTwice}
 use Rattle.table_checks.proofs.ids.listed_before.Statement.{statement}
 use Rattle.table_checks.proofs.ids.listed_before.Tie as tie
 
