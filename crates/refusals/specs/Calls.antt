@@ -1,0 +1,174 @@
+-- Document 01's table "Why a call declines", call by call: the rows of each call's checks, in the order in which they are made.
+-- A condition is worded by slots, bits and numbers, not by the tests that the code makes. new is the new rule's record.
+use mathlib.Core.Path.{_≡_}
+use mathlib.Core.Bool.{true}
+use mathlib.Core.Logic.{_⊎_}
+use mathlib.Core.List.{List, [], _∷_, _++_}
+use Prim.Native.Nat.{ℕ, zero, suc, _+_, _≤_, _<_}
+use lib.ListN.{length, getD}
+use Rattle.ternary.specs.Pattern.{Words, Within}
+use Rattle.layout.specs.Write.{Write, put}
+use Rattle.plan_words.specs.PlanWords.{writeOf}
+use Rattle.records.specs.Record.{word, slotWords, occupied, ident, rank, value, mask, recordOf}
+use Rattle.records.specs.Order.{slots, Overlapping}
+use Rattle.records.specs.Checks.{Shaped}
+use Rattle.records.specs.Entries.{entries}
+use Rattle.records.specs.Writes.{EntryFits}
+use Rattle.records.specs.declared.Rule.{Rule}
+use Rattle.records.specs.declared.Cause.the-variants.{Shape, Record, Twice, Order, Rule as RuleCause, Known, Unknown, Tie, Full, Crossed, Short}
+use Rattle.records.specs.declared.Cause.the-variants.{Write as WriteCause, Image}
+use Rattle.insert_plans.specs.Inserts.{insertWords}
+use Rattle.image.specs.Format.{imageBytes, bodyPlace, entryPlace, ruleCount, slotsIn, rulesIn, idAt, entrySlot, offsetAt, recordAt}
+use Rattle.image.specs.Checks.{lowestSlot, meant}
+use Rattle.refusals.specs.Rows.{Row, rowAt, slotRow}
+
+-- a sound rule: id not 0, priority at most 65,535, each value bit outside the mask 0
+abbrev pub SoundParts : ℕ → ℕ → ℕ → Words → Words → Type 0
+SoundParts w id priority values masks = (id ≡ 0 → ⊥) × (priority ≤ 65535) × Within w values masks
+
+abbrev pub SoundRecord : ℕ → Words → Type 0
+SoundRecord w x = SoundParts w (ident w x) (rank w x) (value x) (mask w x)
+
+abbrev pub SoundRule : ℕ → Rule → Type 0
+SoundRule w rule = SoundParts w (rule .id) (rule .priority) (word (rule .value)) (word (rule .mask))
+
+-- two rules of one id
+abbrev pub OneId : ℕ → Words → Words → Type 0
+OneId w a b = (occupied w a ≡ true) × (occupied w b ≡ true) × (ident w a ≡ ident w b)
+
+-- the higher of an overlapping pair precedes the other, which depends on it
+abbrev pub Precedes : ℕ → Words → Words → Type 0
+Precedes w a b = Overlapping w a b × (rank w b < rank w a)
+
+-- two rules overlap, and the first has no higher priority; they have the same
+abbrev pub NotHigher : ℕ → Words → Words → Type 0
+NotHigher w a b = Overlapping w a b × (rank w a ≤ rank w b)
+
+abbrev pub Ties : ℕ → Words → Words → Type 0
+Ties w a b = Overlapping w a b × (rank w a ≡ rank w b)
+
+module _ (w : ℕ) (t : List ℕ) where
+  -- 1: the table's words are not a record's words × (1 to 1,024)
+  abbrev pub shapeRow : Row
+  shapeRow = rowAt Shape (Shaped w t → ⊥) 0
+
+  -- 2: a slot neither empty nor a sound rule
+  abbrev pub recordRow : Row
+  recordRow = slotRow Record (slots w t) (λ i. (occupied w (slotWords w t i) ≡ true) × (SoundRecord w (slotWords w t i) → ⊥))
+
+  -- 3: an id also in an earlier slot
+  abbrev pub twiceRow : Row
+  twiceRow = slotRow Twice (slots w t) (λ j. (i : ℕ) × (i < j) × OneId w (slotWords w t i) (slotWords w t j))
+
+  -- 4: an earlier overlapping rule has no higher priority
+  abbrev pub orderRow : Row
+  orderRow = slotRow Order (slots w t) (λ j. (i : ℕ) × (i < j) × NotHigher w (slotWords w t i) (slotWords w t j))
+
+  abbrev pub slotRows : List Row
+  slotRows = shapeRow ∷ recordRow ∷ []
+
+  abbrev pub tableRows : List Row
+  tableRows = slotRows ++ (twiceRow ∷ orderRow ∷ [])
+
+  -- 6: insert: id present
+  abbrev pub knownRow : Words → Row
+  knownRow new = slotRow Known (slots w t) (λ i. OneId w (slotWords w t i) new)
+
+  -- 7: delete: id absent
+  abbrev pub unknownRow : ℕ → Row
+  unknownRow id = rowAt Unknown ((i : ℕ) → i < slots w t → occupied w (slotWords w t i) ≡ true → ident w (slotWords w t i) ≡ id → ⊥) 0
+
+  -- 8: overlap at equal priority
+  abbrev pub tieRow : Words → Row
+  tieRow new = slotRow Tie (slots w t) (λ i. Ties w (slotWords w t i) new)
+
+  -- 9: insert: no slot empty
+  abbrev pub fullRow : Row
+  fullRow = rowAt Full ((i : ℕ) → i < slots w t → occupied w (slotWords w t i) ≡ true) 0
+
+  -- slot a is A, the highest slot holding a rule that precedes the new one
+  abbrev pub IsA : Words → ℕ → Type 0
+  IsA new a =
+      (a < slots w t) × Precedes w (slotWords w t a) new × ((i : ℕ) → a < i → i < slots w t → Precedes w (slotWords w t i) new → ⊥)
+
+  -- 10: A > B: a rule that depends on the new one stands before one that precedes it
+  abbrev pub crossedRow : Words → Row
+  crossedRow new = record {
+    cause = Crossed;
+    condition = (b : ℕ) × (a : ℕ) × (b < a) × (a < slots w t) × Precedes w new (slotWords w t b) × Precedes w (slotWords w t a) new;
+    spot = IsA new;
+  }
+
+-- 5: rule unsound, or id 0 to delete
+abbrev pub ruleRow : ℕ → Rule → Row
+ruleRow w rule = rowAt RuleCause (SoundRule w rule → ⊥) 0
+
+abbrev pub idRow : ℕ → Row
+idRow id = rowAt RuleCause (id ≡ 0) 0
+
+-- 11: plan or image buffer too short: the words or bytes needed, and those that there are
+abbrev pub shortRow : ℕ → ℕ → Row
+shortRow needed room = rowAt Short (room < needed) needed
+
+-- lookup makes 1 and 2
+abbrev pub lookupRows : ℕ → List ℕ → List Row
+lookupRows w t = slotRows w t
+
+-- planning makes checks 1 to 11, as far as each applies
+abbrev pub insertRows : ℕ → List ℕ → Rule → ℕ → List Row
+insertRows w t rule room =
+    let new = word (recordOf w rule) in
+    tableRows w t
+    ++ (ruleRow w rule ∷ knownRow w t new ∷ tieRow w t new ∷ fullRow w t ∷ crossedRow w t new ∷ [])
+    ++ (shortRow (length (insertWords w t rule)) room ∷ [])
+
+abbrev pub deleteRows : ℕ → List ℕ → ℕ → ℕ → List Row
+deleteRows w t id room = tableRows w t ++ (idRow id ∷ unknownRow w t id ∷ []) ++ (shortRow 1 room ∷ [])
+
+-- save makes 1 to 4, then 11
+abbrev pub saveRows : ℕ → List ℕ → ℕ → List Row
+saveRows w t room = tableRows w t ++ (shortRow (imageBytes w (ruleCount w t)) room ∷ [])
+
+-- carrying out: 1, 2; then 12 if done > in all or in all > the plan's words; then, where the next write is to be made, 5 for an unsound rule where one is
+-- put in, and 12 unless it fits
+abbrev pub stepRows : ℕ → List ℕ → List ℕ → Rule → ℕ → ℕ → List Row
+stepRows w t plan rule done total =
+    let next = writeOf (getD plan done 0) in
+    slotRows w t
+    ++ (rowAt WriteCause ((total < done) ⊎ (length plan < total)) done ∷ [])
+    ++ (rowAt RuleCause ((done < total) × ((to : ℕ) × (next ≡ put to)) × (SoundRule w rule → ⊥)) 0
+    ∷ rowAt WriteCause ((done < total) × (EntryFits w (entries w t) next → ⊥)) done
+    ∷ [])
+
+-- 14: a field of the image is wrong, at its offset
+abbrev pub fieldRow : Type 0 → ℕ → Row
+fieldRow condition offset = rowAt Image condition offset
+
+-- rows 0 to n − 1 of a kind, in turn
+abbrev pub rowsInTurn : (ℕ → List Row) → ℕ → List Row
+rowsInTurn rows zero = []
+rowsInTurn rows (suc n) = rowsInTurn rows n ++ rows n
+
+-- the fields of entry k of the contents, for a table of n slots and an image of e rules: id 0; slot not below slots, or not above the entry before; offset
+-- not exact
+abbrev pub entryRows : ℕ → List ℕ → ℕ → ℕ → ℕ → List Row
+entryRows w b n e k =
+    fieldRow (idAt b k ≡ 0) (entryPlace k)
+    ∷ fieldRow ((n ≤ entrySlot b k) ⊎ (entrySlot b k < lowestSlot b k)) (entryPlace k + 4)
+    ∷ fieldRow (offsetAt b k ≡ bodyPlace w e k → ⊥) (entryPlace k + 6)
+    ∷ []
+
+-- body k: an unsound value or priority
+abbrev pub bodyRows : ℕ → List ℕ → ℕ → ℕ → List Row
+bodyRows w b e k = fieldRow (SoundRecord w (word (recordAt w b e k)) → ⊥) (bodyPlace w e k) ∷ []
+
+-- load: 1; the image's header, its entries in turn, its bodies in turn; then 3 and 4 over the table meant
+abbrev pub loadRows : ℕ → List ℕ → List ℕ → List Row
+loadRows w b t =
+    (shapeRow w t ∷ [])
+    ++ (fieldRow ((length b < 4) ⊎ (slotsIn b ≡ slots w t → ⊥)) 0
+    ∷ fieldRow ((slots w t < rulesIn b) ⊎ (length b ≡ imageBytes w (rulesIn b) → ⊥)) 2
+    ∷ [])
+    ++ rowsInTurn (entryRows w b (slots w t) (rulesIn b)) (rulesIn b)
+    ++ rowsInTurn (bodyRows w b (rulesIn b)) (rulesIn b)
+    ++ (twiceRow w (meant w b (length t)) ∷ orderRow w (meant w b (length t)) ∷ [])
