@@ -1,0 +1,118 @@
+-- End theorems on malformed lines: a line is malformed exactly when it has none of the four forms.
+use mathlib.Core.Path.{_≡_, refl, sym, ap, _∙_}
+use mathlib.Core.Bool.{Bool, true, false, cond, _&&_, true≢false}
+use mathlib.Core.Logic.{_↔_, _⊎_, inl, inr, ⊎-elim}
+use mathlib.Core.List.{List, [], _∷_}
+use Prim.Native.Nat.{ℕ, _≤_}
+use native.Mathlib.Omega.{arith}
+use native.Mathlib.Decide.{decLe}
+use lib.Dec.{eqb, leb}
+use lib.ListN.{length, getD}
+use borrow.Author.Tests.{eqb-true, ne-eqb, le-leb, lt-leb}
+use Rattle.search.specs.SearchLaws.{decided, and-law}
+use Rattle.script_text.specs.Parts.{parts}
+use Rattle.script_fields.specs.Fields.{isNumber, isPattern, isKey}
+use Rattle.script_commands.specs.declared.Command.{Command}
+use Rattle.script_commands.specs.declared.Command.the-variants.{Table, Insert, Delete, Lookup, Malformed}
+use Rattle.script_commands.specs.Commands.{letterOf, tableCommand, insertCommand, deleteCommand, lookupCommand, shortCommand, longCommand, afterLetter, ofFields, commandOf}
+use Rattle.script_commands.specs.Forms.{letterField, TableForm, InsertForm, DeleteForm, LookupForm, Form, WellFormed}
+
+-- a field that has a letter is that letter alone
+letter-field : (field : List ℕ) (letter : ℕ) → eqb letter 0 ≡ false → eqb (letterOf field) letter ≡ true → field ≡ letterField letter
+unfolding letterOf
+letter-field [] letter other e = absurd (true≢false (sym (ap (λ (n : ℕ). eqb n 0) (sym (eqb-true 0 letter e))) ∙ other))
+letter-field (a ∷ []) letter other e = ap letterField (eqb-true a letter e)
+letter-field (a ∷ b ∷ more) letter other e =
+    let long : eqb (length (a ∷ b ∷ more)) 1 ≡ false = ne-eqb (length (a ∷ b ∷ more)) 1 (λ z. omega arith) in
+    let none : eqb 0 letter ≡ true = sym (ap (λ (one : Bool). eqb (cond one a 0) letter) long) ∙ e in
+    absurd (true≢false (sym (ap (λ (n : ℕ). eqb n 0) (sym (eqb-true 0 letter none))) ∙ other))
+
+-- a command that a line says
+says : Command → Bool
+says (Table new) = true
+says (Insert insertion) = true
+says (Delete deletion) = true
+says (Lookup query) = true
+says Malformed = false
+
+-- a choice between a command and a malformed line, where the test holds
+taken : (test : Bool) (command : Command) → cond test command Malformed ≡ Malformed → test ≡ true → says command ≡ true → ⊥
+unfolding says
+taken test command e holds said = true≢false (sym said ∙ ap says (sym (ap (λ (b : Bool). cond b command Malformed) holds) ∙ e))
+
+-- a form is no malformed line
+table-said : (fields : List (List ℕ)) → TableForm fields → ofFields fields ≡ Malformed → ⊥
+unfolding says shortCommand tableCommand letterOf
+table-said fields f e = taken (isNumber (f .0)) _ (sym (ap ofFields (f .1)) ∙ e) (f .2) refl
+
+insert-said : (fields : List (List ℕ)) → InsertForm fields → ofFields fields ≡ Malformed → ⊥
+unfolding says longCommand insertCommand letterOf
+insert-said fields f e =
+    taken (isNumber (f .0) && (isNumber (f .1) && (isPattern (f .2) && isNumber (f .3)))) _ (sym (ap ofFields (f .4)) ∙ e)
+    (and-law _ _ .1 (f .5, and-law _ _ .1 (f .6, and-law _ _ .1 (f .7, f .8)))) refl
+
+delete-said : (fields : List (List ℕ)) → DeleteForm fields → ofFields fields ≡ Malformed → ⊥
+unfolding says shortCommand deleteCommand letterOf
+delete-said fields f e = taken (isNumber (f .0)) _ (sym (ap ofFields (f .1)) ∙ e) (f .2) refl
+
+lookup-said : (fields : List (List ℕ)) → LookupForm fields → ofFields fields ≡ Malformed → ⊥
+unfolding says shortCommand lookupCommand letterOf
+lookup-said fields f e = taken (isKey (f .0)) _ (sym (ap ofFields (f .1)) ∙ e) (f .2) refl
+
+-- and where it cannot hold
+not-taken : (test : Bool) (command : Command) → (test ≡ true → ⊥) → cond test command Malformed ≡ Malformed
+not-taken true command never = absurd (never refl)
+not-taken false command never = refl
+
+-- fields of no form say nothing
+short-none : (letter field : List ℕ) → (Form (letter ∷ field ∷ []) → ⊥) → shortCommand (letterOf letter) field ≡ Malformed
+unfolding shortCommand tableCommand deleteCommand lookupCommand
+short-none letter field none =
+    pick (decided (eqb (letterOf letter) 84)) (decided (eqb (letterOf letter) 68)) (decided (eqb (letterOf letter) 76))
+  where
+    fields : (code : ℕ) → eqb code 0 ≡ false → eqb (letterOf letter) code ≡ true → letter ∷ field ∷ [] ≡ letterField code ∷ field ∷ []
+    fields code other e = ap (λ (l : List ℕ). l ∷ field ∷ []) (letter-field letter code other e)
+
+    pick : (eqb (letterOf letter) 84 ≡ true) ⊎ (eqb (letterOf letter) 84 ≡ false) → (eqb (letterOf letter) 68 ≡ true) ⊎ (eqb (letterOf letter) 68 ≡ false)
+        → (eqb (letterOf letter) 76 ≡ true) ⊎ (eqb (letterOf letter) 76 ≡ false) → shortCommand (letterOf letter) field ≡ Malformed
+    pick (inl t) d l = rw t (not-taken (isNumber field) _ (λ good. none (inl (inl (field, fields 84 refl t, good)))))
+    pick (inr t) (inl d) l = rw (t, d) (not-taken (isNumber field) _ (λ good. none (inr (inl (field, fields 68 refl d, good)))))
+    pick (inr t) (inr d) (inl l) = rw (t, d, l) (not-taken (isKey field) _ (λ good. none (inr (inr (field, fields 76 refl l, good)))))
+    pick (inr t) (inr d) (inr l) = rw (t, d, l)
+
+long-none : (letter id priority pattern action : List ℕ) → (Form (letter ∷ id ∷ priority ∷ pattern ∷ action ∷ []) → ⊥)
+    → longCommand (letterOf letter) id priority pattern action ≡ Malformed
+unfolding longCommand insertCommand
+long-none letter id priority pattern action none = pick (decided (eqb (letterOf letter) 73))
+  where
+    pick : (eqb (letterOf letter) 73 ≡ true) ⊎ (eqb (letterOf letter) 73 ≡ false) → longCommand (letterOf letter) id priority pattern action ≡ Malformed
+    pick (inl i) =
+        rw i (not-taken _ _ (λ good.
+          let a = and-law _ _ .0 good in
+          let b = and-law _ _ .0 (a .1) in
+          let c = and-law _ _ .0 (b .1) in
+          none (inl (inr (id, priority, pattern, action, ap (λ (l : List ℕ). l ∷ id ∷ priority ∷ pattern ∷ action ∷ []) (letter-field letter 73 refl i),
+            a .0, b .0, c .0, c .1)))))
+    pick (inr i) = rw i
+
+fields-none : (fields : List (List ℕ)) → (Form fields → ⊥) → ofFields fields ≡ Malformed
+fields-none [] none = refl
+fields-none (letter ∷ []) none = refl
+fields-none (letter ∷ field ∷ []) none = short-none letter field none
+fields-none (letter ∷ a ∷ b ∷ []) none = refl
+fields-none (letter ∷ a ∷ b ∷ c ∷ []) none = refl
+fields-none (letter ∷ id ∷ priority ∷ pattern ∷ action ∷ []) none = long-none letter id priority pattern action none
+fields-none (letter ∷ a ∷ b ∷ c ∷ d ∷ e ∷ more) none = refl
+
+-- document 01, 13: a line is malformed exactly when it has none of the four forms in at most 256 bytes
+pub malformed-law : (line : List ℕ) → (commandOf line ≡ Malformed) ↔ (WellFormed line → ⊥)
+unfolding commandOf
+malformed-law line = (
+  λ e form. let said : ofFields (parts 32 line) ≡ Malformed = sym (ap (λ (b : Bool). cond b (ofFields (parts 32 line)) Malformed) (le-leb _ _ (form .0))) ∙ e in
+      ⊎-elim (⊎-elim (λ f. table-said _ f said) (λ f. insert-said _ f said)) (⊎-elim (λ f. delete-said _ f said) (λ f. lookup-said _ f said)) (form .1),
+  λ none. pick none (decLe (length line) 256),
+)
+  where
+    pick : (WellFormed line → ⊥) → Dec (length line ≤ 256) → cond (leb (length line) 256) (ofFields (parts 32 line)) Malformed ≡ Malformed
+    pick none (yes h) = rw (le-leb (length line) 256 h) (fields-none (parts 32 line) (λ f. none (h, f)))
+    pick none (no h) = let long : leb (length line) 256 ≡ false = lt-leb (length line) 256 (omega arith) in rw long
