@@ -97,18 +97,21 @@ extern "C" {
 #endif
 
 /* Words of a slot record, and the most slots of a table. */
-#define TCAM_SLOT_WORDS 6
-#define TCAM_MAX_SLOTS 1024
+#define TCAM_SLOT_WORDS 6u
+#define TCAM_MAX_SLOTS 1024u
+
+/* Words of an array of words, a table or a plan. Of the array itself: from a pointer no length can be told. */
+#define TCAM_WORDS(array) (sizeof(array) / sizeof((array)[0]))
 
 /* Bytes of an image of so many rules. */
-#define TCAM_IMAGE_BYTES(rules) (4 + (size_t)50 * (rules))
+#define TCAM_IMAGE_BYTES(rules) ((size_t)4 + (size_t)50 * (size_t)(rules))
 
 /* Word 4 of a record. Also for initializers of constant tables. */
 #define TCAM_ID_ACTION(id, action) ((uint64_t)(uint32_t)(id) << 32 | (uint64_t)(uint32_t)(action))
 
 /* `from` of a plan word that puts the new rule in, and of one that empties a slot. */
-#define TCAM_PUT 65535
-#define TCAM_EMPTY 65534
+#define TCAM_PUT 65535u
+#define TCAM_EMPTY 65534u
 
 /*
  * Why a call declines, and the calls that return it, without their tcam_. Where none is named, no call
@@ -251,8 +254,8 @@ typedef struct tcam_progress {
 } tcam_progress;
 
 /* The results of tcam_carry_out that are no refusal. */
-#define TCAM_WROTE 0
-#define TCAM_FINISHED 0xFFFFFFFF
+#define TCAM_WROTE 0u
+#define TCAM_FINISHED 0xFFFFFFFFu
 
 /*
  * Carries a plan out by one write: word progress->done of the plan is made in the table.
@@ -358,7 +361,7 @@ uint32_t tcam_save(const uint64_t *table, size_t words, uint8_t *image, size_t i
  */
 uint32_t tcam_load(const uint8_t *image, size_t image_bytes, uint64_t *table, size_t words, uint32_t *spot);
 
-/* The two halves of a plan word. */
+/* The two halves of a plan word, and the word of two halves, each cut to 16 bits. */
 static inline uint32_t tcam_write_from(uint32_t word)
 {
     return word >> 16;
@@ -366,7 +369,12 @@ static inline uint32_t tcam_write_from(uint32_t word)
 
 static inline uint32_t tcam_write_to(uint32_t word)
 {
-    return word & 0xFFFF;
+    return word & 0xFFFFu;
+}
+
+static inline uint32_t tcam_write_word(uint32_t from, uint32_t to)
+{
+    return from << 16 | (to & 0xFFFFu);
 }
 
 /* A slot's six words in the table itself, or NULL where tcam_slot_record answers 0. */
@@ -413,6 +421,74 @@ static inline const char *tcam_cause_name(uint32_t number)
     case TCAM_IMAGE: return "IMAGE";
     default: return "?";
     }
+}
+
+/* Bytes of the buffer for a spot in words: the longest text has 23 characters, and a zero behind them. */
+#define TCAM_SPOT_TEXT 24u
+
+/* Not for callers: write a part of a text, or a number in decimal, and a zero behind it, where the next part goes. */
+static inline char *tcam_text_part(char *end, const char *part)
+{
+    while (*part != 0)
+        *end++ = *part++;
+    *end = 0;
+    return end;
+}
+
+static inline char *tcam_text_number(char *end, uint32_t number)
+{
+    uint32_t unit = 1;
+    while (number / unit >= 10)
+        unit *= 10;
+    for (; unit != 0; unit /= 10)
+        *end++ = (char)('0' + number / unit % 10);
+    *end = 0;
+    return end;
+}
+
+/* Not for callers: a spot in words, where that of TCAM_SHORT counts what `needed` names. */
+static inline char *tcam_text_spot(uint32_t number, uint32_t spot, const char *needed, char *text)
+{
+    const char *before = "", *counted = "", *after = "";
+    switch (number) {
+    case TCAM_RECORD:
+    case TCAM_TWICE:
+    case TCAM_ORDER:
+    case TCAM_KNOWN:
+    case TCAM_TIE:
+    case TCAM_CROSSED: before = "slot "; break;
+    case TCAM_SHORT: counted = needed; after = " needed"; break;
+    case TCAM_WRITE: counted = " write"; after = " done"; break;
+    case TCAM_LINE: before = "line "; break;
+    case TCAM_IMAGE: before = "byte "; break;
+    default: *text = 0; return text;
+    }
+    char *end = tcam_text_number(tcam_text_part(text, before), spot);
+    end = tcam_text_part(end, counted);
+    tcam_text_part(tcam_text_part(end, *counted == 0 || spot == 1 ? "" : "s"), after);
+    return text;
+}
+
+/*
+ * What a refusal's spot is, in words for a log: "slot 4", "1 word needed", "2 writes done", "byte 2".
+ *
+ *   number, spot  the refusal's number and its spot
+ *   text          buffer for the text, of TCAM_SPOT_TEXT bytes
+ *
+ * tcam_image_spot_text is for tcam_save and tcam_load, where the spot of TCAM_SHORT is bytes: "204 bytes needed".
+ * tcam_spot_text is for all other calls, where it is words of a plan.
+ *
+ * The result is the buffer. The text is empty where the spot names nothing, at TCAM_SHAPE, TCAM_RULE, TCAM_UNKNOWN and
+ * TCAM_FULL, and where the number is no refusal's.
+ */
+static inline char *tcam_spot_text(uint32_t number, uint32_t spot, char *text)
+{
+    return tcam_text_spot(number, spot, " word", text);
+}
+
+static inline char *tcam_image_spot_text(uint32_t number, uint32_t spot, char *text)
+{
+    return tcam_text_spot(number, spot, " byte", text);
 }
 
 #ifdef __cplusplus
