@@ -1,6 +1,6 @@
 /*
- * Every macro and inline helper of tcam.h, used once. tests/c/run compiles this as C and as C++, in each standard, and takes
- * no warning; what the helpers answer is tested in helpers_test.c.
+ * Every macro and inline function of tcam.h, used. tests/c/run compiles this as C and as C++, in each standard, and takes no
+ * warning. What they answer is tested by the test programs.
  */
 #include "tcam.h"
 #include "tcam.h" /* a second time: nothing is declared twice */
@@ -23,8 +23,8 @@ uint64_t every_result[] = {TCAM_WROTE, TCAM_FINISHED};
 size_t every_image_bytes(int rules, uint32_t slots);
 int every_comparison(uint32_t number, uint64_t result, size_t words);
 int every_case(uint32_t word);
-uint32_t every_number_helper(uint32_t word, uint64_t result, uint32_t slot);
-const char *every_text_helper(uint32_t number, uint64_t result);
+uint32_t every_number_function(uint32_t word, uint64_t result, uint32_t slot);
+const char *every_text_function(uint32_t number, uint64_t result);
 
 size_t every_image_bytes(int rules, uint32_t slots)
 {
@@ -48,7 +48,7 @@ int every_case(uint32_t word)
     }
 }
 
-uint32_t every_number_helper(uint32_t word, uint64_t result, uint32_t slot)
+uint32_t every_number_function(uint32_t word, uint64_t result, uint32_t slot)
 {
     const uint64_t *record = tcam_slot_words(every_table, TCAM_WORDS(every_table), slot);
     uint32_t sum = tcam_write_from(word) + tcam_write_to(word) + tcam_write_word(TCAM_PUT, slot) +
@@ -58,7 +58,7 @@ uint32_t every_number_helper(uint32_t word, uint64_t result, uint32_t slot)
     return sum + tcam_record_id(record) + tcam_record_action(record) + tcam_record_priority(record);
 }
 
-const char *every_text_helper(uint32_t number, uint64_t result)
+const char *every_text_function(uint32_t number, uint64_t result)
 {
     if (number > TCAM_IMAGE)
         return tcam_cause_name(number);

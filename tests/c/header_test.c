@@ -1,8 +1,9 @@
 /*
- * The header's constants, macros and inline helpers that stand beside the calls: each with cases whose answers are written
- * here, and the texts of a spot also for refusals as the calls give them.
+ * The header's constants, macros and inline functions: cases whose answers are written here, and the texts of a spot for
+ * refusals as the calls give them. The names of causes and a slot's words are in lookup_test.c, a result's halves in
+ * carry_test.c.
  *
- *     helpers_test [seed [numbers]]
+ *     header_test [seed [numbers]]
  */
 #define _DEFAULT_SOURCE /* for mmap without a file */
 #include "testing.h"
@@ -69,6 +70,15 @@ static void lengths(void)
     HERE;
     CHECK(TCAM_IMAGE_BYTES(0) == 4 && TCAM_IMAGE_BYTES(1) == 54 && TCAM_IMAGE_BYTES(TCAM_MAX_SLOTS) == 51204);
     CHECK(TCAM_IMAGE_BYTES(rules) == 154 && TCAM_IMAGE_BYTES(rules + 1) == 204 && 2 * TCAM_IMAGE_BYTES(1) == 108);
+}
+
+static void record_parts(void)
+{
+    static const uint64_t record[TCAM_SLOT_WORDS] = {ALL, ALL, ALL, ALL, TCAM_ID_ACTION(4294967295u, 0), 65535};
+    static const uint64_t other[TCAM_SLOT_WORDS] = {ALL, ALL, ALL, ALL, TCAM_ID_ACTION(1, 4294967294u), 0};
+    HERE;
+    CHECK(tcam_record_id(record) == 4294967295u && tcam_record_action(record) == 0 && tcam_record_priority(record) == 65535);
+    CHECK(tcam_record_id(other) == 1 && tcam_record_action(other) == 4294967294u && tcam_record_priority(other) == 0);
 }
 
 /* ---- Spots in words ---- */
@@ -201,16 +211,20 @@ static void refused_plans(void)
     OF_TABLE(number, spot, "1 word needed");
     new_rule.id = 3;
     number = insert(&new_rule, plan, 5, &count, &spot);
-    OF_TABLE(number, spot, "slot 2"); /* KNOWN */
+    CHECK(number == TCAM_KNOWN);
+    OF_TABLE(number, spot, "slot 2");
     new_rule.id = 5;
     new_rule.priority = 40;
     number = insert(&new_rule, plan, 5, &count, &spot);
-    OF_TABLE(number, spot, "slot 0"); /* TIE */
+    CHECK(number == TCAM_TIE);
+    OF_TABLE(number, spot, "slot 0");
     number = tcam_plan_delete(table, TCAM_WORDS(table), 9, plan, 5, &count, &spot);
-    OF_TABLE(number, spot, ""); /* UNKNOWN */
+    CHECK(number == TCAM_UNKNOWN);
+    OF_TABLE(number, spot, "");
     memcpy(table + SLOTS(4), table + SLOTS(1), SLOTS(1) * sizeof *table);
     number = tcam_plan_delete(table, TCAM_WORDS(table), 3, plan, 5, &count, &spot);
-    OF_TABLE(number, spot, "slot 4"); /* TWICE: the later of the two */
+    CHECK(number == TCAM_TWICE);
+    OF_TABLE(number, spot, "slot 4"); /* the later of the two */
 }
 
 static void refused_images(void)
@@ -249,12 +263,12 @@ static void refused_writes(void)
 int main(int count, char **arguments)
 {
     static void (*const cases[])(void) = {
-        constants, plan_words, lengths, spots_that_are_slots, spots_that_count, spots_that_are_places, spots_that_name_nothing,
-        refused_plans, refused_images, refused_writes,
+        constants, plan_words, lengths, record_parts, spots_that_are_slots, spots_that_count, spots_that_are_places,
+        spots_that_name_nothing, refused_plans, refused_images, refused_writes,
     };
     unsigned long most = begin(count, arguments, 20000);
     run_cases(cases, COUNT_OF(cases));
     digits(most);
 
-    return verdict("helpers_test");
+    return verdict("header_test");
 }
