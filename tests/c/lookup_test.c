@@ -271,11 +271,11 @@ static void shape_before_record(void)
 /* Each word alone: only an id makes a rule, and that rule matches every key. */
 static void words_alone(void)
 {
-    for (int word = 0; word < TCAM_SLOT_WORDS; word++) {
+    for (uint32_t word = 0; word < TCAM_SLOT_WORDS; word++) {
         for (int bit = 0; bit < 64; bit++) {
             clear();
             put(0, ALL, ALL, ALL, ALL, 1, 1, 1);
-            table[SLOTS(1) + (size_t)word] = (uint64_t)1 << bit;
+            table[SLOTS(1) + word] = (uint64_t)1 << bit;
             if (word == 4 && bit >= 32) {
                 LOOKUP(table, SLOTS(3), 5, 6, HIT(1, (uint32_t)1 << (bit - 32), 0));
                 SHOWN(table, SLOTS(3), 1);
