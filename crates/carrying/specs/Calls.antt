@@ -1,7 +1,9 @@
 -- A plan carried out call by call: the table and the writes done after each call of the step, and each call's answer.
 -- For any table, plan and rule; what they come to for a plan that was drawn for the table is demand 2.
+use mathlib.Core.Path.{_≡_}
 use mathlib.Core.List.{List}
-use Prim.Native.Nat.{ℕ, zero, suc}
+use Prim.Native.Nat.{ℕ, zero, suc, _≤_}
+use lib.ListN.{length, take}
 use Rattle.records.specs.Checks.{Told}
 use Rattle.records.specs.declared.Rule.{Rule}
 use Rattle.carrying.specs.Carrying.{stepAnswer, stepTable, stepDone}
@@ -27,3 +29,9 @@ afterCalls w t plan rule total (suc calls) = nextState w plan rule total (afterC
 abbrev pub callAnswer : ℕ → List ℕ → List ℕ → Rule → ℕ → ℕ → Told
 callAnswer w t plan rule total calls =
     stepAnswer w (afterCalls w t plan rule total calls .table) plan rule (afterCalls w t plan rule total calls .done) total
+
+-- What a caller may lend of a plan buffer: a slice that begins with the words counted, and has at least as many. So the count's words, the
+-- whole buffer, or any number between.
+pub record Lent (plan : List ℕ) (count : ℕ) (lent : List ℕ) : Type 0 where
+  pub room : count ≤ length lent
+  pub begins : take count lent ≡ take count plan

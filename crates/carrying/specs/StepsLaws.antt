@@ -171,6 +171,17 @@ progress-within w t words done total e =
     (or-else-pass (slotChecks w t) (cond (leb done total && leb total words) Pass (Fail WriteCause done)) .0 e .1) in
     (leb-true done total (and-left (leb done total) (leb total words) h), leb-true total words (and-right (leb done total) (leb total words) h))
 
+-- a step that answers with a success has passed the check of its progress
+pub accepted-progress : (w : ℕ) (t plan : List ℕ) (rule : Rule) (done total : ℕ) (values : List ℕ) → stepAnswer w t plan rule done total ≡ success values
+    → progressChecks w t (length plan) done total ≡ Pass
+accepted-progress w t plan rule done total values e = pick (progressChecks w t (length plan) done total) refl
+  where
+    pick : (x : Check) → x ≡ progressChecks w t (length plan) done total → progressChecks w t (length plan) done total ≡ Pass
+    pick Pass f = sym f
+    pick (Fail cause spot) f =
+        let told : refusal cause spot ≡ success values = step-declined w t plan rule done total f refl .0 ∙ e in
+        absurd (true≢false (ap (λ (t : Told). eqb (t .number) 0) (sym told) ∙ cause-not-zero cause))
+
 -- a step that does not write answers the same again, and leaves the state as it is
 pub step-still : (w : ℕ) (t plan : List ℕ) (rule : Rule) (done total : ℕ) → stepWrites w t plan rule done total ≡ false
     → (stepTable w t plan rule done total ≡ t) × (stepDone w t plan rule done total ≡ done)

@@ -42,8 +42,10 @@ use Rattle.insert_plans.specs.Demand3.{ShortestPlan}
 use Rattle.insert_plans.specs.InsertableLaws.{insertable-law}
 use Rattle.insert_plans.specs.Demand3Laws.{shortest-words}
 use Rattle.carrying.specs.Carrying.{putSound}
-use Rattle.carrying.specs.Calls.{afterCalls}
-use Rattle.histories.specs.RuleSet.{Member, without}
+use Rattle.carrying.specs.Calls.{State, afterCalls, callAnswer, Lent}
+use Rattle.carrying.specs.StepsLaws.{progress-within, accepted-progress}
+use Rattle.carrying.specs.CallsLaws.{lent-part, calls-lent, answer-lent}
+use Rattle.histories.specs.RuleSet.{Member, without, setReply}
 use Rattle.histories.specs.Holding.{Replies, Holding}
 use Rattle.histories.specs.RepliesLaws.{insert-keeps-reply}
 use Rattle.histories.specs.SoundnessLaws.{insert-between-checks, insert-after-checks, delete-after-checks}
@@ -251,6 +253,42 @@ demand-2-delete w t id plan count rule e =
     let a = buffer-accepted (deleteChecks w t id) (deleteWords w t id) plan count e in
     subst (λ (n : ℕ). Demand2 w t (deletePlan w t id plan) rule (deleteWords w t id) n (without id)) (sym (a .1))
     (delete-carries w t id (a .0) rule (deletePlan w t id plan) (drop 1 plan) (a .2))
+
+-- Demand 2 with whatever the caller lends of the plan buffer: the states and answers of all calls are the same. So what is said above of the whole
+-- buffer is said of the count's words, as in the call with `plan, count`, and of any number of words between.
+module _ {w : ℕ} {t plan : List ℕ} {rule : Rule} {words : List ℕ} {count : ℕ} {change : List Rule → List Rule}
+    (d : Demand2 w t plan rule words count change) where
+  pub demand-2-lent : (lent : List ℕ) → Lent plan count lent → Demand2 w t lent rule words count change
+  demand-2-lent lent is = record {
+    number = d .number;
+    made = λ k h. tables k ∙ d .made k h;
+    writes = λ k h. answers k ∙ d .writes k h;
+    counted = λ k h. ap (λ (s : State). s .done) (states k) ∙ d .counted k h;
+    finished = λ k h. answers k ∙ d .finished k h;
+    rests = λ k h. states k ∙ (d .rests k h ∙ sym (states count));
+    kept = λ k h key. subst (λ (u : List ℕ). Replies w u key (reply w t key)) (sym (tables k)) (d .kept k h key);
+    holds = λ rules h. subst (Holding w (change rules)) (sym (tables count)) (d .holds rules h);
+    changed = λ rules h k l key. subst (λ (u : List ℕ). Replies w u key (setReply w (change rules) key)) (sym (tables k)) (d .changed rules h k l key);
+  }
+    where
+      states : (k : ℕ) → afterCalls w t lent rule count k ≡ afterCalls w t plan rule count k
+      states = calls-lent w plan lent rule count is t
+
+      tables : (k : ℕ) → afterCalls w t lent rule count k .table ≡ afterCalls w t plan rule count k .table
+      tables k = ap (λ (s : State). s .table) (states k)
+
+      answers : (k : ℕ) → callAnswer w t lent rule count k ≡ callAnswer w t plan rule count k
+      answers = answer-lent w plan lent rule count is t
+
+  -- the buffer has the words counted, since the calls are accepted
+  pub demand-2-room : count ≤ length plan
+  demand-2-room =
+      let s = afterCalls w t plan rule count count in
+      progress-within w (s .table) (length plan) (s .done) count
+      (accepted-progress w (s .table) plan rule (s .done) count [] (d .finished count (omega arith))) .1
+
+  pub demand-2-part : (k : ℕ) → count ≤ k → Demand2 w t (take k plan) rule words count change
+  demand-2-part k h = demand-2-lent (take k plan) (lent-part plan count k demand-2-room h)
 
 -- carried out in full, a plan has made every write of it
 pub carried-whole : {w : ℕ} {t plan : List ℕ} {rule : Rule} {words : List ℕ} {count : ℕ} {change : List Rule → List Rule}

@@ -8,7 +8,7 @@ use Rattle.records.specs.Checks.{success}
 use Rattle.records.specs.declared.Rule.{Rule}
 use Rattle.delete_plans.specs.Deletes.{deleteAnswer, deletePlan}
 use Rattle.insert_plans.specs.Inserts.{insertAnswer, insertPlan}
-use Rattle.carrying.specs.Calls.{afterCalls, callAnswer}
+use Rattle.carrying.specs.Calls.{afterCalls, callAnswer, Lent}
 use Rattle.histories.specs.RuleSet.{Change, insert, delete}
 
 -- a table of so many empty slots: all its words are zero
@@ -16,14 +16,15 @@ abbrev pub emptyTable : ℕ → ℕ → List ℕ
 emptyTable w n = replicate (n * recordWords w) 0
 
 -- The tables that are reached by a history of changes, the latest first: an empty table by none; by an insert or a delete more, if the
--- planning call accepts it and the step is called, with that plan and that count, until it answers "finished".
+-- planning call accepts it and the step is called, with that plan and that count, until it answers "finished". Of the plan buffer the caller
+-- lends what it will, from the words counted on.
 pub data Reached (w : ℕ) : List Change → List ℕ → Type 0 where
   start : (n : ℕ) → 1 ≤ n → n ≤ 1024 → Reached w [] (emptyTable w n)
   inserted : (history : List Change) (t : List ℕ) → Reached w history t
       → (rule : Rule) → rule .action < 4294967296 → (plan : List ℕ) (count : ℕ) → insertAnswer w t rule (length plan) ≡ success (count ∷ [])
-      → (calls : ℕ) → callAnswer w t (insertPlan w t rule plan) rule count calls ≡ success []
-      → Reached w (insert rule ∷ history) (afterCalls w t (insertPlan w t rule plan) rule count calls .table)
+      → (lent : List ℕ) → Lent (insertPlan w t rule plan) count lent → (calls : ℕ) → callAnswer w t lent rule count calls ≡ success []
+      → Reached w (insert rule ∷ history) (afterCalls w t lent rule count calls .table)
   deleted : (history : List Change) (t : List ℕ) → Reached w history t
       → (id : ℕ) (plan : List ℕ) (count : ℕ) → deleteAnswer w t id (length plan) ≡ success (count ∷ [])
-      → (rule : Rule) (calls : ℕ) → callAnswer w t (deletePlan w t id plan) rule count calls ≡ success []
-      → Reached w (delete id ∷ history) (afterCalls w t (deletePlan w t id plan) rule count calls .table)
+      → (rule : Rule) (lent : List ℕ) → Lent (deletePlan w t id plan) count lent → (calls : ℕ) → callAnswer w t lent rule count calls ≡ success []
+      → Reached w (delete id ∷ history) (afterCalls w t lent rule count calls .table)

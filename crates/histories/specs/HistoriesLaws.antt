@@ -18,11 +18,12 @@ use Rattle.records.specs.EntriesLaws.{entries-length, occupied-at, entry-laws, 
 use Rattle.delete_plans.specs.Deletes.{deleteAnswer, deletePlan}
 use Rattle.insert_plans.specs.Inserts.{insertAnswer, insertPlan}
 use Rattle.carrying.specs.Calls.{State, afterCalls, callAnswer}
+use Rattle.carrying.specs.CallsLaws.{lent-whole}
 use Rattle.histories.specs.RuleSet.{Change, insert, delete, ruleSet, setReply}
 use Rattle.histories.specs.Holding.{Replies, Holding}
 use Rattle.histories.specs.Demand2.{Demand2}
 use Rattle.histories.specs.HoldingLaws.{holding-reply, holding-lookup}
-use Rattle.histories.specs.Demand2Laws.{demand-2-insert, demand-2-delete}
+use Rattle.histories.specs.Demand2Laws.{demand-2-insert, demand-2-delete, demand-2-lent, demand-2-room}
 use Rattle.histories.specs.Histories.{emptyTable, Reached}
 
 zero-word : (n k : ℕ) → _≡_ {A = ℕ} (getD (replicate n 0) k 0) 0
@@ -79,10 +80,10 @@ carried {w} {change = change} d rules h calls e =
 -- every table reached is sound and holds exactly the rules inserted and not since deleted, each in one slot
 pub reached-holding : {w : ℕ} {history : List Change} {t : List ℕ} → Reached w history t → Holding w (ruleSet history) t
 reached-holding {w} (Reached.start n some few) = empty-holding w n some few
-reached-holding {w} (Reached.inserted history t before rule small plan count accepted calls finished) =
-    carried (demand-2-insert w t rule plan count small accepted) (ruleSet history) (reached-holding before) calls finished
-reached-holding {w} (Reached.deleted history t before id plan count accepted rule calls finished) =
-    carried (demand-2-delete w t id plan count rule accepted) (ruleSet history) (reached-holding before) calls finished
+reached-holding {w} (Reached.inserted history t before rule small plan count accepted lent is calls finished) =
+    carried (demand-2-lent (demand-2-insert w t rule plan count small accepted) lent is) (ruleSet history) (reached-holding before) calls finished
+reached-holding {w} (Reached.deleted history t before id plan count accepted rule lent is calls finished) =
+    carried (demand-2-lent (demand-2-delete w t id plan count rule accepted) lent is) (ruleSet history) (reached-holding before) calls finished
 
 -- every table reached passes checks 1 to 4
 pub reached-sound : {w : ℕ} {history : List Change} {t : List ℕ} → Reached w history t → tableChecks w t ≡ Pass
@@ -98,13 +99,17 @@ pub reached-insert : {w : ℕ} {history : List Change} {t : List ℕ} → Reache
     → (plan : List ℕ) (count : ℕ) → insertAnswer w t rule (length plan) ≡ success (count ∷ [])
     → Reached w (insert rule ∷ history) (afterCalls w t (insertPlan w t rule plan) rule count count .table)
 reached-insert {w} {history} {t} reached rule small plan count accepted =
-    Reached.inserted history t reached rule small plan count accepted count (demand-2-insert w t rule plan count small accepted .finished count (omega arith))
+    let d = demand-2-insert w t rule plan count small accepted in
+    let buffer = insertPlan w t rule plan in
+    Reached.inserted history t reached rule small plan count accepted buffer (lent-whole buffer count (demand-2-room d)) count (d .finished count (omega arith))
 
 pub reached-delete : {w : ℕ} {history : List Change} {t : List ℕ} → Reached w history t → (id : ℕ) (plan : List ℕ) (count : ℕ)
     → deleteAnswer w t id (length plan) ≡ success (count ∷ []) → (rule : Rule)
     → Reached w (delete id ∷ history) (afterCalls w t (deletePlan w t id plan) rule count count .table)
 reached-delete {w} {history} {t} reached id plan count accepted rule =
-    Reached.deleted history t reached id plan count accepted rule count (demand-2-delete w t id plan count rule accepted .finished count (omega arith))
+    let d = demand-2-delete w t id plan count rule accepted in
+    let buffer = deletePlan w t id plan in
+    Reached.deleted history t reached id plan count accepted rule buffer (lent-whole buffer count (demand-2-room d)) count (d .finished count (omega arith))
 
 -- demand 2 in one piece, within a plan of a history: the replies of its rules until the last write, and those of the changed rules from it on
 pub reached-within : {w : ℕ} {history : List Change} {t plan : List ℕ} {rule : Rule} {words : List ℕ} {count : ℕ} {change : List Rule → List Rule}

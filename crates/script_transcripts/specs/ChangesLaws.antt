@@ -29,7 +29,7 @@ use Rattle.insert_plans.specs.Inserts.{insertWords}
 use Rattle.histories.specs.RuleSet.{Change, insert, delete, ruleSet, highestMatch, ruleReply}
 use Rattle.histories.specs.Histories.{Reached, emptyTable}
 use Rattle.histories.specs.Demand2Laws.{demand-2-insert, demand-2-delete, carried-whole}
-use Rattle.histories.specs.HistoriesLaws.{reached-sound, reached-lookup}
+use Rattle.histories.specs.HistoriesLaws.{reached-sound, reached-lookup, reached-insert, reached-delete}
 use Rattle.script_text.specs.Parts.{parts}
 use Rattle.script_text.specs.Decimal.{decimal}
 use Rattle.script_lines.specs.Lines.{nextNumber}
@@ -127,8 +127,7 @@ module _ (history : List Change) (t : List ℕ) (reached : Reached 2 history t) 
       let words = insertWords 2 t rule in
       let count = length words in
       let accepted = sym (buffer-written words words refl e (omega arith) .0) in
-      let carried = demand-2-insert 2 t rule words count small accepted in
-      let after = Reached.inserted history t reached rule small words count accepted count (carried .finished count (omega arith)) in
+      let after = reached-insert reached rule small words count accepted in
       let made = carried-whole (demand-2-insert 2 t rule words count small accepted) in
       let there : Reached 2 (insert rule ∷ history) (applyWords 2 t rule words) = subst (Reached 2 (insert rule ∷ history)) made after in
       rw e there
@@ -140,8 +139,7 @@ module _ (history : List Change) (t : List ℕ) (reached : Reached 2 history t) 
   delete-reached id Pass e =
       let words = deleteWords 2 t id in
       let accepted = sym (buffer-written words words refl e (omega arith) .0) in
-      let carried = demand-2-delete 2 t id words 1 noRule accepted in
-      let after = Reached.deleted history t reached id words 1 accepted noRule 1 (carried .finished 1 (omega arith)) in
+      let after = reached-delete reached id words 1 accepted noRule in
       let made = carried-whole (demand-2-delete 2 t id words 1 noRule accepted) in
       let there : Reached 2 (delete id ∷ history) (applyWords 2 t noRule words) = subst (Reached 2 (delete id ∷ history)) made after in
       rw e there

@@ -1,10 +1,11 @@
--- End theorems on carrying out through a lent record: each call joined with the state that demand 2 speaks of.
-use mathlib.Core.Path.{_≡_, ap₂, _∙_}
+-- End theorems on carrying out through a lent record: each call joined with the state that demand 2 speaks of, whatever part of the plan it is lent.
+use mathlib.Core.Path.{_≡_, ap, ap₂, _∙_}
 use mathlib.Core.List.{List}
 use Prim.Native.Nat.{ℕ, suc}
 use Rattle.records.specs.declared.Rule.{Rule}
 use Rattle.carrying.specs.Carrying.{stepAnswer, stepTable, stepDone}
-use Rattle.carrying.specs.Calls.{afterCalls, callAnswer}
+use Rattle.carrying.specs.Calls.{afterCalls, callAnswer, Lent}
+use Rattle.carrying.specs.CallsLaws.{step-lent}
 use Rattle.marshalling.specs.Carried.{carryResult}
 use Rattle.tcam.specs.declared.carry.Progress.{Progress}
 use Rattle.tcam.specs.Carried.{CarryLeft}
@@ -22,3 +23,16 @@ carry-call t plan rule total calls result after progress progress′ e f left =
       left .advanced ∙ ap₂ (λ (d n : ℕ). stepDone 2 u plan rule d n) e f,
       left .in-all ∙ f,
     )
+
+-- a call that is lent the count's words of a plan buffer, or any number more, returns and leaves what one with the whole buffer does; so the law above
+-- speaks of it too, even where one call is lent more than another
+pub carry-lent : (t plan lent : List ℕ) (rule : Rule) (progress : Progress) (result : ℕ) (after : List ℕ) (progress′ : Progress)
+    → Lent plan (progress .total) lent → CarryLeft t lent rule progress result after progress′ → CarryLeft t plan rule progress result after progress′
+carry-lent t plan lent rule progress result after progress′ is left =
+    let same = step-lent 2 plan lent rule (progress .total) is t (progress .done) in
+    record {
+      told = left .told ∙ ap carryResult (same .0);
+      table = left .table ∙ same .1;
+      advanced = left .advanced ∙ same .2;
+      in-all = left .in-all;
+    }
