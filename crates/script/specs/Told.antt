@@ -1,5 +1,4 @@
 -- What each command is answered on the table that it finds: letter, number and values.
--- A plan's buffer of 1,024 words is never too short.
 use mathlib.Core.Bool.{cond, _&&_}
 use mathlib.Core.List.{List, [], _∷_}
 use Prim.Native.Nat.{ℕ}
@@ -8,12 +7,10 @@ use Rattle.records.specs.Record.{word}
 use Rattle.records.specs.Checks.{success, refusal}
 use Rattle.records.specs.declared.Cause.the-variants.{Shape, Line}
 use Rattle.lookups.specs.Lookup.{lookupAnswer}
-use Rattle.delete_plans.specs.Deletes.{deleteAnswer}
-use Rattle.insert_plans.specs.Inserts.{insertAnswer}
 use Rattle.script_commands.specs.Commands.{insertedRule, keyOf}
 use Rattle.script_commands.specs.declared.Command.{Command}
 use Rattle.script_commands.specs.declared.Command.the-variants.{Table, Insert, Delete, Lookup, Malformed}
-use Rattle.script_operations.specs.Told.{LineTold, lettered, changeTold, lookedTold}
+use Rattle.script_operations.specs.Told.{LineTold, lettered, insertTold, deleteTold, lookedTold}
 
 -- `T slots`
 unfoldable pub tableTold : ℕ → LineTold
@@ -22,7 +19,7 @@ tableTold slots = cond (leb 1 slots && leb slots 1024) (lettered 78 (success (sl
 -- what a command is answered, on a table, in a line of this number
 abbrev pub commandTold : List ℕ → ℕ → Command → LineTold
 commandTold t number (Table new) = tableTold (new .slots)
-commandTold t number (Insert insertion) = changeTold (insertAnswer 2 t (insertedRule insertion) 1024)
-commandTold t number (Delete deletion) = changeTold (deleteAnswer 2 t (deletion .id) 1024)
+commandTold t number (Insert insertion) = insertTold t (insertedRule insertion)
+commandTold t number (Delete deletion) = deleteTold t (deletion .id)
 commandTold t number (Lookup query) = lookedTold (lookupAnswer 2 t (word (keyOf query)))
 commandTold t number Malformed = lettered 82 (refusal Line number)

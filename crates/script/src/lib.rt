@@ -22,12 +22,10 @@ ghost use Rattle.records.specs.Checks.{refusal};
 ghost use Rattle.records.specs.declared.Cause.the-variants.{Line};
 ghost use Rattle.records.specs.Record.{word};
 ghost use Rattle.lookups.specs.Lookup.{lookupAnswer};
-ghost use Rattle.delete_plans.specs.Deletes.{deleteAnswer};
-ghost use Rattle.insert_plans.specs.Inserts.{insertAnswer};
 ghost use Rattle.script_printing.specs.Printing.{Shown};
 ghost use Rattle.script_commands.specs.Commands.{commandOf};
 ghost use Rattle.script_answers.specs.Answers.{refusalBytes};
-ghost use Rattle.script_operations.specs.Told.{lettered, lineTold, changeTold, lookedTold};
+ghost use Rattle.script_operations.specs.Told.{lettered, lineTold, insertTold, deleteTold, lookedTold};
 ghost use Rattle.script_operations.specs.Outcomes.{insertOutcome, deleteOutcome};
 ghost use Rattle.script.specs.Told.{tableTold, commandTold};
 ghost use Rattle.script.specs.Script.{tableOutcome, lookupOutcome, commandOutcome, lineOutcome, tableIn, Left};
@@ -77,7 +75,7 @@ fn new_table(memory: &mut [u64], present: usize, slots: u32, out: &mut [u8; 1434
 fn insert_in(memory: &mut [u64], present: usize, rule: Rule, out: &mut [u8; 14343]) -> Ran
     requires { ⌜ (length (now memory) ≡ 6144) × (present ≤ 1024) ⌝ }
     ensures { λ r. ⌜ Left (insertOutcome (tableIn (now (memory .entry)) present) rule) r (now (memory .entry)) (now (memory .exit)) (now (out .entry)) (now (out .exit)) ⌝ }
-    ensures { λ r. ⌜ lineTold (r .answer) ≡ changeTold (insertAnswer 2 (tableIn (now (memory .entry)) present) rule 1024) ⌝ }
+    ensures { λ r. ⌜ lineTold (r .answer) ≡ insertTold (tableIn (now (memory .entry)) present) rule ⌝ }
 {
     let said = insert_line(&mut memory[..present * 6], rule, out);
     let answer = said.answer;
@@ -91,7 +89,7 @@ fn insert_in(memory: &mut [u64], present: usize, rule: Rule, out: &mut [u8; 1434
 fn delete_in(memory: &mut [u64], present: usize, id: u32, out: &mut [u8; 14343]) -> Ran
     requires { ⌜ (length (now memory) ≡ 6144) × (present ≤ 1024) ⌝ }
     ensures { λ r. ⌜ Left (deleteOutcome (tableIn (now (memory .entry)) present) id) r (now (memory .entry)) (now (memory .exit)) (now (out .entry)) (now (out .exit)) ⌝ }
-    ensures { λ r. ⌜ lineTold (r .answer) ≡ changeTold (deleteAnswer 2 (tableIn (now (memory .entry)) present) id 1024) ⌝ }
+    ensures { λ r. ⌜ lineTold (r .answer) ≡ deleteTold (tableIn (now (memory .entry)) present) id ⌝ }
 {
     let said = delete_line(&mut memory[..present * 6], id, out);
     let answer = said.answer;

@@ -1,9 +1,7 @@
 -- Document 01's answers, each a list of bytes.
 -- `N slots`; `P count` and then `W from to` per copy, `W - to` for the new rule, `E slot` for emptying; `A slot id action`; `M`; `R number spot`.
-use mathlib.Core.Bool.{cond}
 use mathlib.Core.List.{List, [], _∷_, _++_}
 use Prim.Native.Nat.{ℕ}
-use lib.Dec.{leb}
 use lib.ListN.{length}
 use Rattle.layout.specs.Write.{Write, copy, put, clear}
 use Rattle.plan_words.specs.PlanWords.{writeOf}
@@ -36,6 +34,6 @@ unfoldable pub printedWrites : List ℕ → List ℕ
 printedWrites [] = []
 printedWrites (word ∷ words) = printedWrite (writeOf word) ++ printedWrites words
 
--- `P count` and then a line per plan word; a plan never has more than 1,024
+-- `P count`, the number of plan words, and then a line for each of them
 unfoldable pub planBytes : List ℕ → List ℕ
-planBytes words = cond (leb (length words) 1024) (printed 80 (length words ∷ []) ++ printedWrites words) []
+planBytes words = printed 80 (length words ∷ []) ++ printedWrites words

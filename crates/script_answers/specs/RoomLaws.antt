@@ -8,7 +8,6 @@ use native.Mathlib.Numerals.{add-one}
 use native.Mathlib.Decide.{ℕ-discrete}
 use lib.ListN.{length, getD, take, length-append}
 use lib.Seq.{take-suc, take-all}
-use borrow.Author.Tests.{lt-leb, le-leb}
 use Rattle.layout.specs.Write.{copy, put, clear}
 use Rattle.plan_words.specs.PlanWords.{putIn, emptying, fromOf, toOf, writeOf}
 use Rattle.plan_words.specs.PlanWordsLaws.{word-puts, word-clears, word-copies}
@@ -16,7 +15,7 @@ use Rattle.script_text.specs.Decimal.{digitsOf}
 use Rattle.script_text.specs.DecimalLaws.{digits-few}
 use Rattle.script_printing.specs.PrintedLines.{printed}
 use Rattle.script_printing.specs.PrintedLinesLaws.{digits-5, length-one, length-two}
-use Rattle.script_answers.specs.Answers.{printedWrite, printedWrites, planBytes}
+use Rattle.script_answers.specs.Answers.{printedWrite, printedWrites}
 
 pub length-put : (to : ℕ) → length (printedWrite (put to)) ≡ 5 + length (digitsOf to)
 length-put to = simp length-append (omega arith)
@@ -40,15 +39,6 @@ line-short word h = by (ℕ-discrete (fromOf word) putIn) (ℕ-discrete (fromOf 
 
 pub count-short : (count : ℕ) → count ≤ 1024 → length (printed 80 (count ∷ [])) ≤ 7
 count-short count h = omega (arith, length-one 80 count, digits-few 3 count (omega arith))
-
--- a plan's bytes
-pub plan-long : (words : List ℕ) → 1024 < length words → [] ≡ planBytes words
-unfolding planBytes
-plan-long words h = rw (lt-leb (length words) 1024 h)
-
-pub plan-fits : (words : List ℕ) → length words ≤ 1024 → printed 80 (length words ∷ []) ++ printedWrites words ≡ planBytes words
-unfolding planBytes
-plan-fits words h = rw (le-leb (length words) 1024 h)
 
 -- the lines of one word more
 writes-append : (x : List ℕ) (w : ℕ) → printedWrites (x ++ w ∷ []) ≡ printedWrites x ++ printedWrite (writeOf w)

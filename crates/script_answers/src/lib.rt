@@ -1,5 +1,7 @@
 // Answers as bytes: each is written at the start of a lent buffer, and its length is answered; bytes after it stay untouched.
 // The buffer has room for the longest answer, a plan of 1,024 words: 7 bytes for its count and at most 14 for each word.
+ghost use Prim.Native.Nat.{_≤_};
+ghost use lib.ListN.{length};
 ghost use Rattle.script_printing.specs.Printing.{Shown};
 ghost use Rattle.script_answers.specs.Answers.{tableBytes, planBytes, hitBytes, missBytes, refusalBytes};
 use crate::writes::miss_line;
@@ -17,8 +19,9 @@ pub fn print_table(out: &mut [u8; 14343], slots: u32) -> usize
     line_of_one(out, 0, 78, slots as u64)
 }
 
-// `P count` and then a line per plan word; nothing for more than 1,024 words, which no plan has.
+// `P count` and then a line for each plan word; the buffer has room for 1,024.
 pub fn print_plan(out: &mut [u8; 14343], words: &[u32]) -> usize
+    requires { ⌜ length (now words) ≤ 1024 ⌝ }
     ensures { λ r. ⌜ Shown (now (out .entry)) (planBytes (now (words .entry))) r (now (out .exit)) ⌝ }
 {
     put_plan(out, words)

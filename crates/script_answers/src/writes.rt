@@ -77,14 +77,11 @@ fn put_writes(out: &mut [u8], at: usize, words: &[u32]) -> usize
     end
 }
 
-// The lines of a plan of at most 1,024 words, at the buffer's start; nothing for more words.
+// The lines of a plan, at the buffer's start.
 pub fn put_plan(out: &mut [u8], words: &[u32]) -> usize
-    requires { ⌜ 14343 ≤ length (now out) ⌝ }
+    requires { ⌜ (length (now words) ≤ 1024) × (14343 ≤ length (now out)) ⌝ }
     ensures { λ r. ⌜ Printed (now (out .entry)) 0 (planBytes (now (words .entry))) r (now (out .exit)) ⌝ }
 {
-    if 1024 < words.len() {
-        return 0;
-    }
     let next = line_of_one(out, 0, 80, words.len() as u64);
     put_writes(out, next, words)
 }

@@ -8,6 +8,7 @@ use lib.Dec.{eqb}
 use lib.ListN.{length, getD, take, drop, length-append, length-drop}
 use native.Mathlib.Omega.{arith}
 use lib.Seq.{take-append-seam}
+use borrow.Author.Tests.{le-ltb}
 use Rattle.records.specs.Checks.{Told, causeNumber, success, refusal}
 use Rattle.records.specs.Writes.{applyWords}
 use Rattle.records.specs.declared.Rule.{Rule}
@@ -16,7 +17,7 @@ use Rattle.records.specs.declared.Check.the-variants.{Pass, Fail}
 use Rattle.records.specs.Laws.{cause-not-zero, slot-checks-law, table-checks-law}
 use Rattle.records.specs.declared.Cause.{Cause}
 use Rattle.records.specs.EntriesLaws.{shaped-slots}
-use Rattle.buffers.specs.Buffers.{bufferAnswer, bufferAfter}
+use Rattle.buffers.specs.Buffers.{bufferAnswer, bufferAfter, checkRoom}
 use Rattle.buffers.specs.BuffersLaws.{buffer-refused, buffer-written}
 use Rattle.neighbours.specs.Neighbours.{insertChecks}
 use Rattle.delete_plans.specs.Deletes.{deleteChecks, deleteWords, deleteAnswer, deletePlan}
@@ -30,6 +31,7 @@ use Rattle.script_printing.specs.Printing.{Shown}
 use Rattle.script_answers.specs.Answers.{planBytes, refusalBytes}
 use Rattle.script_operations.specs.Outcomes.{outcomeOf, lookupBytes, changeOutcome, insertOutcome, deleteOutcome, noRule, Changed, WithinRoom}
 use Rattle.script_operations.specs.Outcomes.{planOutcome}
+use Rattle.script_operations.specs.Told.{changeTold, insertTold, deleteTold, plannedTold}
 
 -- a plan's answer is carried out and printed, or the refusal is
 module _ (t plan : List ℕ) (rule : Rule) {told : Told} {r : ℕ} {out out′ : List ℕ} where
@@ -69,6 +71,13 @@ plan-is t rule Pass words plan after long made =
           ∙ ap₂ (λ (a b : List ℕ). outcomeOf a (planBytes b)) (made refl) front,
     )
 
+-- and its answer is the change's
+told-is : (checks : Check) (words : List ℕ) (room : ℕ) → (checks ≡ Pass → length words ≤ room)
+    → plannedTold (bufferAnswer checks (length words) room) ≡ changeTold checks words
+unfolding bufferAnswer checkRoom
+told-is (Fail cause spot) words room long = rw (cause-not-zero cause)
+told-is Pass words room long = rw (le-ltb room (length words) (long refl))
+
 -- the plan of an insert has at most as many words as the table has slots
 insert-short : (t : List ℕ) (rule : Rule) → rule .action < 4294967296 → insertChecks 2 t rule ≡ Pass → length (insertWords 2 t rule) ≤ 1024
 insert-short t rule small e =
@@ -88,6 +97,12 @@ insert-is t rule plan plan′ told small n e f =
     (λ p. carried-whole (demand-2-insert 2 t rule plan (length words) small (sym (buffer-written words plan refl p (long p) .0)))) in
     subst₂ (λ (x : Told) (y : List ℕ). WithinRoom x (length y) × (planOutcome x t y rule ≡ insertOutcome t rule)) (sym e) (sym f) r
 
+pub insert-told : (t : List ℕ) (rule : Rule) (room : ℕ) (told : Told) → rule .action < 4294967296 → room ≡ 1024
+    → told ≡ insertAnswer 2 t rule room → plannedTold told ≡ insertTold t rule
+unfolding insertTold
+insert-told t rule room told small n e =
+    ap plannedTold e ∙ told-is (insertChecks 2 t rule) (insertWords 2 t rule) room (λ p. omega (arith, insert-short t rule small p, n))
+
 -- a D line
 pub delete-is : (t : List ℕ) (id : ℕ) (plan plan′ : List ℕ) (told : Told) → length plan ≡ 1024
     → told ≡ deleteAnswer 2 t id (length plan) → plan′ ≡ deletePlan 2 t id plan
@@ -98,6 +113,10 @@ delete-is t id plan plan′ told n e f =
     let r = plan-is t noRule (deleteChecks 2 t id) words plan (applyWords 2 t noRule words) (λ p. omega (arith, n))
     (λ p. carried-whole (demand-2-delete 2 t id plan 1 noRule (sym (buffer-written words plan refl p (omega (arith, n)) .0)))) in
     subst₂ (λ (x : Told) (y : List ℕ). WithinRoom x (length y) × (planOutcome x t y noRule ≡ deleteOutcome t id)) (sym e) (sym f) r
+
+pub delete-told : (t : List ℕ) (id room : ℕ) (told : Told) → room ≡ 1024 → told ≡ deleteAnswer 2 t id room → plannedTold told ≡ deleteTold t id
+unfolding deleteTold
+delete-told t id room told n e = ap plannedTold e ∙ told-is (deleteChecks 2 t id) (deleteWords 2 t id) room (λ p. omega (arith, n))
 
 -- the same of what is left
 pub changed-is : {a b : Outcome (List ℕ)} {r : ℕ} {after out out′ : List ℕ} → a ≡ b → Changed a r after out out′ → Changed b r after out out′

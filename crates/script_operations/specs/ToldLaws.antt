@@ -8,11 +8,11 @@ use Rattle.records.specs.Laws.{cause-not-zero, cause-number-once}
 use Rattle.records.specs.declared.Cause.{Cause}
 use Rattle.script_operations.specs.declared.LineAnswer.{LineAnswer}
 use Rattle.script_operations.specs.declared.LineAnswer.the-variants.{Made, Planned, Found, Miss, Refused}
-use Rattle.script_operations.specs.Told.{lookedTold, lineTold, lettered, LineTold, changeTold}
+use Rattle.script_operations.specs.Told.{lookedTold, lineTold, lettered, LineTold, plannedTold}
 
 -- a refusal is one for either call
-pub change-refused : (cause : Cause) (spot : ℕ) → lettered 82 (refusal cause spot) ≡ changeTold (refusal cause spot)
-change-refused cause spot = rw (cause-not-zero cause)
+pub planned-refused : (cause : Cause) (spot : ℕ) → lettered 82 (refusal cause spot) ≡ plannedTold (refusal cause spot)
+planned-refused cause spot = rw (cause-not-zero cause)
 
 pub looked-refused : (cause : Cause) (spot : ℕ) → lettered 82 (refusal cause spot) ≡ lookedTold (refusal cause spot)
 looked-refused cause spot = rw (cause-not-zero cause)

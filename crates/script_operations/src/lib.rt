@@ -17,16 +17,15 @@ use script_answers::print_refusal;
 use script_commands::NewTable;
 use steps::whole::carry_whole;
 ghost use mathlib.Core.Path.{_≡_};
+ghost use Prim.Native.Nat.{_≤_};
 ghost use lib.ListN.{length};
 ghost use Rattle.records.specs.Checks.{causeNumber};
 ghost use Rattle.records.specs.Record.{word};
 ghost use Rattle.buffers.specs.Buffers.{planTold};
 ghost use Rattle.lookups.specs.Lookup.{lookupAnswer, lookupTold};
-ghost use Rattle.delete_plans.specs.Deletes.{deleteAnswer};
-ghost use Rattle.insert_plans.specs.Inserts.{insertAnswer};
 ghost use Rattle.script_printing.specs.Printing.{Shown};
 ghost use Rattle.script_answers.specs.Answers.{refusalBytes};
-ghost use Rattle.script_operations.specs.Told.{lineTold, changeTold, lookedTold};
+ghost use Rattle.script_operations.specs.Told.{lineTold, insertTold, deleteTold, plannedTold, lookedTold};
 ghost use Rattle.script_operations.specs.Outcomes.{lookupBytes, insertOutcome, deleteOutcome, Changed, planOutcome, WithinRoom};
 
 // What a line is answered: the slots of the new table, a plan's count, a hit or a miss, or a refusal.
@@ -46,7 +45,7 @@ pub struct Said {
 
 // A planning call's answer as a line's.
 fn of_plan(answer: PlanAnswer) -> LineAnswer
-    ensures { λ r. ⌜ lineTold r ≡ changeTold (planTold answer) ⌝ }
+    ensures { λ r. ⌜ lineTold r ≡ plannedTold (planTold answer) ⌝ }
 {
     match answer {
         PlanAnswer::Planned(info) => LineAnswer::Planned(info),
@@ -105,7 +104,7 @@ fn carry_and_print(
     rule: Rule,
     out: &mut [u8; 14343],
 ) -> usize
-    requires { ⌜ WithinRoom (planTold answer) (length (now plan)) ⌝ }
+    requires { ⌜ WithinRoom (planTold answer) (length (now plan)) × (length (now plan) ≤ 1024) ⌝ }
     ensures { λ r. ⌜ Changed (planOutcome (planTold answer) (now (table .entry)) (now (plan .entry)) rule) r (now (table .exit)) (now (out .entry)) (now (out .exit)) ⌝ }
 {
     match answer {
@@ -121,7 +120,7 @@ fn carry_and_print(
 fn insert(table: &mut [u64], rule: Rule, plan: &mut [u32], out: &mut [u8; 14343]) -> Said
     requires { ⌜ length (now plan) ≡ 1024 ⌝ }
     ensures { λ r. ⌜ Changed (insertOutcome (now (table .entry)) rule) (r .length) (now (table .exit)) (now (out .entry)) (now (out .exit)) ⌝ }
-    ensures { λ r. ⌜ lineTold (r .answer) ≡ changeTold (insertAnswer 2 (now (table .entry)) rule 1024) ⌝ }
+    ensures { λ r. ⌜ lineTold (r .answer) ≡ insertTold (now (table .entry)) rule ⌝ }
 {
     let answer = plan_insert(table, rule, plan);
     let length = carry_and_print(answer, table, plan, rule, out);
@@ -135,7 +134,7 @@ fn insert(table: &mut [u64], rule: Rule, plan: &mut [u32], out: &mut [u8; 14343]
 fn delete(table: &mut [u64], id: u32, plan: &mut [u32], out: &mut [u8; 14343]) -> Said
     requires { ⌜ length (now plan) ≡ 1024 ⌝ }
     ensures { λ r. ⌜ Changed (deleteOutcome (now (table .entry)) id) (r .length) (now (table .exit)) (now (out .entry)) (now (out .exit)) ⌝ }
-    ensures { λ r. ⌜ lineTold (r .answer) ≡ changeTold (deleteAnswer 2 (now (table .entry)) id 1024) ⌝ }
+    ensures { λ r. ⌜ lineTold (r .answer) ≡ deleteTold (now (table .entry)) id ⌝ }
 {
     let answer = plan_delete(table, id, plan);
     let rule = Rule {
@@ -155,7 +154,7 @@ fn delete(table: &mut [u64], id: u32, plan: &mut [u32], out: &mut [u8; 14343]) -
 // An I line.
 pub fn insert_line(table: &mut [u64], rule: Rule, out: &mut [u8; 14343]) -> Said
     ensures { λ r. ⌜ Changed (insertOutcome (now (table .entry)) rule) (r .length) (now (table .exit)) (now (out .entry)) (now (out .exit)) ⌝ }
-    ensures { λ r. ⌜ lineTold (r .answer) ≡ changeTold (insertAnswer 2 (now (table .entry)) rule 1024) ⌝ }
+    ensures { λ r. ⌜ lineTold (r .answer) ≡ insertTold (now (table .entry)) rule ⌝ }
 {
     let mut plan = [0u32; 1024];
     insert(table, rule, &mut plan, out)
@@ -164,7 +163,7 @@ pub fn insert_line(table: &mut [u64], rule: Rule, out: &mut [u8; 14343]) -> Said
 // A D line.
 pub fn delete_line(table: &mut [u64], id: u32, out: &mut [u8; 14343]) -> Said
     ensures { λ r. ⌜ Changed (deleteOutcome (now (table .entry)) id) (r .length) (now (table .exit)) (now (out .entry)) (now (out .exit)) ⌝ }
-    ensures { λ r. ⌜ lineTold (r .answer) ≡ changeTold (deleteAnswer 2 (now (table .entry)) id 1024) ⌝ }
+    ensures { λ r. ⌜ lineTold (r .answer) ≡ deleteTold (now (table .entry)) id ⌝ }
 {
     let mut plan = [0u32; 1024];
     delete(table, id, &mut plan, out)

@@ -48,7 +48,7 @@ use Rattle.script.specs.Script.{tableOutcome, commandOutcome, lineOutcome}
 use Rattle.script_transcripts.specs.Changes.{historyOf, historyAfter, Since, AnswerOf}
 
 -- an insert that a line tells has an action of 32 bits
-abbrev Small : Command → Type 0
+abbrev pub Small : Command → Type 0
 Small (Table new) = Unit {0}
 Small (Insert insertion) = insertion .action < 4294967296
 Small (Delete deletion) = Unit {0}
@@ -95,7 +95,7 @@ fields-small (l ∷ id ∷ priority ∷ pattern ∷ number ∷ []) =
     small-if (eqb (letterOf l) 73) (insertCommand id priority pattern number) Malformed (λ e. insert-small id priority pattern number) tt
 fields-small (l ∷ a ∷ b ∷ c ∷ d ∷ e ∷ more) = tt
 
-line-small : (line : List ℕ) → Small (commandOf line)
+pub line-small : (line : List ℕ) → Small (commandOf line)
 unfolding commandOf
 line-small line = small-if (leb (length line) 256) (ofFields (parts 32 line)) Malformed (λ e. fields-small (parts 32 line)) tt
 
@@ -260,11 +260,7 @@ script-lookup lines number line query e = pick (script-since lines)
 -- A line that is declined leaves the table as it was: one whose answer starts with R.
 plan-first : (words : List ℕ) → getD (planBytes words) 0 0 ≡ 82 → ⊥
 unfolding planBytes
-plan-first words = by (leb (length words) 1024)
-  where
-    by : (b : Bool) → getD (cond b (printed 80 (length words ∷ []) ++ printedWrites words) []) 0 0 ≡ 82 → ⊥
-    by true e = let n : _≡_ {A = ℕ} 80 82 = e in omega arith
-    by false e = let n : _≡_ {A = ℕ} 0 82 = e in omega arith
+plan-first words e = let n : _≡_ {A = ℕ} 80 82 = e in omega arith
 
 change-kept : (t : List ℕ) (x : Check) (words after : List ℕ) → getD (changeOutcome t x words after .printed) 0 0 ≡ 82 → changeOutcome t x words after .table ≡ t
 change-kept t Pass words after e = absurd (plan-first words e)

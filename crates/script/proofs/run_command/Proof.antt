@@ -6,10 +6,8 @@ use Prim.Native.Nat.{ℕ}
 use denote.Ref.{now}
 use borrow.Author.Needs.{needs}
 use Rattle.records.specs.Record.{word}
-use Rattle.records.specs.declared.Rule.{Rule}
 use Rattle.lookups.specs.Lookup.{lookupAnswer}
-use Rattle.insert_plans.specs.Inserts.{insertAnswer}
-use Rattle.script_operations.specs.Told.{changeTold, lookedTold}
+use Rattle.script_operations.specs.Told.{insertTold, lookedTold}
 use Rattle.script_operations.specs.Outcomes.{insertOutcome}
 use Rattle.script.specs.Told.{commandTold}
 use Rattle.script.specs.Script.{lookupOutcome, commandOutcome, tableIn}
@@ -76,7 +74,7 @@ returns-2 c =
     let same = sym (c .before .before .before .before .before .before .before .command2 .given .1) in
     let did = c .before .before .insert-in in (
       left-is (ap (insertOutcome t) (c .before .before .before .before .inserted-rule .ensures) ∙ ap (commandOutcome t (a .number)) same) (did .ensures .0),
-      did .ensures .1 ∙ (ap (λ (x : Rule). changeTold (insertAnswer 2 t x 1024)) (c .before .before .before .before .inserted-rule .ensures) ∙ ap (commandTold t (a .number)) same),
+      did .ensures .1 ∙ (ap (insertTold t) (c .before .before .before .before .inserted-rule .ensures) ∙ ap (commandTold t (a .number)) same),
     )
 
 same-length-3 : tie.Need-same-length-3

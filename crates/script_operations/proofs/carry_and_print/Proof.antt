@@ -1,7 +1,8 @@
 -- `script_operations::carry_and_print` meets its contract.
 -- Both cases of the answer: the plan carried out and printed, or the refusal.
 use mathlib.Core.Path.{refl, sym, ap, subst}
-use lib.ListN.{length}
+use native.Mathlib.Omega.{arith}
+use lib.ListN.{length, length-take}
 use lib.Seq.{length-take-le}
 use denote.Ref.{now}
 use borrow.Author.Needs.{needs}
@@ -24,10 +25,12 @@ cast-print-plan c = search needs
 slice-aggregate-print-plan : tie.Need-slice-aggregate-print-plan
 slice-aggregate-print-plan c =
     let a = c .before .before .before .before .before .before .before .before .before .before .before .before in
-    sym (length-take-le _ (a .args .plan .now) (subst (λ (x : Told). WithinRoom x (length (a .args .plan .now))) (ap planTold (c .before .before .before .before .before .before .before .before .answer .given .1)) (a .pre) refl))
+    sym (length-take-le _ (a .args .plan .now) (subst (λ (x : Told). WithinRoom x (length (a .args .plan .now))) (ap planTold (c .before .before .before .before .before .before .before .before .answer .given .1)) (a .pre .0) refl))
 
 print-plan-requires : tie.Need-print-plan-requires
-print-plan-requires c κs = search needs
+print-plan-requires c κs =
+    let a = c .before .before .before .before .before .before .before .before .before .before .before .before in
+    omega (arith, length-take (c .before .before .before .before .before .before .before .before .answer .given .0 .0 .count) (a .args .plan .now), a .pre .1)
 
 enum-known-answer-2 : tie.Need-enum-known-answer-2
 enum-known-answer-2 c = search needs

@@ -1,11 +1,10 @@
 -- `script_operations::delete` meets its contract.
 -- The plan is carried out and printed, and the answer is the planning call's.
-use mathlib.Core.Path.{ap, _∙_}
+use mathlib.Core.Path.{_∙_}
+use native.Mathlib.Omega.{arith}
 use denote.Ref.{now}
 use borrow.Author.Needs.{needs}
-use Rattle.delete_plans.specs.Deletes.{deleteAnswer}
-use Rattle.script_operations.specs.Told.{changeTold}
-use Rattle.script_operations.specs.OutcomesLaws.{delete-is, changed-is}
+use Rattle.script_operations.specs.OutcomesLaws.{delete-is, delete-told, changed-is}
 use Rattle.script_operations.proofs.delete.Statement.{statement}
 use Rattle.script_operations.proofs.delete.Tie as tie
 
@@ -16,7 +15,7 @@ carry-and-print-requires : tie.Need-carry-and-print-requires
 carry-and-print-requires c κs =
     let s = c .before .before .before .before .before .before .before .before .before .before in
     let p = c .before .before .before .before .before .plan-delete in
-    delete-is (now (s .args .table)) (s .args .id) (now (s .args .plan)) (p .last .1 .1 .0) _ (s .pre) (p .ensures .0) (p .ensures .1) .0
+    (delete-is (now (s .args .table)) (s .args .id) (now (s .args .plan)) (p .last .1 .1 .0) _ (s .pre) (p .ensures .0) (p .ensures .1) .0, omega (arith, p .kept .1 .1 .0, s .pre))
 
 of-plan-requires : tie.Need-of-plan-requires
 of-plan-requires c κs = search needs
@@ -32,7 +31,7 @@ returns c =
     let s = c .before .before .before .before .before .before .before .before .before .before .before .before .before .before in
     let p = c .before .before .before .before .before .before .before .before .before .plan-delete in (
       changed-is (delete-is (now (s .args .table)) (s .args .id) (now (s .args .plan)) (p .last .1 .1 .0) _ (s .pre) (p .ensures .0) (p .ensures .1) .1) (c .before .before .before .carry-and-print .ensures),
-      c .of-plan .ensures ∙ ap changeTold (p .ensures .0 ∙ ap (deleteAnswer 2 (now (s .args .table)) (s .args .id)) (s .pre)),
+      c .of-plan .ensures ∙ delete-told (now (s .args .table)) (s .args .id) _ _ (s .pre) (p .ensures .0),
     )
 
 pub delete-spec : {M : Type 1} → statement M

@@ -1,12 +1,10 @@
 -- `script_operations::insert` meets its contract.
 -- The plan is carried out and printed, and the answer is the planning call's.
-use mathlib.Core.Path.{ap, _∙_}
+use mathlib.Core.Path.{_∙_}
 use native.Mathlib.Omega.{arith}
 use denote.Ref.{now}
 use borrow.Author.Needs.{needs}
-use Rattle.insert_plans.specs.Inserts.{insertAnswer}
-use Rattle.script_operations.specs.Told.{changeTold}
-use Rattle.script_operations.specs.OutcomesLaws.{insert-is, changed-is}
+use Rattle.script_operations.specs.OutcomesLaws.{insert-is, insert-told, changed-is}
 use Rattle.script_operations.proofs.insert.Statement.{statement}
 use Rattle.script_operations.proofs.insert.Tie as tie
 
@@ -17,7 +15,7 @@ carry-and-print-requires : tie.Need-carry-and-print-requires
 carry-and-print-requires c κs =
     let s = c .before .before .before .before .before .before .before .before .before .before in
     let p = c .before .before .before .before .before .plan-insert in
-    insert-is (now (s .args .table)) (s .args .rule) (now (s .args .plan)) (p .last .1 .1 .0) _ (omega arith) (s .pre) (p .ensures .0) (p .ensures .1 .0) .0
+    (insert-is (now (s .args .table)) (s .args .rule) (now (s .args .plan)) (p .last .1 .1 .0) _ (omega arith) (s .pre) (p .ensures .0) (p .ensures .1 .0) .0, omega (arith, p .kept .1 .1 .0, s .pre))
 
 of-plan-requires : tie.Need-of-plan-requires
 of-plan-requires c κs = search needs
@@ -33,7 +31,7 @@ returns c =
     let s = c .before .before .before .before .before .before .before .before .before .before .before .before .before .before in
     let p = c .before .before .before .before .before .before .before .before .before .plan-insert in (
       changed-is (insert-is (now (s .args .table)) (s .args .rule) (now (s .args .plan)) (p .last .1 .1 .0) _ (omega arith) (s .pre) (p .ensures .0) (p .ensures .1 .0) .1) (c .before .before .before .carry-and-print .ensures),
-      c .of-plan .ensures ∙ ap changeTold (p .ensures .0 ∙ ap (insertAnswer 2 (now (s .args .table)) (s .args .rule)) (s .pre)),
+      c .of-plan .ensures ∙ insert-told (now (s .args .table)) (s .args .rule) _ _ (omega arith) (s .pre) (p .ensures .0),
     )
 
 pub insert-spec : {M : Type 1} → statement M

@@ -1,0 +1,107 @@
+-- End theorems: every accepted I and every accepted D prints its plan whole, and changes the table by the writes printed.
+use mathlib.Core.Path.{_≡_, refl, sym, ap, ap₂, _∙_, subst, subst₂}
+use mathlib.Core.Bool.{Bool}
+use mathlib.Core.Logic.{⊎-elim}
+use mathlib.Core.List.{List, [], _∷_, _++_, map, append-assoc}
+use Prim.Native.Nat.{ℕ, suc, _≤_, _<_}
+use native.Mathlib.Omega.{arith}
+use lib.ListN.{length, length-map, length-append}
+use Rattle.layout.specs.Write.{Write, copy, put, clear}
+use Rattle.layout.specs.Class.{Sequence}
+use Rattle.plan_words.specs.PlanWords.{writeOf, writeWord, emptying}
+use Rattle.plan_words.specs.PlanWordsLaws.{write-of-word}
+use Rattle.records.specs.Order.{slots}
+use Rattle.records.specs.Writes.{applyWords}
+use Rattle.records.specs.Laws.{slot-checks-law, table-checks-law}
+use Rattle.records.specs.EntriesLaws.{shaped-slots}
+use Rattle.records.specs.declared.Rule.{Rule}
+use Rattle.records.specs.declared.Check.the-variants.{Pass}
+use Rattle.neighbours.specs.Neighbours.{insertChecks}
+use Rattle.delete_plans.specs.Deletes.{deleteChecks, deleteWords, slotOfId}
+use Rattle.delete_plans.specs.DeletesLaws.{delete-planned}
+use Rattle.insert_plans.specs.Inserts.{insertWords}
+use Rattle.insert_plans.specs.InsertableLaws.{insertable-law}
+use Rattle.insert_plans.specs.Demand3Laws.{shortest-words}
+use Rattle.script_text.specs.Decimal.{digitsOf}
+use Rattle.script_commands.specs.Commands.{commandOf, insertedRule}
+use Rattle.script_commands.specs.declared.Insertion.{Insertion}
+use Rattle.script_commands.specs.declared.Deletion.{Deletion}
+use Rattle.script_commands.specs.declared.Command.{Command}
+use Rattle.script_commands.specs.declared.Command.the-variants.{Insert, Delete}
+use Rattle.script_answers.specs.Answers.{printedWrite, printedWrites, planBytes}
+use Rattle.script_operations.specs.Outcomes.{insertOutcome, deleteOutcome, noRule}
+use Rattle.script.specs.Script.{commandOutcome, lineOutcome}
+use Rattle.script_transcripts.specs.ChangesLaws.{Small, line-small}
+use Rattle.script_transcripts.specs.Plans.{ended, Copied, copyOf, countLine, copyLine, putInLine, emptyingLine, InsertPrinted}
+
+-- a write's line, without its newline
+abbrev writeLine : Write → List ℕ
+writeLine (copy from to) = copyLine (record { from = from; to = to })
+writeLine (put to) = putInLine to
+writeLine (clear slot) = emptyingLine slot
+
+line-of : (x : Write) (rest : List ℕ) → printedWrite x ++ rest ≡ writeLine x ++ 10 ∷ rest
+line-of (copy from to) rest = simp append-assoc
+line-of (put to) rest = simp append-assoc
+line-of (clear slot) rest = simp append-assoc
+
+writes-lines : (words : List ℕ) → printedWrites words ≡ ended (map writeLine (map writeOf words))
+unfolding printedWrites ended
+writes-lines [] = refl
+writes-lines (word ∷ words) = line-of (writeOf word) (printedWrites words) ∙ ap (λ (rest : List ℕ). writeLine (writeOf word) ++ 10 ∷ rest) (writes-lines words)
+
+plan-lines : (words : List ℕ) → planBytes words ≡ ended (countLine (length words) ∷ map writeLine (map writeOf words))
+unfolding planBytes ended
+plan-lines words = append-assoc (countLine (length words)) (10 ∷ []) (printedWrites words) ∙ ap (λ (rest : List ℕ). countLine (length words) ++ 10 ∷ rest) (writes-lines words)
+
+-- the writes of the class are copies and then the put-in
+Parted : List Write → Type 0
+Parted xs = (copies : List Copied) × (slot : ℕ) × (xs ≡ map copyOf copies ++ put slot ∷ [])
+
+sequence-parted : {S : Type 0} {empty : S} {occupied : S → Bool} {same misordered : S → S → Bool} {toward : ℕ → ℕ → Type 0} {new : S} {t : List S} {xs : List Write}
+    → Sequence empty occupied same misordered toward new t xs → Parted xs
+unfolding Parted
+sequence-parted (Sequence.last to b f o) = ([], to, refl)
+sequence-parted (Sequence.more from to a b d e f o s) =
+    let rest = sequence-parted s in (record { from = from; to = to } ∷ rest .0, rest .1, ap (λ (x : List Write). copy from to ∷ x) (rest .2))
+
+parted-lines : (copies : List Copied) (slot : ℕ) → map writeLine (map copyOf copies ++ put slot ∷ []) ≡ map copyLine copies ++ putInLine slot ∷ []
+parted-lines [] slot = refl
+parted-lines (c ∷ copies) slot = ap (λ (x : List (List ℕ)). copyLine c ∷ x) (parted-lines copies slot)
+
+parted-printed : (words : List ℕ) → Parted (map writeOf words) → InsertPrinted words (planBytes words)
+unfolding Parted
+parted-printed words (copies, slot, e) =
+    let count : length words ≡ suc (length copies) =
+    omega (arith, length-map words writeOf, ap length e, length-append (map copyOf copies) (put slot ∷ []), length-map copies copyOf) in
+    record {
+      copies = copies;
+      slot = slot;
+      plan = e;
+      lines = plan-lines words ∙ ap₂ (λ (n : ℕ) (x : List (List ℕ)). ended (countLine n ∷ x)) count (ap (map writeLine) e ∙ parted-lines copies slot);
+    }
+
+-- An accepted I line prints `P count`, a line for each write of its plan, in order, and makes these writes.
+pub insert-printed : (t : List ℕ) (number : ℕ) (line : List ℕ) (insertion : Insertion) → commandOf line ≡ Insert insertion
+    → insertChecks 2 t (insertedRule insertion) ≡ Pass
+    → InsertPrinted (insertWords 2 t (insertedRule insertion)) (lineOutcome t number line .printed)
+    × (lineOutcome t number line .table ≡ applyWords 2 t (insertedRule insertion) (insertWords 2 t (insertedRule insertion)))
+unfolding insertOutcome
+insert-printed t number line insertion e pass =
+    let rule = insertedRule insertion in
+    let small : Small (Insert insertion) = subst Small e (line-small line) in
+    let class = shortest-words 2 t rule small (insertable-law 2 t rule .0 pass) .class in
+    let parted = ⊎-elim sequence-parted sequence-parted class in
+    rw (e, pass) (parted-printed (insertWords 2 t rule) parted, refl)
+
+-- An accepted D line prints `P 1` and `E slot`, the slot being that of the rule deleted, and empties it.
+pub delete-printed : (t : List ℕ) (number : ℕ) (line : List ℕ) (deletion : Deletion) → commandOf line ≡ Delete deletion → deleteChecks 2 t (deletion .id) ≡ Pass
+    → (lineOutcome t number line .printed ≡ ended (countLine 1 ∷ emptyingLine (slotOfId 2 t (deletion .id)) ∷ []))
+    × (lineOutcome t number line .table ≡ applyWords 2 t noRule (deleteWords 2 t (deletion .id)))
+unfolding deleteOutcome
+delete-printed t number line deletion e pass =
+    let planned = delete-planned 2 t (deletion .id) pass in
+    let shape = shaped-slots 2 t (slot-checks-law 2 t .0 (table-checks-law 2 t .0 (planned .table) .0) .0) in
+    let slot = slotOfId 2 t (deletion .id) in
+    let back = write-of-word (clear slot) (omega (arith, planned .exists, shape .1)) in
+    rw (e, pass) (plan-lines (deleteWords 2 t (deletion .id)) ∙ ap (λ (x : Write). ended (countLine 1 ∷ writeLine x ∷ [])) back, refl)
