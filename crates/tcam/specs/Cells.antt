@@ -1,4 +1,4 @@
--- What the exported calls that plan leave: their result, the plan buffer and the lent cells, before and after.
+-- What the exported calls that look up and plan leave: their result, the plan buffer and the lent cells, before and after.
 -- The answers and the plans are the table library's; a lookup's key crosses as two words.
 use mathlib.Core.Path.{_≡_}
 use Prim.Native.Nat.{ℕ}
@@ -17,6 +17,14 @@ use Rattle.marshalling.specs.Cells.{dataCell, spotCell}
 -- what a key of two words is answered
 abbrev pub keyAnswer : List ℕ → ℕ → ℕ → Told
 keyAnswer t high low = lookupAnswer 2 t (word (high ∷ low ∷ []))
+
+-- What a lookup leaves: its result, the cells for slot, id and action and the one for a refusal's spot, before and after.
+pub record LookupLeft (t : List ℕ) (high low result slot slot′ id id′ action action′ spot spot′ : ℕ) : Type 0 where
+  pub number : result ≡ keyAnswer t high low .number
+  pub slotted : slot′ ≡ dataCell (keyAnswer t high low) 0 slot
+  pub named : id′ ≡ dataCell (keyAnswer t high low) 1 id
+  pub acted : action′ ≡ dataCell (keyAnswer t high low) 2 action
+  pub spotted : spot′ ≡ spotCell (keyAnswer t high low) spot
 
 -- What a planning call leaves: its result, the plan buffer and the two cells, before and after; told is its answer.
 pub record PlanLeft (told : Told) (planned : List ℕ) (result : ℕ) (after : List ℕ) (count count′ spot spot′ : ℕ) : Type 0 where

@@ -6,7 +6,7 @@ pub mod images;
 ghost use mathlib.Core.Path.{_≡_};
 ghost use Rattle.lookups.specs.Lookup.{partStart, partLength};
 ghost use Rattle.marshalling.specs.Cells.{dataCell, spotCell, ruleFrom};
-ghost use Rattle.tcam.specs.Cells.{keyAnswer, InsertLeft, DeleteLeft};
+ghost use Rattle.tcam.specs.Cells.{LookupLeft, InsertLeft, DeleteLeft};
 use delete_plans::plan_delete;
 use insert_plans::plan_insert;
 use lookups::LookupAnswer;
@@ -27,11 +27,7 @@ pub extern "C" fn tcam_lookup(
     action: &mut u32,
     spot: &mut u32,
 ) -> u32
-    ensures { λ r. ⌜ r ≡ keyAnswer (now (table .entry)) «key_high» «key_low» .number ⌝ }
-    ensures { λ _. ⌜ now (slot .exit) ≡ dataCell (keyAnswer (now (table .entry)) «key_high» «key_low») 0 (now (slot .entry)) ⌝ }
-    ensures { λ _. ⌜ now (id .exit) ≡ dataCell (keyAnswer (now (table .entry)) «key_high» «key_low») 1 (now (id .entry)) ⌝ }
-    ensures { λ _. ⌜ now (action .exit) ≡ dataCell (keyAnswer (now (table .entry)) «key_high» «key_low») 2 (now (action .entry)) ⌝ }
-    ensures { λ _. ⌜ now (spot .exit) ≡ spotCell (keyAnswer (now (table .entry)) «key_high» «key_low») (now (spot .entry)) ⌝ }
+    ensures { λ r. ⌜ LookupLeft (now (table .entry)) «key_high» «key_low» r (now (slot .entry)) (now (slot .exit)) (now (id .entry)) (now (id .exit)) (now (action .entry)) (now (action .exit)) (now (spot .entry)) (now (spot .exit)) ⌝ }
 {
     match lookup(table, [key_high, key_low]) {
         LookupAnswer::Found(hit) => {

@@ -27,14 +27,18 @@ cause-number-requires c κs = search needs
 returns : tie.Need-returns
 returns c =
     let a = c .before .before .before .before .before .args in
+    let told =
     success-cells _ (now (a .slot)) (now (a .id)) (now (a .action)) (now (a .spot))
-    (sym (ap lookupTold (c .before .hit .given .1)) ∙ c .before .before .before .lookup .ensures)
+    (sym (ap lookupTold (c .before .hit .given .1)) ∙ c .before .before .before .lookup .ensures) in
+    record { number = told .0; slotted = told .1 .0; named = told .1 .1 .0; acted = told .1 .1 .1 .0; spotted = told .1 .1 .1 .1 }
 
 returns-2 : tie.Need-returns-2
 returns-2 c =
     let a = c .before .before .before .before .args in
+    let told =
     success-cells [] (now (a .slot)) (now (a .id)) (now (a .action)) (now (a .spot))
-    (sym (ap lookupTold (c .enum-told .given .1)) ∙ c .before .before .lookup .ensures)
+    (sym (ap lookupTold (c .enum-told .given .1)) ∙ c .before .before .lookup .ensures) in
+    record { number = told .0; slotted = told .1 .0; named = told .1 .1 .0; acted = told .1 .1 .1 .0; spotted = told .1 .1 .1 .1 }
 
 returns-3 : tie.Need-returns-3
 returns-3 c =
@@ -42,7 +46,7 @@ returns-3 c =
     let told =
     refusal-cells (c .before .before .cause .given .0 .0) _ (now (a .slot)) (now (a .id)) (now (a .action)) (now (a .spot))
     (sym (ap lookupTold (c .before .before .cause .given .1)) ∙ c .before .before .before .before .lookup .ensures) in
-    (c .cause-number .ensures ∙ told .0, told .1)
+    record { number = c .cause-number .ensures ∙ told .0; slotted = told .1 .0; named = told .1 .1 .0; acted = told .1 .1 .1 .0; spotted = told .1 .1 .1 .1 }
 
 pub tcam-lookup-spec : {M : Type 1} → statement M
 tcam-lookup-spec =
