@@ -114,16 +114,21 @@ shortRow needed room = rowAt Short (room < needed) needed
 abbrev pub lookupRows : ℕ → List ℕ → List Row
 lookupRows w t = slotRows w t
 
--- planning makes checks 1 to 11, as far as each applies
-abbrev pub insertRows : ℕ → List ℕ → Rule → ℕ → List Row
-insertRows w t rule room =
+-- planning makes checks 1 to 11, as far as each applies; those of a table and a rule, or an id, alone
+abbrev pub newRuleRows : ℕ → List ℕ → Rule → List Row
+newRuleRows w t rule =
     let new = word (recordOf w rule) in
-    tableRows w t
-    ++ (ruleRow w rule ∷ knownRow w t new ∷ tieRow w t new ∷ fullRow w t ∷ crossedRow w t new ∷ [])
-    ++ (shortRow (length (insertWords w t rule)) room ∷ [])
+    tableRows w t ++ (ruleRow w rule ∷ knownRow w t new ∷ tieRow w t new ∷ fullRow w t ∷ crossedRow w t new ∷ [])
+
+abbrev pub oldRuleRows : ℕ → List ℕ → ℕ → List Row
+oldRuleRows w t id = tableRows w t ++ (idRow id ∷ unknownRow w t id ∷ [])
+
+-- and with a buffer of so many words
+abbrev pub insertRows : ℕ → List ℕ → Rule → ℕ → List Row
+insertRows w t rule room = newRuleRows w t rule ++ (shortRow (length (insertWords w t rule)) room ∷ [])
 
 abbrev pub deleteRows : ℕ → List ℕ → ℕ → ℕ → List Row
-deleteRows w t id room = tableRows w t ++ (idRow id ∷ unknownRow w t id ∷ []) ++ (shortRow 1 room ∷ [])
+deleteRows w t id room = oldRuleRows w t id ++ (shortRow 1 room ∷ [])
 
 -- save makes 1 to 4, then 11
 abbrev pub saveRows : ℕ → List ℕ → ℕ → List Row

@@ -7,3 +7,5 @@ pub mod PlanningLaws
 pub mod CarryingLaws
 pub mod ImageLaws
 pub mod CallsLaws
+pub mod Lines
+pub mod LinesLaws

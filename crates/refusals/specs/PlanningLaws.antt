@@ -1,7 +1,7 @@
 -- Laws on the rows of a planning call: checks 5 to 11, each with its condition in plain terms.
 use mathlib.Core.Path.{_≡_, refl, sym, ap, _∙_, subst}
 use mathlib.Core.Bool.{Bool, true, false, not, true≢false}
-use mathlib.Core.List.{List, [], _∷_, _++_}
+use mathlib.Core.List.{List, [], _∷_}
 use Prim.Native.Nat.{ℕ, suc, _-_, _<_}
 use native.Mathlib.Omega.{arith}
 use native.Mathlib.Decide.{decLt}
@@ -25,7 +25,7 @@ use Rattle.delete_plans.specs.Deletes.{hasId, slotOfId, checkId, checkUnknown, 
 use Rattle.insert_plans.specs.InsertableLaws.{rule-words, crossed-pass, crossed-fail}
 use Rattle.refusals.specs.Rows.{Row, rowAt}
 use Rattle.refusals.specs.RowsLaws.{Agrees, one-row, rows-then}
-use Rattle.refusals.specs.Calls.{OneId, Ties, Precedes, IsA, knownRow, unknownRow, tieRow, fullRow, crossedRow, tableRows, ruleRow, idRow, shortRow}
+use Rattle.refusals.specs.Calls.{OneId, Ties, Precedes, IsA, knownRow, unknownRow, tieRow, fullRow, crossedRow, tableRows, ruleRow, idRow, shortRow, newRuleRows, oldRuleRows}
 use Rattle.refusals.specs.TableLaws.{test-row, fault-row, only-cause, lowest-row, table-rows}
 
 pub rule-row : (w : ℕ) (rule : Rule) → Agrees (checkRule w rule) (ruleRow w rule ∷ [])
@@ -89,9 +89,7 @@ module _ (w : ℕ) (t : List ℕ) where
       (λ f. rows-then _ _ (fullRow w t ∷ []) _ full-row (λ g. crossed-row new)))
 
   -- checks 1 to 10 of an insert
-  pub insert-rows : (rule : Rule)
-      → Agrees (insertChecks w t rule)
-      (tableRows w t ++ (ruleRow w rule ∷ knownRow w t (word (recordOf w rule)) ∷ tieRow w t (word (recordOf w rule)) ∷ fullRow w t ∷ crossedRow w t (word (recordOf w rule)) ∷ []))
+  pub insert-rows : (rule : Rule) → Agrees (insertChecks w t rule) (newRuleRows w t rule)
   unfolding insertChecks
   insert-rows rule =
       rows-then _ _ (tableRows w t) _ (table-rows w t)
@@ -121,7 +119,7 @@ module _ (w : ℕ) (t : List ℕ) where
       (λ e i h o f. true≢false (sym (holds-back id i o f) ∙ l .before i (omega arith) (omega (arith, ltb-false first (slots w t) e))))
 
   -- checks 1 to 5 and 7 of a delete
-  pub delete-rows : (id : ℕ) → Agrees (deleteChecks w t id) (tableRows w t ++ (idRow id ∷ unknownRow w t id ∷ []))
+  pub delete-rows : (id : ℕ) → Agrees (deleteChecks w t id) (oldRuleRows w t id)
   unfolding deleteChecks checkId
   delete-rows id =
       rows-then _ _ (tableRows w t) _ (table-rows w t)
