@@ -29,7 +29,7 @@ carry-finished = refl
 pub carry-refused : (cause : Cause) (spot : ℕ) → carryResult (stepTold (Refused cause spot)) ≡ causeNumber cause + spot * 4294967296
 carry-refused cause spot = rw (cause-not-zero cause)
 
-cause-small : (cause : Cause) → causeNumber cause ≤ 14
+pub cause-small : (cause : Cause) → causeNumber cause ≤ 14
 cause-small Shape = omega arith
 cause-small Record = omega arith
 cause-small Twice = omega arith
@@ -54,7 +54,7 @@ carry-halves cause spot f =
     (omega (arith, e, low), omega (arith, e, low))
 
 -- a cause's number is neither 0 nor as large as that of "finished"
-cause-some : (cause : Cause) → 0 < causeNumber cause
+pub cause-some : (cause : Cause) → 0 < causeNumber cause
 cause-some cause = by (causeNumber cause) (cause-not-zero cause)
   where
     by : (n : ℕ) → eqb n 0 ≡ false → 0 < n

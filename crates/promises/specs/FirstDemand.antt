@@ -1,0 +1,76 @@
+-- Document 01, demand 1: no refused call changes a table, plan, image or progress record; each refusal has one number and one condition.
+-- That no call indexes outside its buffers, wraps a sum or runs on is what the checker proves of every function.
+use mathlib.Core.Path.{_≡_}
+use mathlib.Core.Logic.{_↔_, _⊎_}
+use mathlib.Core.List.{List}
+use Prim.Native.Nat.{ℕ, _%_, _/_}
+use lib.ListN.{length}
+use Rattle.records.specs.Checks.{causeNumber}
+use Rattle.records.specs.declared.Rule.{Rule}
+use Rattle.records.specs.declared.Cause.{Cause}
+use Rattle.refusals.specs.Rows.{Row, Declines, Accepts}
+use Rattle.refusals.specs.Calls.{lookupRows, insertRows, deleteRows, saveRows, stepRows, loadRows}
+use Rattle.refusals.specs.Lines.{lineRows}
+use Rattle.script_commands.specs.Commands.{commandOf}
+use Rattle.script_operations.specs.declared.LineAnswer.the-variants.{Refused}
+use Rattle.script_operations.specs.Told.{lineTold}
+use Rattle.script.specs.declared.Ran.{Ran}
+use Rattle.script.specs.Script.{tableIn, lineOutcome, Left}
+use Rattle.script.specs.Told.{commandTold}
+use Rattle.tcam.specs.declared.carry.Progress.{Progress}
+use Rattle.tcam.specs.Carried.{CarryLeft}
+use Rattle.tcam.specs.Cells.{LookupLeft, InsertLeft, DeleteLeft}
+use Rattle.tcam.specs.Images.{SaveLeft, LoadLeft}
+use Rattle.promises.specs.Calls.{wroteResult, finishedResult}
+
+-- A call declines by its list of rows: it returns a cause's number and names a spot exactly when the rows before do not hold and the cause's own does,
+-- with that spot; it returns 0 exactly when none holds.
+pub record DeclinesBy (rows : List Row) (number spot : ℕ) : Type 0 where
+  pub refused : (cause : Cause) (place : ℕ) → ((number ≡ causeNumber cause) × (spot ≡ place)) ↔ Declines rows cause place
+  pub accepted : (number ≡ 0) ↔ Accepts rows
+
+-- The same of carrying out, whose result holds number and spot together.
+pub record CarriesBy (rows : List Row) (progress : Progress) (result : ℕ) : Type 0 where
+  pub refused : (cause : Cause) (place : ℕ)
+      → ((result % 4294967296 ≡ causeNumber cause) × (result / 4294967296 ≡ place)) ↔ Declines rows cause place
+  pub accepted : ((result ≡ wroteResult) ⊎ (result ≡ finishedResult)) ↔ Accepts rows
+  pub finished : (result ≡ finishedResult) ↔ (Accepts rows × (progress .done ≡ progress .total))
+
+-- a call is refused: it returns another number than 0
+abbrev pub IsRefusal : ℕ → Type 0
+IsRefusal result = result ≡ 0 → ⊥
+
+pub record FirstDemand : Type 0 where
+  -- each refusal has one number
+  pub numbers : (cause other : Cause) → causeNumber cause ≡ causeNumber other → cause ≡ other
+
+  -- the calls that only read a table decline by their rows, and a refusal leaves what they are lent
+  pub lookup : (t : List ℕ) (high low result slot slot′ id id′ action action′ spot spot′ : ℕ)
+      → LookupLeft t high low result slot slot′ id id′ action action′ spot spot′
+      → DeclinesBy (lookupRows 2 t) result spot′ × (IsRefusal result → (slot′ ≡ slot) × (id′ ≡ id) × (action′ ≡ action))
+  pub insert : (t : List ℕ) (rule : Rule) (result : ℕ) (plan after : List ℕ) (count count′ spot spot′ : ℕ)
+      → InsertLeft t rule result plan after count count′ spot spot′
+      → DeclinesBy (insertRows 2 t rule (length plan)) result spot′ × (IsRefusal result → (after ≡ plan) × (count′ ≡ count))
+  pub delete : (t : List ℕ) (id result : ℕ) (plan after : List ℕ) (count count′ spot spot′ : ℕ)
+      → DeleteLeft t id result plan after count count′ spot spot′
+      → DeclinesBy (deleteRows 2 t id (length plan)) result spot′ × (IsRefusal result → (after ≡ plan) × (count′ ≡ count))
+  pub save : (t : List ℕ) (result : ℕ) (image after : List ℕ) (bytes bytes′ spot spot′ : ℕ)
+      → SaveLeft t result image after bytes bytes′ spot spot′
+      → DeclinesBy (saveRows 2 t (length image)) result spot′ × (IsRefusal result → (after ≡ image) × (bytes′ ≡ bytes))
+
+  -- a load
+  pub load : (b : List ℕ) (result : ℕ) (t after : List ℕ) (spot spot′ : ℕ) → LoadLeft b result t after spot spot′
+      → DeclinesBy (loadRows 2 b t) result spot′ × (IsRefusal result → after ≡ t)
+
+  -- carrying out: number and spot are the halves of its result. Where it does not write, a refusal or "finished", the table and the record are as they
+  -- were; "finished" it returns exactly where nothing is refused and all writes are done
+  pub carry : (t plan : List ℕ) (rule : Rule) (progress : Progress) (result : ℕ) (after : List ℕ) (progress′ : Progress)
+      → CarryLeft t plan rule progress result after progress′ → CarriesBy (stepRows 2 t plan rule (progress .done) (progress .total)) progress result
+      × ((result ≡ wroteResult → ⊥) → (after ≡ t) × (progress′ .done ≡ progress .done) × (progress′ .total ≡ progress .total))
+
+  -- a script line, on the table that the memory holds: a refused one leaves the memory
+  pub line : (memory memory′ : List ℕ) (slots number : ℕ) (line out out′ : List ℕ) (ran : Ran)
+      → Left (lineOutcome (tableIn memory slots) number line) ran memory memory′ out out′
+      → lineTold (ran .answer) ≡ commandTold (tableIn memory slots) number (commandOf line)
+      → ((cause : Cause) (place : ℕ) → (ran .answer ≡ Refused cause place) ↔ Declines (lineRows (tableIn memory slots) number line) cause place)
+      × ((cause : Cause) (place : ℕ) → ran .answer ≡ Refused cause place → memory′ ≡ memory)

@@ -1,0 +1,278 @@
+-- End theorems: document 01's demand 1, of every exported call and of script lines.
+use mathlib.Core.Path.{_≡_, refl, sym, ap, ap₂, _∙_, subst}
+use mathlib.Core.Bool.{Bool, true, false, not, cond, _&&_, true≢false}
+use mathlib.Core.Logic.{_↔_, _⊎_, inl, inr, ⊎-elim}
+use mathlib.Core.List.{List, [], _∷_, _++_}
+use Prim.Native.Nat.{ℕ, zero, suc, _+_, _*_}
+use native.Mathlib.Omega.{arith}
+use lib.Dec.{eqb, ltb, leb}
+use lib.ListN.{length, getD, take, drop}
+use borrow.Author.Tests.{eqb-true, eqb-false, ne-eqb}
+use Rattle.ternary.specs.Pattern.{Words}
+use Rattle.records.specs.Record.{word}
+use Rattle.records.specs.Checks.{Told, success, refusal, unless, orElse, passes, slotChecks, tableChecks, firstMatch, causeNumber}
+use Rattle.records.specs.Order.{slots}
+use Rattle.records.specs.Laws.{cause-number-once, cause-not-zero}
+use Rattle.records.specs.declared.Rule.{Rule}
+use Rattle.records.specs.declared.Cause.{Cause}
+use Rattle.records.specs.declared.Cause.the-variants.{Shape}
+use Rattle.records.specs.declared.Check.{Check}
+use Rattle.records.specs.declared.Check.the-variants.{Pass, Fail}
+use Rattle.buffers.specs.Buffers.{bufferAnswer, bufferAfter, checkRoom}
+use Rattle.lookups.specs.Lookup.{lookupTold, hitAt, matchTold, lookupAnswer}
+use Rattle.lookups.specs.declared.LookupAnswer.the-variants.{Found, Miss as LookupMiss}
+use Rattle.carrying.specs.Carrying.{progressChecks, writeChecks, stepAnswer, stepWrites, stepTable, stepDone}
+use Rattle.image.specs.Answers.{loadAnswer, loadTable}
+use Rattle.image.specs.Checks.{loadChecks, meant}
+use Rattle.image.specs.Format.{imageOf}
+use Rattle.image.specs.SaveLaws.{image-length}
+use Rattle.neighbours.specs.Neighbours.{insertChecks}
+use Rattle.delete_plans.specs.Deletes.{deleteChecks, deleteWords}
+use Rattle.insert_plans.specs.Inserts.{insertWords}
+use Rattle.histories.specs.Histories.{emptyTable}
+use Rattle.marshalling.specs.Cells.{dataCell, spotCell}
+use Rattle.marshalling.specs.Carried.{carryResult}
+use Rattle.marshalling.specs.CarriedLaws.{carry-refused, cause-small, cause-some}
+use Rattle.script_operations.specs.declared.LineAnswer.{LineAnswer}
+use Rattle.script_operations.specs.declared.LineAnswer.the-variants.{Made, Planned, Found as LineFound, Miss, Refused}
+use Rattle.script_operations.specs.Told.{LineTold, lettered, lineTold, changeTold, insertTold, deleteTold}
+use Rattle.script_commands.specs.declared.Command.{Command}
+use Rattle.script_commands.specs.declared.Command.the-variants.{Table, Insert, Delete, Lookup, Malformed}
+use Rattle.script_commands.specs.Commands.{insertedRule, commandOf}
+use Rattle.script_answers.specs.Answers.{tableBytes}
+use Rattle.script_operations.specs.Outcomes.{outcomeOf, refused, changeOutcome, insertOutcome, deleteOutcome}
+use Rattle.script.specs.Script.{tableIn, tableOutcome, commandOutcome}
+use Rattle.script.specs.Told.{tableTold, commandTold}
+use Rattle.refusals.specs.Rows.{Row, Declines, Accepts, AnsweredBy}
+use Rattle.refusals.specs.CallsLaws.{lookup-answered, insert-answered, delete-answered, save-answered, load-answered, step-answered}
+use Rattle.refusals.specs.Calls.{stepRows}
+use Rattle.refusals.specs.LinesLaws.{line-answered}
+use Rattle.refusals.specs.CarryingLaws.{stepChecks, step-told}
+use Rattle.tcam.specs.declared.carry.Progress.{Progress}
+use Rattle.tcam.specs.Cells.{keyAnswer, PlanLeft}
+use Rattle.promises.specs.FirstDemand.{DeclinesBy, CarriesBy, IsRefusal, FirstDemand}
+
+-- an answer: a success, or a refusal that holds its cause and spot
+pub data Kind : Told → Type 0 where
+  went : (values : List ℕ) → Kind (success values)
+  declined : (cause : Cause) (spot : ℕ) → Kind (refusal cause spot)
+
+-- the number and the cell for the spot tell an answer's rows
+told-declines : (rows : List Row) (told : Told) (result spot spot′ : ℕ) → AnsweredBy rows told → Kind told
+    → result ≡ told .number → spot′ ≡ spotCell told spot → DeclinesBy rows result spot′
+told-declines rows told result spot spot′ answer (went values) e f = record {
+  refused = λ cause place. (
+    λ p. absurd (true≢false (ap (λ (n : ℕ). eqb n 0) (sym e ∙ p .0) ∙ cause-not-zero cause)),
+    λ d. absurd (true≢false (ap (λ (t : Told). eqb (t .number) 0) (answer .declined cause place .1 d) ∙ cause-not-zero cause)),
+  );
+  accepted = (λ z. answer .accepted .0 refl, λ a. e);
+}
+told-declines rows told result spot spot′ answer (declined c s) e f =
+    let put : spotCell (refusal c s) spot ≡ s = ap (λ (zero-number : Bool). cond zero-number spot s) (cause-not-zero c) in
+    record {
+      refused = λ cause place. (
+        λ p. let same : c ≡ cause = cause-number-once c cause (sym e ∙ p .0) in
+            let at : s ≡ place = sym put ∙ (sym f ∙ p .1) in
+            answer .declined cause place .0 (ap (λ (x : Cause). refusal x s) same ∙ ap (refusal cause) at),
+        λ d. let same = answer .declined cause place .1 d in
+            (e ∙ ap (λ (t : Told). t .number) same, f ∙ (put ∙ ap (λ (t : Told). getD (t .values) 0 0) same)),
+      );
+      accepted = (λ z. answer .accepted .0 (sym e ∙ z), λ a. e ∙ answer .accepted .1 a);
+    }
+
+-- the answers of the calls are successes or refusals
+unless-kind : (checks : Check) (answer : Told) → Kind answer → Kind (unless checks answer)
+unless-kind Pass answer kind = kind
+unless-kind (Fail cause spot) answer kind = declined cause spot
+
+cond-kind : (b : Bool) (x y : Told) → Kind x → Kind y → Kind (cond b x y)
+cond-kind true x y a b = a
+cond-kind false x y a b = b
+
+lookup-kind : (t : List ℕ) (key : Words) → Kind (lookupAnswer 2 t key)
+unfolding lookupAnswer matchTold
+lookup-kind t key =
+    unless-kind (slotChecks 2 t) (matchTold 2 t (firstMatch 2 t key))
+    (cond-kind (ltb (firstMatch 2 t key) (slots 2 t)) (lookupTold (Found (hitAt 2 t (firstMatch 2 t key)))) (lookupTold LookupMiss) (went _) (went _))
+
+buffer-kind : (checks : Check) (needed room : ℕ) → Kind (bufferAnswer checks needed room)
+unfolding bufferAnswer
+buffer-kind checks needed room = unless-kind (orElse checks (checkRoom needed room)) (success (needed ∷ [])) (went _)
+
+load-kind : (b t : List ℕ) → Kind (loadAnswer 2 b t)
+unfolding loadAnswer
+load-kind b t = unless-kind (loadChecks 2 b t) (success []) (went _)
+
+-- a refusal leaves a data cell, and the lent buffer or table
+cell-kept : (told : Told) (k before : ℕ) → IsRefusal (told .number) → dataCell told k before ≡ before
+cell-kept told k before refused = ap (λ (zero-number : Bool). cond zero-number (getD (told .values) k 0) before) (ne-eqb (told .number) 0 refused)
+
+buffer-kept : (checks : Check) (contents buffer : List ℕ) → IsRefusal (bufferAnswer checks (length contents) (length buffer) .number)
+    → bufferAfter checks contents buffer ≡ buffer
+unfolding bufferAnswer bufferAfter
+buffer-kept checks contents buffer refused = pick (orElse checks (checkRoom (length contents) (length buffer))) refused
+  where
+    pick : (x : Check) → IsRefusal (unless x (success (length contents ∷ [])) .number)
+        → cond (passes x) (contents ++ drop (length contents) buffer) buffer ≡ buffer
+    pick Pass r = absurd (r refl)
+    pick (Fail cause spot) r = refl
+
+load-kept : (b t : List ℕ) → IsRefusal (loadAnswer 2 b t .number) → loadTable 2 b t ≡ t
+unfolding loadAnswer loadTable
+load-kept b t refused = pick (loadChecks 2 b t) refused
+  where
+    pick : (x : Check) → IsRefusal (unless x (success []) .number) → cond (passes x) (meant 2 b (length t)) t ≡ t
+    pick Pass r = absurd (r refl)
+    pick (Fail cause spot) r = refl
+
+-- the calls that write into a lent buffer
+buffer-call : (rows : List Row) (checks : Check) (contents plan after : List ℕ) (needed result count count′ spot spot′ : ℕ) → needed ≡ length contents
+    → AnsweredBy rows (bufferAnswer checks needed (length plan))
+    → PlanLeft (bufferAnswer checks needed (length plan)) (bufferAfter checks contents plan) result after count count′ spot spot′
+    → DeclinesBy rows result spot′ × (IsRefusal result → (after ≡ plan) × (count′ ≡ count))
+buffer-call rows checks contents plan after needed result count count′ spot spot′ size answer left = (
+  told-declines rows _ result spot spot′ answer (buffer-kind checks needed (length plan)) (left .number) (left .spotted),
+  λ refused.
+    let declines : IsRefusal (bufferAnswer checks needed (length plan) .number) = λ z. refused (left .number ∙ z) in
+    (left .plan ∙ buffer-kept checks contents plan (subst (λ (n : ℕ). IsRefusal (bufferAnswer checks n (length plan) .number)) size declines),
+      left .counted ∙ cell-kept (bufferAnswer checks needed (length plan)) 0 count declines),
+)
+
+-- carrying out: its answer in three cases
+pub data StepCase (progress : Progress) : Told → Type 0 where
+  wrote : (done : ℕ) → (progress .done ≡ progress .total → ⊥) → StepCase progress (success (done ∷ []))
+  ended : progress .done ≡ progress .total → StepCase progress (success [])
+  stopped : (cause : Cause) (spot : ℕ) → StepCase progress (refusal cause spot)
+
+step-case : (t plan : List ℕ) (rule : Rule) (progress : Progress) → StepCase progress (stepAnswer 2 t plan rule (progress .done) (progress .total))
+step-case t plan rule progress =
+    subst (StepCase progress) (step-told 2 t plan rule (progress .done) (progress .total))
+    (pick (stepChecks 2 t plan rule (progress .done) (progress .total)) (eqb (progress .done) (progress .total)) refl)
+  where
+    pick : (x : Check) (b : Bool) → eqb (progress .done) (progress .total) ≡ b
+        → StepCase progress (unless x (cond b (success []) (success ((progress .done + 1) ∷ []))))
+    pick (Fail cause spot) b e = stopped cause spot
+    pick Pass true e = ended (eqb-true _ _ e)
+    pick Pass false e = wrote (progress .done + 1) (eqb-false _ _ e)
+
+-- no success is a refusal
+no-refusal : (values : List ℕ) (cause : Cause) (spot : ℕ) → success values ≡ refusal cause spot → ⊥
+no-refusal values cause spot e = true≢false (ap (λ (t : Told). eqb (t .number) 0) e ∙ cause-not-zero cause)
+
+carries-by : (rows : List Row) (progress : Progress) (told : Told) (result : ℕ) → AnsweredBy rows told → StepCase progress told → result ≡ carryResult told
+    → CarriesBy rows progress result
+carries-by rows progress told result answer (wrote done other) e = record {
+  refused = λ cause place. (λ p. absurd (omega (arith, e, p .0, cause-some cause)), λ d. absurd (no-refusal _ cause place (answer .declined cause place .1 d)));
+  accepted = (λ either. answer .accepted .0 refl, λ a. inl e);
+  finished = (λ f. absurd (omega (arith, e, f)), λ p. absurd (other (p .1)));
+}
+carries-by rows progress told result answer (ended same) e = record {
+  refused = λ cause place. (λ p. absurd (omega (arith, e, p .0, cause-small cause)), λ d. absurd (no-refusal _ cause place (answer .declined cause place .1 d)));
+  accepted = (λ either. answer .accepted .0 refl, λ a. inr e);
+  finished = (λ f. (answer .accepted .0 refl, same), λ p. e);
+}
+carries-by rows progress told result answer (stopped c s) e =
+    let is = e ∙ carry-refused c s in
+    let some = cause-some c in
+    let small = cause-small c in
+    record {
+      refused = λ cause place. (
+        λ p. let same = cause-number-once c cause (omega (arith, is, p .0, small, cause-small cause)) in
+            let at : s ≡ place = omega (arith, is, p .1, small) in
+            answer .declined cause place .0 (ap (λ (x : Cause). refusal x s) same ∙ ap (refusal cause) at),
+        λ d. let same = answer .declined cause place .1 d in
+            let number : causeNumber c ≡ causeNumber cause = ap (λ (t : Told). t .number) same in
+            let spot : s ≡ place = ap (λ (t : Told). getD (t .values) 0 0) same in
+            (omega (arith, is, number, small), omega (arith, is, spot, small)),
+      );
+      accepted = (
+        λ either. absurd (⊎-elim (λ z. omega (arith, is, z, some)) (λ z. omega (arith, is, z, small)) either),
+        λ a. absurd (omega (arith, answer .accepted .1 a, some)),
+      );
+      finished = (λ z. absurd (omega (arith, is, z, small)), λ p. absurd (omega (arith, answer .accepted .1 (p .0), some)));
+    }
+
+-- where it does not write nothing changes
+carry-kept : (t plan : List ℕ) (rule : Rule) (done total : ℕ) → (carryResult (stepAnswer 2 t plan rule done total) ≡ 0 → ⊥)
+    → (stepTable 2 t plan rule done total ≡ t) × (stepDone 2 t plan rule done total ≡ done)
+unfolding stepAnswer stepTable stepDone stepWrites
+carry-kept t plan rule done total other =
+    let still = pick (progressChecks 2 t (length plan) done total) (eqb done total) (writeChecks 2 t rule (getD plan done 0) done) other in
+    (rw still, rw still)
+  where
+    pick : (p : Check) (b : Bool) (c : Check) → (carryResult (unless p (cond b (success []) (unless c (success ((done + 1) ∷ []))))) ≡ 0 → ⊥)
+        → passes p && (not b && passes c) ≡ false
+    pick (Fail cause spot) b c other = refl
+    pick Pass true c other = refl
+    pick Pass false Pass other = absurd (other refl)
+    pick Pass false (Fail cause spot) other = refl
+
+-- a script line that is refused
+refused-line : (a : LineAnswer) (cause : Cause) (place : ℕ) → lineTold a .told ≡ refusal cause place → a ≡ Refused cause place
+refused-line (Made new) cause place e = absurd (no-refusal _ cause place e)
+refused-line (Planned info) cause place e = absurd (no-refusal _ cause place e)
+refused-line (LineFound hit) cause place e = absurd (no-refusal _ cause place e)
+refused-line Miss cause place e = absurd (no-refusal _ cause place e)
+refused-line (Refused c s) cause place e =
+    ap₂ Refused (cause-number-once c cause (ap (λ (t : Told). t .number) e)) (ap (λ (t : Told). getD (t .values) 0 0) e)
+
+change-kept : (t : List ℕ) (checks : Check) (words after : List ℕ) → changeTold checks words .letter ≡ 82 → changeOutcome t checks words after .table ≡ t
+change-kept t Pass words after e = absurd (omega (arith, e))
+change-kept t (Fail cause spot) words after e = refl
+
+line-kept : (t : List ℕ) (number : ℕ) (command : Command) → commandTold t number command .letter ≡ 82 → commandOutcome t number command .table ≡ t
+unfolding tableTold tableOutcome insertTold insertOutcome deleteTold deleteOutcome
+line-kept t number (Table new) e = pick (leb 1 (new .slots) && leb (new .slots) 1024) e
+  where
+    pick : (good : Bool) → cond good (lettered 78 (success (new .slots ∷ []))) (lettered 82 (refusal Shape 0)) .letter ≡ 82
+        → cond good (outcomeOf (emptyTable 2 (new .slots)) (tableBytes (new .slots))) (refused t 1 0) .table ≡ t
+    pick true e = absurd (omega (arith, e))
+    pick false e = refl
+line-kept t number (Insert insertion) e = change-kept t (insertChecks 2 t (insertedRule insertion)) _ _ e
+line-kept t number (Delete deletion) e = change-kept t (deleteChecks 2 t (deletion .id)) _ _ e
+line-kept t number (Lookup query) e = refl
+line-kept t number Malformed e = refl
+
+-- the table at the start of the memory, and what stands past it
+front-kept : (n : ℕ) (l : List ℕ) → take n l ++ drop (length (take n l)) l ≡ l
+front-kept zero l = refl
+front-kept (suc n) [] = refl
+front-kept (suc n) (a ∷ l) = ap (λ (rest : List ℕ). a ∷ rest) (front-kept n l)
+
+memory-kept : (memory : List ℕ) (slots : ℕ) (table : List ℕ) → table ≡ tableIn memory slots → table ++ drop (length table) memory ≡ memory
+memory-kept memory slots table e = ap (λ (u : List ℕ). u ++ drop (length u) memory) e ∙ front-kept (slots * 6) memory
+
+-- document 01's demand 1
+pub first-demand : FirstDemand
+first-demand = record {
+  numbers = cause-number-once;
+  lookup = λ t high low result slot slot′ id id′ action action′ spot spot′ left. (
+    told-declines _ (keyAnswer t high low) result spot spot′ (lookup-answered 2 t (word (high ∷ low ∷ []))) (lookup-kind t (word (high ∷ low ∷ []))) (left .number) (left .spotted),
+    λ refused. let declines : IsRefusal (keyAnswer t high low .number) = λ z. refused (left .number ∙ z) in
+        (left .slotted ∙ cell-kept (keyAnswer t high low) 0 slot declines, left .named ∙ cell-kept (keyAnswer t high low) 1 id declines,
+          left .acted ∙ cell-kept (keyAnswer t high low) 2 action declines),
+  );
+  insert = λ t rule result plan after count count′ spot spot′ left.
+    buffer-call _ (insertChecks 2 t rule) (insertWords 2 t rule) plan after _ result count count′ spot spot′ refl (insert-answered 2 t rule (length plan)) (left .left);
+  delete = λ t id result plan after count count′ spot spot′ left.
+    buffer-call _ (deleteChecks 2 t id) (deleteWords 2 t id) plan after _ result count count′ spot spot′ refl (delete-answered 2 t id (length plan)) left;
+  save = λ t result image after bytes bytes′ spot spot′ left.
+    buffer-call _ (tableChecks 2 t) (imageOf 2 t) image after _ result bytes bytes′ spot spot′ (sym (image-length 2 t)) (save-answered 2 t (length image)) left;
+  load = λ b result t after spot spot′ left. (
+    told-declines _ (loadAnswer 2 b t) result spot spot′ (load-answered 2 b t) (load-kind b t) (left .number) (left .spotted),
+    λ refused. left .loaded ∙ load-kept b t (λ z. refused (left .number ∙ z)),
+  );
+  carry = λ t plan rule progress result after progress′ left. (
+    carries-by _ progress _ result (step-answered 2 t plan rule (progress .done) (progress .total)) (step-case t plan rule progress) (left .told),
+    λ other. let kept = carry-kept t plan rule (progress .done) (progress .total) (λ z. other (left .told ∙ z)) in
+        (left .table ∙ kept .0, left .advanced ∙ kept .1, left .in-all),
+  );
+  line = λ memory memory′ slots number line out out′ ran left told. (
+    λ cause place. (
+      λ e. line-answered (tableIn memory slots) number line .declined cause place .0 (ap (λ (x : LineTold). x .told) (sym told ∙ ap lineTold e)),
+      λ d. refused-line (ran .answer) cause place (ap (λ (x : LineTold). x .told) told ∙ line-answered (tableIn memory slots) number line .declined cause place .1 d),
+    ),
+    λ cause place e. left .table ∙ memory-kept memory slots _
+      (line-kept (tableIn memory slots) number (commandOf line) (ap (λ (x : LineTold). x .letter) (sym told ∙ ap lineTold e))),
+  );
+}
