@@ -1,1 +1,79 @@
--- placeholder
+-- Laws on calls one after the other: a plan under way is in one of the states that the theorems below speak of.
+use mathlib.Core.Path.{_≡_, refl, sym, ap, _∙_, subst}
+use mathlib.Core.List.{List, [], _∷_}
+use Prim.Native.Nat.{ℕ, suc, _≤_, _<_}
+use native.Mathlib.Omega.{arith}
+use native.Mathlib.Decide.{decLt}
+use lib.ListN.{length, take}
+use Rattle.records.specs.Checks.{Told, success}
+use Rattle.records.specs.declared.Rule.{Rule}
+use Rattle.carrying.specs.Calls.{State, afterCalls, callAnswer, Lent}
+use Rattle.carrying.specs.CallsLaws.{lent-part}
+use Rattle.histories.specs.Demand2.{Demand2}
+use Rattle.histories.specs.Demand2Laws.{demand-2-room}
+use Rattle.marshalling.specs.Carried.{carryResult}
+use Rattle.tcam.specs.declared.carry.Progress.{Progress}
+use Rattle.tcam.specs.Carried.{CarryLeft}
+use Rattle.tcam.specs.CarriedLaws.{carry-call, carry-lent}
+use Rattle.promises.specs.Calls.{wroteResult, finishedResult, Carrying, CarriedOut}
+
+-- the state after k calls
+pub record At (t plan : List ℕ) (rule : Rule) (count : ℕ) (u : List ℕ) (progress : Progress) (k : ℕ) : Type 0 where
+  pub few : k ≤ count
+  pub table : u ≡ afterCalls 2 t plan rule count k .table
+  pub done : progress .done ≡ k
+  pub total : progress .total ≡ count
+
+module _ (t plan : List ℕ) (rule : Rule) (words : List ℕ) (count : ℕ) (change : List Rule → List Rule) (d : Demand2 2 t plan rule words count change) where
+  -- a call on such a state: its result, and the state that it leaves
+  call-at : (u : List ℕ) (progress : Progress) (k : ℕ) → At t plan rule count u progress k → (n result : ℕ) → count ≤ n → (after : List ℕ) (progress′ : Progress)
+      → CarryLeft u (take n plan) rule progress result after progress′
+      → (result ≡ carryResult (callAnswer 2 t plan rule count k)) × (after ≡ afterCalls 2 t plan rule count (suc k) .table)
+      × (progress′ .done ≡ afterCalls 2 t plan rule count (suc k) .done) × (progress′ .total ≡ count)
+  call-at u progress k at n result long after progress′ left =
+      let lent = subst (λ (m : ℕ). Lent plan m (take n plan)) (sym (at .total)) (lent-part plan count n (demand-2-room d) long) in
+      let whole = carry-lent u plan (take n plan) rule progress result after progress′ lent left in
+      carry-call t plan rule count k result after progress progress′ (at .done ∙ sym (d .counted k (at .few))) (at .total)
+      (subst (λ (v : List ℕ). CarryLeft v plan rule progress result after progress′) (at .table) whole)
+
+  -- it makes a write until all are made, and then answers "finished"
+  pub result-at : (k : ℕ) → k ≤ count
+      → (k < count → carryResult (callAnswer 2 t plan rule count k) ≡ wroteResult) × (k ≡ count → carryResult (callAnswer 2 t plan rule count k) ≡ finishedResult)
+  result-at k few = (λ h. ap carryResult (d .writes k h), λ e. ap carryResult (d .finished k (omega arith)))
+
+  pub carrying-at : (u : List ℕ) (progress : Progress) → Carrying t plan rule count u progress → (k : ℕ) × At t plan rule count u progress k
+  carrying-at u progress Carrying.drawn = (0, record { few = omega arith; table = refl; done = refl; total = refl })
+  carrying-at u progress (Carrying.wrote v before under n long within after progress′ left) =
+      let ih = carrying-at v before under in
+      let k = ih .0 in
+      let call = call-at v before k (ih .1) n wroteResult long u progress left in
+      next (ih .0) (ih .1) call (decLt k count)
+    where
+      next : (k : ℕ) → At t plan rule count v before k
+          → (wroteResult ≡ carryResult (callAnswer 2 t plan rule count k)) × (u ≡ afterCalls 2 t plan rule count (suc k) .table)
+          × (progress .done ≡ afterCalls 2 t plan rule count (suc k) .done) × (progress .total ≡ count)
+          → Dec (k < count) → (k : ℕ) × At t plan rule count u progress k
+      next k at call (yes h) = (suc k, record { few = h; table = call .1; done = call .2 ∙ d .counted (suc k) h; total = call .3 })
+      next k at call (no h) =
+          let all : k ≡ count = omega (arith, at .few) in
+          let other : wroteResult ≡ finishedResult = call .0 ∙ result-at k (at .few) .1 all in
+          absurd (omega (arith, other))
+
+  -- carried out in full
+  pub carried-at : (u : List ℕ) → CarriedOut t plan rule count u → u ≡ afterCalls 2 t plan rule count count .table
+  carried-at u full =
+      let state = carrying-at u (full .0) (full .1) in
+      let all : state .0 ≡ count = sym (state .1 .done) ∙ full .2 in
+      state .1 .table ∙ ap (λ (k : ℕ). afterCalls 2 t plan rule count k .table) all
+
+  pub goes-on-at : (u : List ℕ) (progress : Progress) → Carrying t plan rule count u progress
+      → (n result : ℕ) → count ≤ n → (after : List ℕ) (progress′ : Progress) → CarryLeft u (take n plan) rule progress result after progress′
+      → (progress .done < count → result ≡ wroteResult) × (progress .done ≡ count → result ≡ finishedResult)
+  goes-on-at u progress under n result long after progress′ left =
+      let state = carrying-at u progress under in
+      let k = state .0 in
+      let at = state .1 in
+      let call = call-at u progress k at n result long after progress′ left in (
+        λ h. call .0 ∙ result-at k (at .few) .0 (omega (arith, at .done)),
+        λ e. call .0 ∙ result-at k (at .few) .1 (sym (at .done) ∙ e),
+      )

@@ -138,6 +138,21 @@ buffer-call rows checks contents plan after needed result count count′ spot sp
       left .counted ∙ cell-kept (bufferAnswer checks needed (length plan)) 0 count declines),
 )
 
+-- one that returned 0 has counted what it wrote
+buffer-accepts : (checks : Check) (needed room : ℕ) → bufferAnswer checks needed room .number ≡ 0 → bufferAnswer checks needed room ≡ success (needed ∷ [])
+unfolding bufferAnswer
+buffer-accepts checks needed room e = pick (orElse checks (checkRoom needed room)) e
+  where
+    pick : (x : Check) → unless x (success (needed ∷ [])) .number ≡ 0 → unless x (success (needed ∷ [])) ≡ success (needed ∷ [])
+    pick Pass e = refl
+    pick (Fail cause spot) e = absurd (true≢false (sym (ap (λ (n : ℕ). eqb n 0) e) ∙ cause-not-zero cause))
+
+pub counted-answer : (checks : Check) (needed room : ℕ) (planned after : List ℕ) (count count′ spot spot′ : ℕ)
+    → PlanLeft (bufferAnswer checks needed room) planned 0 after count count′ spot spot′ → bufferAnswer checks needed room ≡ success (count′ ∷ [])
+counted-answer checks needed room planned after count count′ spot spot′ left =
+    let told = buffer-accepts checks needed room (sym (left .number)) in
+    told ∙ ap (λ (n : ℕ). success (n ∷ [])) (sym (left .counted ∙ ap (λ (t : Told). dataCell t 0 count) told))
+
 -- carrying out: its answer in three cases
 pub data StepCase (progress : Progress) : Told → Type 0 where
   wrote : (done : ℕ) → (progress .done ≡ progress .total → ⊥) → StepCase progress (success (done ∷ []))
