@@ -1,13 +1,12 @@
 -- Laws on calls one after the other: a plan under way is in one of the states that the theorems below speak of.
 use mathlib.Core.Path.{_≡_, refl, sym, ap, _∙_, subst}
-use mathlib.Core.List.{List, [], _∷_}
+use mathlib.Core.List.{List}
 use Prim.Native.Nat.{ℕ, suc, _≤_, _<_}
 use native.Mathlib.Omega.{arith}
 use native.Mathlib.Decide.{decLt}
-use lib.ListN.{length, take}
-use Rattle.records.specs.Checks.{Told, success}
+use lib.ListN.{take}
 use Rattle.records.specs.declared.Rule.{Rule}
-use Rattle.carrying.specs.Calls.{State, afterCalls, callAnswer, Lent}
+use Rattle.carrying.specs.Calls.{afterCalls, callAnswer, Lent}
 use Rattle.carrying.specs.CallsLaws.{lent-part}
 use Rattle.histories.specs.Demand2.{Demand2}
 use Rattle.histories.specs.Demand2Laws.{demand-2-room}

@@ -43,7 +43,6 @@ IsRefusal result = result ≡ 0 → ⊥
 pub record FirstDemand : Type 0 where
   -- each refusal has one number
   pub numbers : (cause other : Cause) → causeNumber cause ≡ causeNumber other → cause ≡ other
-
   -- the calls that only read a table decline by their rows, and a refusal leaves what they are lent
   pub lookup : (t : List ℕ) (high low result slot slot′ id id′ action action′ spot spot′ : ℕ)
       → LookupLeft t high low result slot slot′ id id′ action action′ spot spot′
@@ -57,17 +56,14 @@ pub record FirstDemand : Type 0 where
   pub save : (t : List ℕ) (result : ℕ) (image after : List ℕ) (bytes bytes′ spot spot′ : ℕ)
       → SaveLeft t result image after bytes bytes′ spot spot′
       → DeclinesBy (saveRows 2 t (length image)) result spot′ × (IsRefusal result → (after ≡ image) × (bytes′ ≡ bytes))
-
   -- a load
   pub load : (b : List ℕ) (result : ℕ) (t after : List ℕ) (spot spot′ : ℕ) → LoadLeft b result t after spot spot′
       → DeclinesBy (loadRows 2 b t) result spot′ × (IsRefusal result → after ≡ t)
-
   -- carrying out: number and spot are the halves of its result. Where it does not write, a refusal or "finished", the table and the record are as they
   -- were; "finished" it returns exactly where nothing is refused and all writes are done
   pub carry : (t plan : List ℕ) (rule : Rule) (progress : Progress) (result : ℕ) (after : List ℕ) (progress′ : Progress)
       → CarryLeft t plan rule progress result after progress′ → CarriesBy (stepRows 2 t plan rule (progress .done) (progress .total)) progress result
       × ((result ≡ wroteResult → ⊥) → (after ≡ t) × (progress′ .done ≡ progress .done) × (progress′ .total ≡ progress .total))
-
   -- a script line, on the table that the memory holds: a refused one leaves the memory
   pub line : (memory memory′ : List ℕ) (slots number : ℕ) (line out out′ : List ℕ) (ran : Ran)
       → Left (lineOutcome (tableIn memory slots) number line) ran memory memory′ out out′

@@ -1,7 +1,7 @@
 -- End theorems: document 01's demand 1, of every exported call and of script lines.
 use mathlib.Core.Path.{_≡_, refl, sym, ap, ap₂, _∙_, subst}
 use mathlib.Core.Bool.{Bool, true, false, not, cond, _&&_, true≢false}
-use mathlib.Core.Logic.{_↔_, _⊎_, inl, inr, ⊎-elim}
+use mathlib.Core.Logic.{inl, inr, ⊎-elim}
 use mathlib.Core.List.{List, [], _∷_, _++_}
 use Prim.Native.Nat.{ℕ, zero, suc, _+_, _*_}
 use native.Mathlib.Omega.{arith}
@@ -43,9 +43,8 @@ use Rattle.script_answers.specs.Answers.{tableBytes}
 use Rattle.script_operations.specs.Outcomes.{outcomeOf, refused, changeOutcome, insertOutcome, deleteOutcome}
 use Rattle.script.specs.Script.{tableIn, tableOutcome, commandOutcome}
 use Rattle.script.specs.Told.{tableTold, commandTold}
-use Rattle.refusals.specs.Rows.{Row, Declines, Accepts, AnsweredBy}
+use Rattle.refusals.specs.Rows.{Row, AnsweredBy}
 use Rattle.refusals.specs.CallsLaws.{lookup-answered, insert-answered, delete-answered, save-answered, load-answered, step-answered}
-use Rattle.refusals.specs.Calls.{stepRows}
 use Rattle.refusals.specs.LinesLaws.{line-answered}
 use Rattle.refusals.specs.CarryingLaws.{stepChecks, step-told}
 use Rattle.tcam.specs.declared.carry.Progress.{Progress}
@@ -133,9 +132,10 @@ buffer-call : (rows : List Row) (checks : Check) (contents plan after : List ℕ
 buffer-call rows checks contents plan after needed result count count′ spot spot′ size answer left = (
   told-declines rows _ result spot spot′ answer (buffer-kind checks needed (length plan)) (left .number) (left .spotted),
   λ refused.
-    let declines : IsRefusal (bufferAnswer checks needed (length plan) .number) = λ z. refused (left .number ∙ z) in
-    (left .plan ∙ buffer-kept checks contents plan (subst (λ (n : ℕ). IsRefusal (bufferAnswer checks n (length plan) .number)) size declines),
-      left .counted ∙ cell-kept (bufferAnswer checks needed (length plan)) 0 count declines),
+      let declines : IsRefusal (bufferAnswer checks needed (length plan) .number) = λ z. refused (left .number ∙ z) in (
+        left .plan ∙ buffer-kept checks contents plan (subst (λ (n : ℕ). IsRefusal (bufferAnswer checks n (length plan) .number)) size declines),
+        left .counted ∙ cell-kept (bufferAnswer checks needed (length plan)) 0 count declines,
+      ),
 )
 
 -- one that returned 0 has counted what it wrote
@@ -263,16 +263,18 @@ first-demand = record {
   numbers = cause-number-once;
   lookup = λ t high low result slot slot′ id id′ action action′ spot spot′ left. (
     told-declines _ (keyAnswer t high low) result spot spot′ (lookup-answered 2 t (word (high ∷ low ∷ []))) (lookup-kind t (word (high ∷ low ∷ []))) (left .number) (left .spotted),
-    λ refused. let declines : IsRefusal (keyAnswer t high low .number) = λ z. refused (left .number ∙ z) in
-        (left .slotted ∙ cell-kept (keyAnswer t high low) 0 slot declines, left .named ∙ cell-kept (keyAnswer t high low) 1 id declines,
-          left .acted ∙ cell-kept (keyAnswer t high low) 2 action declines),
+    λ refused. let declines : IsRefusal (keyAnswer t high low .number) = λ z. refused (left .number ∙ z) in (
+      left .slotted ∙ cell-kept (keyAnswer t high low) 0 slot declines,
+      left .named ∙ cell-kept (keyAnswer t high low) 1 id declines,
+      left .acted ∙ cell-kept (keyAnswer t high low) 2 action declines,
+    ),
   );
   insert = λ t rule result plan after count count′ spot spot′ left.
-    buffer-call _ (insertChecks 2 t rule) (insertWords 2 t rule) plan after _ result count count′ spot spot′ refl (insert-answered 2 t rule (length plan)) (left .left);
+      buffer-call _ (insertChecks 2 t rule) (insertWords 2 t rule) plan after _ result count count′ spot spot′ refl (insert-answered 2 t rule (length plan)) (left .left);
   delete = λ t id result plan after count count′ spot spot′ left.
-    buffer-call _ (deleteChecks 2 t id) (deleteWords 2 t id) plan after _ result count count′ spot spot′ refl (delete-answered 2 t id (length plan)) left;
+      buffer-call _ (deleteChecks 2 t id) (deleteWords 2 t id) plan after _ result count count′ spot spot′ refl (delete-answered 2 t id (length plan)) left;
   save = λ t result image after bytes bytes′ spot spot′ left.
-    buffer-call _ (tableChecks 2 t) (imageOf 2 t) image after _ result bytes bytes′ spot spot′ (sym (image-length 2 t)) (save-answered 2 t (length image)) left;
+      buffer-call _ (tableChecks 2 t) (imageOf 2 t) image after _ result bytes bytes′ spot spot′ (sym (image-length 2 t)) (save-answered 2 t (length image)) left;
   load = λ b result t after spot spot′ left. (
     told-declines _ (loadAnswer 2 b t) result spot spot′ (load-answered 2 b t) (load-kind b t) (left .number) (left .spotted),
     λ refused. left .loaded ∙ load-kept b t (λ z. refused (left .number ∙ z)),
@@ -288,6 +290,6 @@ first-demand = record {
       λ d. refused-line (ran .answer) cause place (ap (λ (x : LineTold). x .told) told ∙ line-answered (tableIn memory slots) number line .declined cause place .1 d),
     ),
     λ cause place e. left .table ∙ memory-kept memory slots _
-      (line-kept (tableIn memory slots) number (commandOf line) (ap (λ (x : LineTold). x .letter) (sym told ∙ ap lineTold e))),
+        (line-kept (tableIn memory slots) number (commandOf line) (ap (λ (x : LineTold). x .letter) (sym told ∙ ap lineTold e))),
   );
 }

@@ -1,32 +1,26 @@
 -- End theorems: document 01's demand 2, of what the exported calls return and leave.
 use mathlib.Core.Path.{_≡_, refl, sym, ap, _∙_, subst}
-use mathlib.Core.Bool.{true, false, cond, Bool, true≢false}
+use mathlib.Core.Bool.{true, cond, Bool, true≢false}
 use mathlib.Core.Logic.{_⊎_, inl, inr}
 use mathlib.Core.List.{List, [], _∷_}
 use mathlib.Core.Option.{Option, none, some}
-use Prim.Native.Nat.{ℕ, suc, _≤_, _<_}
+use Prim.Native.Nat.{ℕ, suc, _<_}
 use native.Mathlib.Omega.{arith}
 use native.Mathlib.Decide.{decLt}
-use lib.Dec.{eqb}
-use lib.ListN.{length, getD, take, drop}
+use lib.ListN.{getD, drop}
 use borrow.Author.Tests.{eq-eqb}
 use Rattle.ternary.specs.Pattern.{Words}
 use Rattle.ternary.specs.PatternLaws.{matches-law}
-use Rattle.records.specs.Record.{word, ident, recordOf}
-use Rattle.records.specs.Checks.{Told, success}
+use Rattle.records.specs.Record.{word, ident}
+use Rattle.records.specs.Checks.{Told}
 use Rattle.records.specs.RulesLaws.{record-ident}
 use Rattle.records.specs.declared.Rule.{Rule}
-use Rattle.records.specs.declared.Check.{Check}
-use Rattle.records.specs.declared.Check.the-variants.{Pass}
-use Rattle.buffers.specs.Buffers.{bufferAnswer}
-use Rattle.lookups.specs.Lookup.{lookupAnswer, reply}
 use Rattle.neighbours.specs.Neighbours.{insertChecks}
-use Rattle.delete_plans.specs.Deletes.{deleteChecks, deleteAnswer, deletePlan, deleteWords}
-use Rattle.insert_plans.specs.Inserts.{insertWords, insertAnswer, insertPlan}
+use Rattle.delete_plans.specs.Deletes.{deleteChecks, deleteWords}
+use Rattle.insert_plans.specs.Inserts.{insertWords}
 use Rattle.carrying.specs.Calls.{afterCalls}
 use Rattle.histories.specs.RuleSet.{Change, ruleSet, without, Member, ruleMatches, highestMatch, ruleReply, setReply, IsHighest}
 use Rattle.histories.specs.RuleSetLaws.{highest-law}
-use Rattle.histories.specs.TableRules.{tableRules}
 use Rattle.histories.specs.TableRulesLaws.{table-holding}
 use Rattle.histories.specs.Holding.{Holding, Replies}
 use Rattle.histories.specs.HoldingLaws.{holding-reply, holding-lookup, holding-untied}
@@ -34,14 +28,11 @@ use Rattle.histories.specs.HistoriesLaws.{empty-holding}
 use Rattle.histories.specs.Demand2.{Demand2}
 use Rattle.histories.specs.Demand2Laws.{demand-2-insert, demand-2-delete}
 use Rattle.marshalling.specs.Cells.{dataCell}
-use Rattle.refusals.specs.Rows.{Accepts}
-use Rattle.refusals.specs.Calls.{tableRows}
 use Rattle.refusals.specs.TableLaws.{table-rows}
-use Rattle.tcam.specs.declared.carry.Progress.{Progress}
-use Rattle.tcam.specs.Cells.{keyAnswer, LookupLeft, PlanLeft, InsertLeft, DeleteLeft}
+use Rattle.tcam.specs.Cells.{keyAnswer, InsertLeft, DeleteLeft}
 use Rattle.tcam.specs.ImagesLaws.{save-load-call}
-use Rattle.promises.specs.Calls.{Carrying, CarriedOut, Ran}
-use Rattle.promises.specs.CallsLaws.{At, carrying-at, carried-at, goes-on-at}
+use Rattle.promises.specs.Calls.{CarriedOut, Ran}
+use Rattle.promises.specs.CallsLaws.{carrying-at, carried-at, goes-on-at}
 use Rattle.promises.specs.FirstDemandLaws.{counted-answer}
 use Rattle.promises.specs.SecondDemand.{KeyMatches, Highest, NoneMatches, RepliedBy, Answers, RulesOf, Within, SecondDemand}
 
@@ -75,13 +66,15 @@ module _ (rules : List Rule) (v : List ℕ) (h : Holding 2 rules v) (high low : 
               let same : other .priority ≡ rule .priority = omega (arith, is .2 other member (matched other m)) in
               let one = holding-untied 2 rules v h (keyWords high low) other rule member (is .0) (matched other m) (is .1) same in
               inl (sym (record-ident 2 other (h .actions other member))
-                ∙ (ap (λ (x : List ℕ). ident 2 (word x)) one ∙ record-ident 2 rule (h .actions rule (is .0))))
+              ∙ (ap (λ (x : List ℕ). ident 2 (word x)) one ∙ record-ident 2 rule (h .actions rule (is .0))))
 
   replied : (told : Told) (result id id′ action action′ : ℕ) → told .number ≡ 0 → drop 1 (told .values) ≡ setReply 2 rules (keyWords high low)
       → result ≡ told .number → id′ ≡ dataCell told 1 id → action′ ≡ dataCell told 2 action → RepliedBy rules high low result id′ action′
-  replied told result id id′ action action′ zero-number values e f g =
-      (e ∙ zero-number, pick (highestMatch 2 (keyWords high low) rules) (highest-law 2 (keyWords high low) rules)
-        (f ∙ cell-of told _ 0 id zero-number values) (g ∙ cell-of told _ 1 action zero-number values))
+  replied told result id id′ action action′ zero-number values e f g = (
+    e ∙ zero-number,
+    pick (highestMatch 2 (keyWords high low) rules) (highest-law 2 (keyWords high low) rules)
+        (f ∙ cell-of told _ 0 id zero-number values) (g ∙ cell-of told _ 1 action zero-number values),
+  )
     where
       pick : (best : Option Rule) → IsHighest 2 (keyWords high low) rules best → id′ ≡ getD (ruleReply best) 0 0 → action′ ≡ getD (ruleReply best) 1 0
           → ((rule : Rule) × Highest rules high low rule × (id′ ≡ rule .id) × (action′ ≡ rule .action)) ⊎ (NoneMatches rules high low × (id′ ≡ 0) × (action′ ≡ 0))
@@ -102,20 +95,20 @@ module _ (t plan : List ℕ) (rule : Rule) (words : List ℕ) (count : ℕ) (cha
   within : (rules : List Rule) → Holding 2 rules t → Within t plan rule count rules (change rules)
   within rules h = record {
     kept = λ u progress under less.
-      let state = carrying-at t plan rule words count change d u progress under in
-      let k = state .0 in
-      let at = state .1 in
-      answers rules u t h (λ key. subst (λ (v : List ℕ). Replies 2 v key (setReply 2 rules key)) (sym (at .table))
+        let state = carrying-at t plan rule words count change d u progress under in
+        let k = state .0 in
+        let at = state .1 in
+        answers rules u t h (λ key. subst (λ (v : List ℕ). Replies 2 v key (setReply 2 rules key)) (sym (at .table))
         (subst (Replies 2 (afterCalls 2 t plan rule count k .table) key) (holding-reply 2 rules t h key) (d .kept k (omega (arith, at .done)) key)));
     changed = λ u progress under all.
-      let state = carrying-at t plan rule words count change d u progress under in
-      let k = state .0 in
-      let at = state .1 in
-      answers (change rules) u _ (d .holds rules h)
-      (λ key. subst (λ (v : List ℕ). Replies 2 v key (setReply 2 (change rules) key)) (sym (at .table)) (d .changed rules h k (omega (arith, at .done)) key));
+        let state = carrying-at t plan rule words count change d u progress under in
+        let k = state .0 in
+        let at = state .1 in
+        answers (change rules) u _ (d .holds rules h)
+        (λ key. subst (λ (v : List ℕ). Replies 2 v key (setReply 2 (change rules) key)) (sym (at .table)) (d .changed rules h k (omega (arith, at .done)) key));
     few = λ u progress under. let state = carrying-at t plan rule words count change d u progress under in omega (arith, state .1 .done, state .1 .few);
     goes-on = λ u progress under n result long room after progress′ left.
-      goes-on-at t plan rule words count change d u progress under n result long after progress′ left;
+        goes-on-at t plan rule words count change d u progress under n result long after progress′ left;
   }
 
 -- a planning call that returned 0
@@ -148,9 +141,9 @@ pub second-demand : SecondDemand
 second-demand = record {
   answered = λ rules t of. let h = held rules t of in answers rules t t h (λ key. holding-lookup 2 rules t h key);
   insert = λ rules t of rule small plan after count count′ spot spot′ left.
-    within t after rule _ count′ (λ rs. rule ∷ rs) (inserting t rule small plan after count count′ spot spot′ left) rules (held rules t of);
+      within t after rule _ count′ (λ rs. rule ∷ rs) (inserting t rule small plan after count count′ spot spot′ left) rules (held rules t of);
   delete = λ rules t of id plan after count count′ spot spot′ left rule.
-    within t after rule _ count′ (without id) (deleting t id plan after count count′ spot spot′ left rule) rules (held rules t of);
+      within t after rule _ count′ (without id) (deleting t id plan after count count′ spot spot′ left rule) rules (held rules t of);
   loads = λ t image saved bytes bytes′ spot spot′ words left lent loaded result place place′ size load.
-    let r = save-load-call t image saved bytes bytes′ spot spot′ words left lent loaded result place place′ size load in (r .0, r .1);
+      let r = save-load-call t image saved bytes bytes′ spot spot′ words left lent loaded result place place′ size load in (r .0, r .1);
 }

@@ -7,7 +7,7 @@ use mathlib.Core.List.{List, [], _∷_, _++_}
 use Prim.Native.Nat.{ℕ, zero, suc, _+_, _≤_, _<_}
 use lib.ListN.{length, getD}
 use Rattle.ternary.specs.Pattern.{Words, Within}
-use Rattle.layout.specs.Write.{Write, put}
+use Rattle.layout.specs.Write.{put}
 use Rattle.plan_words.specs.PlanWords.{writeOf}
 use Rattle.records.specs.Record.{word, slotWords, occupied, ident, rank, value, mask, recordOf}
 use Rattle.records.specs.Order.{slots, Overlapping}

@@ -7,11 +7,11 @@ use lib.Dec.{eqb, ltb}
 use lib.ListN.{length}
 use Rattle.ternary.specs.Pattern.{Words}
 use Rattle.records.specs.Order.{slots}
-use Rattle.records.specs.Checks.{Told, success, unless, slotChecks, firstMatch}
+use Rattle.records.specs.Checks.{Told, success, slotChecks, firstMatch}
 use Rattle.records.specs.declared.Rule.{Rule}
 use Rattle.records.specs.declared.Check.{Check}
 use Rattle.buffers.specs.Buffers.{checkRoom, bufferAnswer}
-use Rattle.lookups.specs.Lookup.{hitAt, matchTold, lookupAnswer}
+use Rattle.lookups.specs.Lookup.{matchTold, lookupAnswer}
 use Rattle.insert_plans.specs.Inserts.{insertAnswer, insertWords}
 use Rattle.delete_plans.specs.Deletes.{deleteAnswer}
 use Rattle.carrying.specs.Carrying.{stepAnswer}
@@ -19,7 +19,7 @@ use Rattle.image.specs.Format.{imageBytes, ruleCount}
 use Rattle.image.specs.Answers.{saveAnswer, loadAnswer}
 use Rattle.refusals.specs.Rows.{Row, AnsweredBy}
 use Rattle.refusals.specs.RowsLaws.{Agrees, rows-then, answered}
-use Rattle.refusals.specs.Calls.{tableRows, shortRow, lookupRows, insertRows, deleteRows, saveRows, stepRows, loadRows}
+use Rattle.refusals.specs.Calls.{shortRow, lookupRows, insertRows, deleteRows, saveRows, stepRows, loadRows}
 use Rattle.refusals.specs.TableLaws.{slot-rows, table-rows}
 use Rattle.refusals.specs.PlanningLaws.{short-row, insert-rows, delete-rows}
 use Rattle.refusals.specs.CarryingLaws.{stepChecks, stepSuccess, step-told, step-rows}

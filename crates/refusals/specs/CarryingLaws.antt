@@ -13,7 +13,7 @@ use borrow.Author.Tests.{eqb-true, eqb-false, leb-true, le-leb}
 use Rattle.search.specs.SearchLaws.{and-law, decided}
 use Rattle.layout.specs.Write.{Write, copy, put, clear}
 use Rattle.plan_words.specs.PlanWords.{writeOf}
-use Rattle.records.specs.Record.{word, soundRule}
+use Rattle.records.specs.Record.{word}
 use Rattle.records.specs.Checks.{Told, success, unless, orElse}
 use Rattle.records.specs.Entries.{entries}
 use Rattle.records.specs.Writes.{fitsWrite, EntryFits}
@@ -86,9 +86,9 @@ module _ (w : ℕ) (t plan : List ℕ) (rule : Rule) (done total : ℕ) where
       let both = and-law (leb done total) (leb total (length plan)) in
       rows-then _ _ (slotRows w t) _ (slot-rows w t)
       (λ e. test-row WriteCause _ done (leb done total && leb total (length plan))
-        (λ f bad. let p = both .0 f in
-          ⊎-elim (λ more. omega (arith, more, leb-true done total (p .0))) (λ more. omega (arith, more, leb-true total (length plan) (p .1))) bad)
-        (λ f. either f (decLt total done) (decLt (length plan) total)))
+      (λ f bad. let p = both .0 f in
+      ⊎-elim (λ more. omega (arith, more, leb-true done total (p .0))) (λ more. omega (arith, more, leb-true total (length plan) (p .1))) bad)
+      (λ f. either f (decLt total done) (decLt (length plan) total)))
     where
       either : leb done total && leb total (length plan) ≡ false → Dec (total < done) → Dec (length plan < total) → (total < done) ⊎ (length plan < total)
       either f (yes more) d = inl more
@@ -102,9 +102,9 @@ module _ (w : ℕ) (t plan : List ℕ) (rule : Rule) (done total : ℕ) where
       let next = writeOf (getD plan done 0) in
       rows-then _ _ (putRow ∷ []) _
       (test-row RuleCause _ 0 (putSound w rule next) (λ e bad. bad .2 (put-law w rule next e (bad .1)))
-        (λ e. let f = put-fails w rule next e in (h, f .0, f .1)))
+      (λ e. let f = put-fails w rule next e in (h, f .0, f .1)))
       (λ e. test-row WriteCause _ done (fitsWrite w t next) (λ f bad. bad .1 (fits-write-law w t next .0 f))
-        (λ f. (h, λ good. true≢false (sym (fits-write-law w t next .1 good) ∙ f))))
+      (λ f. (h, λ good. true≢false (sym (fits-write-law w t next .1 good) ∙ f))))
 
   pub step-rows : Agrees (stepChecks w t plan rule done total) (stepRows w t plan rule done total)
   step-rows = rows-then _ _ (slotRows w t ++ (progressRow ∷ [])) (putRow ∷ fitRow ∷ []) progress-rows (λ e. pick (progress-within w t (length plan) done total e .0) (decided (eqb done total)))

@@ -1,28 +1,25 @@
 -- Laws on the rows of a load: an image's header, its entries and bodies in turn, and 3 and 4 over the table meant.
 use mathlib.Core.Path.{_≡_, refl, sym, _∙_}
 use mathlib.Core.Bool.{Bool, true, false, not, _&&_, true≢false}
-use mathlib.Core.Logic.{_↔_, _⊎_, inl, inr, ⊎-elim}
-use mathlib.Core.List.{List, [], _∷_, _++_}
+use mathlib.Core.Logic.{_⊎_, inl, inr, ⊎-elim}
+use mathlib.Core.List.{List, [], _∷_}
 use Prim.{tt}
 use Prim.Native.Nat.{ℕ, zero, suc, _+_, _≤_, _<_}
 use native.Mathlib.Omega.{arith}
 use native.Mathlib.Decide.{decLt, decLe}
 use lib.Dec.{eqb, ltb, leb}
 use lib.ListN.{length}
-use borrow.Author.Tests.{eqb-true, eqb-false, eq-eqb, ne-eqb, leb-true, le-leb, ltb-true, lt-ltb, not-true}
-use Rattle.search.specs.SearchLaws.{and-law}
+use borrow.Author.Tests.{eqb-true, eqb-false, leb-true, le-leb, ltb-true, lt-ltb, not-true}
 use Rattle.records.specs.Record.{word, sound, ident, rank, value, mask}
 use Rattle.records.specs.Order.{slots}
-use Rattle.records.specs.Checks.{orElse}
 use Rattle.records.specs.Laws.{sound-law}
-use Rattle.records.specs.EntriesLaws.{refuted}
 use Rattle.records.specs.declared.Cause.the-variants.{Image}
 use Rattle.records.specs.declared.Check.{Check}
 use Rattle.image.specs.Format.{imageBytes, bodyPlace, entryPlace, slotsIn, rulesIn, idAt, entrySlot, offsetAt, recordAt}
 use Rattle.image.specs.Checks.{inTurn, field, checkHeader, lowestSlot, checkEntry, checkBody, checkContents, checkBodies, imageChecks, meant, loadChecks}
 use Rattle.refusals.specs.Rows.{Row}
 use Rattle.refusals.specs.RowsLaws.{Agrees, rows-then, passing}
-use Rattle.refusals.specs.Calls.{SoundRecord, shapeRow, twiceRow, orderRow, fieldRow, rowsInTurn, entryRows, bodyRows, loadRows}
+use Rattle.refusals.specs.Calls.{shapeRow, twiceRow, orderRow, fieldRow, rowsInTurn, entryRows, bodyRows, loadRows}
 use Rattle.refusals.specs.TableLaws.{test-row, shape-row, twice-row, order-row}
 
 -- a field that is right exactly when its row's condition does not hold
@@ -81,8 +78,8 @@ module _ (w : ℕ) (b : List ℕ) (n : ℕ) where
       let exact = equal-tests (offsetAt b k) (bodyPlace w e k) in
       rows-then _ _ (fieldRow _ (entryPlace k) ∷ []) _
       (field-row (not (eqb (idAt b k) 0)) (idAt b k ≡ 0) (entryPlace k)
-        (λ named z. eqb-false (idAt b k) 0 (not-true _ named) z)
-        (λ unnamed. eqb-true (idAt b k) 0 (not-false (eqb (idAt b k) 0) unnamed)))
+      (λ named z. eqb-false (idAt b k) 0 (not-true _ named) z)
+      (λ unnamed. eqb-true (idAt b k) 0 (not-false (eqb (idAt b k) 0) unnamed)))
       (λ f. rows-then _ _ (fieldRow _ (entryPlace k + 4) ∷ []) _ (field-row _ _ (entryPlace k + 4) (slot .0) (slot .1))
       (λ g. field-row _ _ (entryPlace k + 6) (exact .0) (exact .1)))
     where
@@ -104,7 +101,7 @@ load-rows w b t =
     let e = rulesIn b in
     rows-then _ _ _ (twiceRow w (meant w b (length t)) ∷ orderRow w (meant w b (length t)) ∷ [])
     (rows-then _ _ (shapeRow w t ∷ []) _ (shape-row w t)
-      (λ f. rows-then _ _ _ _ (header-rows w b n)
-      (λ g. rows-then _ _ (rowsInTurn (entryRows w b n e) e) (rowsInTurn (bodyRows w b e) e)
-        (turn-rows _ _ (entry-rows w b n e) e) (λ h. turn-rows _ _ (body-rows w b n e) e))))
+    (λ f. rows-then _ _ _ _ (header-rows w b n)
+    (λ g. rows-then _ _ (rowsInTurn (entryRows w b n e) e) (rowsInTurn (bodyRows w b e) e)
+    (turn-rows _ _ (entry-rows w b n e) e) (λ h. turn-rows _ _ (body-rows w b n e) e))))
     (λ f. rows-then _ _ (twiceRow w (meant w b (length t)) ∷ []) _ (twice-row w (meant w b (length t))) (λ g. order-row w (meant w b (length t))))

@@ -1,5 +1,5 @@
 -- End theorems on refused script lines: a line is declined exactly by its list of rows.
-use mathlib.Core.Path.{_≡_, refl, sym, ap, _∙_, subst}
+use mathlib.Core.Path.{_≡_, refl, sym, _∙_, subst}
 use mathlib.Core.Bool.{Bool, true, false, cond, _&&_, true≢false}
 use mathlib.Core.Logic.{_⊎_, inl, inr, ⊎-elim}
 use mathlib.Core.List.{List, [], _∷_}
@@ -16,7 +16,6 @@ use Rattle.records.specs.declared.Rule.{Rule}
 use Rattle.records.specs.declared.Cause.the-variants.{Shape, Line}
 use Rattle.records.specs.declared.Check.{Check}
 use Rattle.records.specs.declared.Check.the-variants.{Pass, Fail}
-use Rattle.lookups.specs.Lookup.{lookupAnswer}
 use Rattle.delete_plans.specs.Deletes.{deleteWords}
 use Rattle.insert_plans.specs.Inserts.{insertWords}
 use Rattle.script_commands.specs.declared.Command.{Command}

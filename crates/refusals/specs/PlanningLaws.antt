@@ -1,6 +1,6 @@
 -- Laws on the rows of a planning call: checks 5 to 11, each with its condition in plain terms.
-use mathlib.Core.Path.{_≡_, refl, sym, ap, _∙_, subst}
-use mathlib.Core.Bool.{Bool, true, false, not, true≢false}
+use mathlib.Core.Path.{_≡_, sym, ap, _∙_, subst}
+use mathlib.Core.Bool.{true, not, true≢false}
 use mathlib.Core.List.{List, [], _∷_}
 use Prim.Native.Nat.{ℕ, suc, _-_, _<_}
 use native.Mathlib.Omega.{arith}
@@ -10,11 +10,9 @@ use borrow.Author.Tests.{eqb-true, eq-eqb, lt-ltb, ltb-true, ltb-false}
 use Rattle.search.specs.Search.{any, least}
 use Rattle.search.specs.SearchLaws.{any-yes, any-no, and-law, least-law}
 use Rattle.ternary.specs.Pattern.{Words}
-use Rattle.records.specs.Record.{word, slotWords, empty, occupied, ident, soundRule, recordOf}
-use Rattle.records.specs.Order.{slots, sameId, tied, precedes}
-use Rattle.records.specs.Checks.{orElse}
+use Rattle.records.specs.Record.{word, slotWords, empty, occupied, ident, soundRule}
+use Rattle.records.specs.Order.{slots}
 use Rattle.records.specs.Laws.{sound-law, same-id-law, tied-law, precedes-law}
-use Rattle.records.specs.EntriesLaws.{refuted}
 use Rattle.records.specs.declared.Rule.{Rule}
 use Rattle.records.specs.declared.Cause.{Cause}
 use Rattle.records.specs.declared.Cause.the-variants.{Rule as RuleCause, Known, Unknown, Tie, Full, Crossed, Short}
@@ -23,9 +21,8 @@ use Rattle.buffers.specs.Buffers.{checkRoom}
 use Rattle.neighbours.specs.Neighbours.{checkRule, checkKnown, checkTie, checkFull, checkCrossed, afterA, slotB, newChecks, ruleWords, insertChecks}
 use Rattle.delete_plans.specs.Deletes.{hasId, slotOfId, checkId, checkUnknown, deleteChecks}
 use Rattle.insert_plans.specs.InsertableLaws.{rule-words, crossed-pass, crossed-fail}
-use Rattle.refusals.specs.Rows.{Row, rowAt}
 use Rattle.refusals.specs.RowsLaws.{Agrees, one-row, rows-then}
-use Rattle.refusals.specs.Calls.{OneId, Ties, Precedes, IsA, knownRow, unknownRow, tieRow, fullRow, crossedRow, tableRows, ruleRow, idRow, shortRow, newRuleRows, oldRuleRows}
+use Rattle.refusals.specs.Calls.{OneId, Ties, IsA, knownRow, unknownRow, tieRow, fullRow, crossedRow, tableRows, ruleRow, idRow, shortRow, newRuleRows, oldRuleRows}
 use Rattle.refusals.specs.TableLaws.{test-row, fault-row, only-cause, lowest-row, table-rows}
 
 pub rule-row : (w : ℕ) (rule : Rule) → Agrees (checkRule w rule) (ruleRow w rule ∷ [])
@@ -52,7 +49,7 @@ module _ (w : ℕ) (t : List ℕ) where
   full-row =
       test-row Full _ 0 (any (λ (i : ℕ). empty w (slotWords w t i)) (slots w t))
       (λ e full. let free = any-yes (λ (i : ℕ). empty w (slotWords w t i)) (slots w t) e in
-        true≢false (sym (full (free .0) (free .1)) ∙ ap not (free .2)))
+      true≢false (sym (full (free .0) (free .1)) ∙ ap not (free .2)))
       (λ e i h. ap not (any-no (λ (i : ℕ). empty w (slotWords w t i)) (slots w t) e i h))
 
   pub crossed-row : (new : Words) → Agrees (checkCrossed w t new) (crossedRow w t new ∷ [])
@@ -60,16 +57,18 @@ module _ (w : ℕ) (t : List ℕ) where
   crossed-row new =
       one-row (crossedRow w t new) (checkCrossed w t new)
       (λ e found.
-        let before = crossed-pass w t new .0 e (found .1) (found .0) (found .3) (omega (arith, found .2, found .3))
-        (precedes-law w (slotWords w t (found .1)) new .1 (found .5)) (precedes-law w new (slotWords w t (found .0)) .1 (found .4)) in
-        omega (arith, before, found .2))
+      let before = crossed-pass w t new .0 e (found .1) (found .0) (found .3) (omega (arith, found .2, found .3))
+      (precedes-law w (slotWords w t (found .1)) new .1 (found .5)) (precedes-law w new (slotWords w t (found .0)) .1 (found .4)) in
+      omega (arith, before, found .2))
       (λ c a e.
-        let same = only-cause Crossed c (afterA w t new - 1) a (ltb (suc (slotB w t new)) (afterA w t new)) e in
-        let at = crossed-fail w t new a .0 (e ∙ ap (λ (x : Cause). Fail x a) (sym same)) in
-        let first = precedes-law w (slotWords w t a) new .0 (at .preceding) in
-        let b = at .dependant in
-        (same, (b .0, a, b .1, at .within, precedes-law w new (slotWords w t (b .0)) .0 (b .2), first),
-          (at .within, first, λ i h k p. true≢false (sym (precedes-law w (slotWords w t i) new .1 p) ∙ at .last i h k))))
+      let same = only-cause Crossed c (afterA w t new - 1) a (ltb (suc (slotB w t new)) (afterA w t new)) e in
+      let at = crossed-fail w t new a .0 (e ∙ ap (λ (x : Cause). Fail x a) (sym same)) in
+      let first = precedes-law w (slotWords w t a) new .0 (at .preceding) in
+      let b = at .dependant in (
+        same,
+        (b .0, a, b .1, at .within, precedes-law w new (slotWords w t (b .0)) .0 (b .2), first),
+        (at .within, first, λ i h k p. true≢false (sym (precedes-law w (slotWords w t i) new .1 p) ∙ at .last i h k)),
+      ))
       once
     where
       once : (x y : ℕ) → IsA w t new x → IsA w t new y → x ≡ y
@@ -95,7 +94,7 @@ module _ (w : ℕ) (t : List ℕ) where
       rows-then _ _ (tableRows w t) _ (table-rows w t)
       (λ e. rows-then _ _ (ruleRow w rule ∷ []) _ (rule-row w rule)
       (λ f. subst (λ (new : Words). Agrees (newChecks w t (ruleWords w rule)) (knownRow w t new ∷ tieRow w t new ∷ fullRow w t ∷ crossedRow w t new ∷ []))
-        (rule-words w rule) (new-rows (ruleWords w rule))))
+      (rule-words w rule) (new-rows (ruleWords w rule))))
 
   -- check 7
   holds-law : (id i : ℕ) → hasId w t id i ≡ true → (occupied w (slotWords w t i) ≡ true) × (ident w (slotWords w t i) ≡ id)
@@ -114,8 +113,8 @@ module _ (w : ℕ) (t : List ℕ) where
       let first = least (hasId w t id) (slots w t) 0 in
       test-row Unknown _ 0 (ltb first (slots w t))
       (λ e absent. let h = ltb-true first (slots w t) e in
-        let p = holds-law id first (l .hit (omega arith)) in
-        absent first h (p .0) (p .1))
+      let p = holds-law id first (l .hit (omega arith)) in
+      absent first h (p .0) (p .1))
       (λ e i h o f. true≢false (sym (holds-back id i o f) ∙ l .before i (omega arith) (omega (arith, ltb-false first (slots w t) e))))
 
   -- checks 1 to 5 and 7 of a delete

@@ -1,15 +1,15 @@
 -- Laws on lists of rows: a check and its rows agree, one after the other as the call makes them.
 use mathlib.Core.Path.{_≡_, refl, sym, ap, _∙_}
-use mathlib.Core.Bool.{true, false, true≢false}
+use mathlib.Core.Bool.{true≢false}
 use mathlib.Core.Logic.{_↔_, _⊎_, inl, inr, ⊎-elim}
 use mathlib.Core.List.{List, [], _∷_, _++_}
-use Prim.{Unit, tt}
+use Prim.{tt}
 use Prim.Native.Nat.{ℕ, _<_}
 use native.Mathlib.Omega.{arith}
 use native.Mathlib.Decide.{decLt}
 use lib.Dec.{eqb}
 use lib.ListN.{getD}
-use Rattle.records.specs.Checks.{Told, refusal, unless, orElse, causeNumber}
+use Rattle.records.specs.Checks.{Told, unless, orElse}
 use Rattle.records.specs.Laws.{cause-number-once, cause-not-zero}
 use Rattle.records.specs.declared.Cause.{Cause}
 use Rattle.records.specs.declared.Check.{Check}
@@ -42,8 +42,8 @@ one-row row (Fail c s) pass fail once = record {
     λ d. let own = fail c s refl in
         ⊎-elim
         (λ here. let same : c ≡ cause = sym (own .0) ∙ here .0 in
-            let at : s ≡ spot = once s spot (own .2) (here .2) in
-            ap (λ (x : Cause). Fail x s) same ∙ ap (Fail cause) at)
+        let at : s ≡ spot = once s spot (own .2) (here .2) in
+        ap (λ (x : Cause). Fail x s) same ∙ ap (Fail cause) at)
         (λ more. absurd (more .1)) d,
   );
   passes = (λ e. absurd (pass-not-fail (sym e)), λ a. absurd (a .0 (fail c s refl .1)));

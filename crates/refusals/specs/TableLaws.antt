@@ -1,7 +1,7 @@
 -- Laws on the rows of a table: checks 1 to 4, each with its condition in plain terms.
-use mathlib.Core.Path.{_≡_, refl, sym, ap, _∙_, subst}
+use mathlib.Core.Path.{_≡_, refl, sym, ap, _∙_}
 use mathlib.Core.Bool.{Bool, true, false, not, cond, true≢false}
-use mathlib.Core.Logic.{_↔_, _⊎_, inl, inr}
+use mathlib.Core.Logic.{_↔_}
 use mathlib.Core.List.{List, [], _∷_}
 use Prim.Native.Nat.{ℕ, _<_}
 use native.Mathlib.Omega.{arith}
@@ -9,7 +9,6 @@ use lib.Dec.{ltb}
 use borrow.Author.Tests.{not-true}
 use Rattle.search.specs.Search.{any, least}
 use Rattle.search.specs.SearchLaws.{any-yes, any-some, and-law}
-use Rattle.ternary.specs.Pattern.{Words}
 use Rattle.records.specs.Record.{slotWords, occupied, sound, ident, rank, value, mask}
 use Rattle.records.specs.Order.{slots, sameId, misordered}
 use Rattle.records.specs.Checks.{lowest, checkShape, shaped, unsoundAt, checkRecords, checkTwice, twiceAt, checkOrder, disorderAt, slotChecks, tableChecks}
@@ -17,9 +16,8 @@ use Rattle.records.specs.Laws.{shape-law, pass-law, lowest-pass, lowest-fail, s
 use Rattle.records.specs.EntriesLaws.{refuted}
 use Rattle.records.specs.declared.Cause.{Cause}
 use Rattle.records.specs.declared.Cause.the-variants.{Shape, Record, Twice, Order}
-use Rattle.records.specs.declared.Check.{Check}
 use Rattle.records.specs.declared.Check.the-variants.{Pass, Fail}
-use Rattle.refusals.specs.Rows.{Row, rowAt, Lowest, slotRow}
+use Rattle.refusals.specs.Rows.{rowAt, slotRow}
 use Rattle.refusals.specs.RowsLaws.{Agrees, pass-not-fail, one-row, rows-then, lowest-once, number-once}
 use Rattle.refusals.specs.Calls.{SoundRecord, OneId, NotHigher, shapeRow, recordRow, twiceRow, orderRow, slotRows, tableRows}
 
@@ -54,10 +52,10 @@ lowest-row cause n p Wrong law =
     one-row (slotRow cause n Wrong) (lowest cause p n)
     (λ e found. true≢false (sym (law (found .0) (found .1) .1 (found .2)) ∙ lowest-pass cause p n .0 e (found .0) (found .1)))
     (λ c spot e.
-      let same = lowest-cause cause c p n spot e in
-      let f = lowest-fail cause p n spot .0 (e ∙ ap (λ (x : Cause). Fail x spot) (sym same)) in
-      let wrong = law spot (f .0) .0 (f .1) in
-      (same, (spot, f .0, wrong), (f .0, wrong, λ i h bad. true≢false (sym (law i (omega (arith, f .0)) .1 bad) ∙ f .2 i h))))
+    let same = lowest-cause cause c p n spot e in
+    let f = lowest-fail cause p n spot .0 (e ∙ ap (λ (x : Cause). Fail x spot) (sym same)) in
+    let wrong = law spot (f .0) .0 (f .1) in
+    (same, (spot, f .0, wrong), (f .0, wrong, λ i h bad. true≢false (sym (law i (omega (arith, f .0)) .1 bad) ∙ f .2 i h))))
     (lowest-once n Wrong)
 
 module _ (w : ℕ) (t : List ℕ) where
@@ -95,15 +93,15 @@ module _ (w : ℕ) (t : List ℕ) where
   twice-row =
       lowest-row Twice (slots w t) (twiceAt w t) _
       (λ j h. earlier-law (λ (i k : ℕ). sameId w (slotWords w t i) (slotWords w t k)) (λ i k. OneId w (slotWords w t i) (slotWords w t k))
-        (λ i k. same-id-law w (slotWords w t i) (slotWords w t k)) j)
+      (λ i k. same-id-law w (slotWords w t i) (slotWords w t k)) j)
 
   pub order-row : Agrees (checkOrder w t) (orderRow w t ∷ [])
   unfolding checkOrder disorderAt
   order-row =
       lowest-row Order (slots w t) (disorderAt w t) _
       (λ j h. earlier-law (λ (i k : ℕ). misordered w (slotWords w t i) (slotWords w t k))
-        (λ i k. NotHigher w (slotWords w t i) (slotWords w t k))
-        (λ i k. misordered-law w (slotWords w t i) (slotWords w t k)) j)
+      (λ i k. NotHigher w (slotWords w t i) (slotWords w t k))
+      (λ i k. misordered-law w (slotWords w t i) (slotWords w t k)) j)
 
   -- checks 1 and 2; checks 1 to 4
   pub slot-rows : Agrees (slotChecks w t) (slotRows w t)

@@ -7,14 +7,14 @@ use Prim.Native.Nat.{ℕ, _≤_}
 use native.Mathlib.Omega.{arith}
 use native.Mathlib.Decide.{decLe}
 use lib.Dec.{eqb, leb}
-use lib.ListN.{length, getD}
+use lib.ListN.{length}
 use borrow.Author.Tests.{eqb-true, ne-eqb, le-leb, lt-leb}
 use Rattle.search.specs.SearchLaws.{decided, and-law}
 use Rattle.script_text.specs.Parts.{parts}
 use Rattle.script_fields.specs.Fields.{isNumber, isPattern, isKey}
 use Rattle.script_commands.specs.declared.Command.{Command}
 use Rattle.script_commands.specs.declared.Command.the-variants.{Table, Insert, Delete, Lookup, Malformed}
-use Rattle.script_commands.specs.Commands.{letterOf, tableCommand, insertCommand, deleteCommand, lookupCommand, shortCommand, longCommand, afterLetter, ofFields, commandOf}
+use Rattle.script_commands.specs.Commands.{letterOf, tableCommand, insertCommand, deleteCommand, lookupCommand, shortCommand, longCommand, ofFields, commandOf}
 use Rattle.script_commands.specs.Forms.{letterField, TableForm, InsertForm, DeleteForm, LookupForm, Form, WellFormed}
 
 -- a field that has a letter is that letter alone
@@ -88,11 +88,20 @@ long-none letter id priority pattern action none = pick (decided (eqb (letterOf 
     pick : (eqb (letterOf letter) 73 ≡ true) ⊎ (eqb (letterOf letter) 73 ≡ false) → longCommand (letterOf letter) id priority pattern action ≡ Malformed
     pick (inl i) =
         rw i (not-taken _ _ (λ good.
-          let a = and-law _ _ .0 good in
-          let b = and-law _ _ .0 (a .1) in
-          let c = and-law _ _ .0 (b .1) in
-          none (inl (inr (id, priority, pattern, action, ap (λ (l : List ℕ). l ∷ id ∷ priority ∷ pattern ∷ action ∷ []) (letter-field letter 73 refl i),
-            a .0, b .0, c .0, c .1)))))
+        let a = and-law _ _ .0 good in
+        let b = and-law _ _ .0 (a .1) in
+        let c = and-law _ _ .0 (b .1) in
+        none (inl (inr (
+          id,
+          priority,
+          pattern,
+          action,
+          ap (λ (l : List ℕ). l ∷ id ∷ priority ∷ pattern ∷ action ∷ []) (letter-field letter 73 refl i),
+          a .0,
+          b .0,
+          c .0,
+          c .1,
+        )))))
     pick (inr i) = rw i
 
 fields-none : (fields : List (List ℕ)) → (Form fields → ⊥) → ofFields fields ≡ Malformed
