@@ -17,25 +17,36 @@
  * for": a key of 128 bits matches a rule when it equals the value at all bits cared for. An empty slot
  * matches no key. The lowest-numbered matching slot wins, whatever the priorities are.
  *
+ * A table's length is given in words, and so is a plan's: TCAM_WORDS(array), not sizeof. A table's bytes, 48 for
+ * each slot, are a multiple of six too: up to 128 slots they pass for words, so that nothing is refused and the
+ * call goes past the table's end.
+ *
  * ORDER. Two rules overlap when no bit is cared for by both with different values. The one of higher
  * priority then precedes the other, which depends on it. A table is in order when of any two overlapping
  * rules the one in the lower-numbered slot has the strictly higher priority; copies of one id are not
  * compared with each other. The planning calls and tcam_save ask for a table in order, and tcam_load for an
  * image of one; the other calls do not.
  *
- * A PLAN is a list of writes, one 32-bit word each, from * 65536 + to:
+ * A PLAN is a list of writes, one 32-bit word each, from * 65536 + to (tcam_write_word):
  *
  *     from 65535 (TCAM_PUT)     puts the new rule into slot `to`
  *     from 65534 (TCAM_EMPTY)   empties slot `to`
  *     any other from            copies slot `from` to slot `to`, and leaves slot `from` as it is
  *
  * The planning calls draw plans. tcam_carry_out makes one write of a plan per call; the caller may make the
- * writes itself instead. On the table that a plan was drawn for, with the rule it was drawn for, the writes
- * are carried out one at a time, from the first word to the last. Then no write goes over a rule that has no
- * other copy, the table is in order after each write, and every key keeps its reply (id and action, or a
- * miss) until the last write. After the last write each old rule stands in one slot and the new one too. In
- * the middle of a plan a rule may stand twice: no planning call takes such a table, nor does tcam_save;
- * tcam_lookup, tcam_slot_record and tcam_carry_out do.
+ * writes itself instead. What follows holds where the writes of a plan are made one at a time, from the first
+ * word to the last, on the table it was drawn for, with the rule it was drawn for. A key's reply is id and
+ * action, or a miss; its slot may change as rules move.
+ *
+ * Of an insert's plan no write goes over a rule that has no other copy, and the table is in order after each
+ * write. Every key keeps its reply until the last write. After that each old rule stands in one slot and the
+ * new one too, and every key has the reply of these rules: that of the highest-priority match among them, or a
+ * miss. In the middle of the plan one of the old rules may stand in two slots: no planning call takes such a
+ * table, nor does tcam_save; tcam_lookup, tcam_slot_record and tcam_carry_out do.
+ *
+ * A delete's plan is one write. It empties the slot of a rule that has no other copy. Before it every key has
+ * its old reply. After it the table is in order, each other rule stands in its one slot as before, and every
+ * key has the reply of these rules: that of the highest-priority match among them, or a miss.
  *
  * AN IMAGE is a table as bytes, to be kept and loaded again. Its numbers are big-endian:
  *
@@ -44,13 +55,19 @@
  *     for each rule, in the same order, its body: value (16), mask (16), priority (4), action (4)
  *
  * So it has 4 + 50 * e bytes, at any address. A saved image loads, into any table of as many slots, to the
- * table it was saved from; and an image that loads is saved again to the same bytes.
+ * table it was saved from; and an image that loads is saved again to the same bytes. It has no checksum of its
+ * own: where a byte has changed and the image is still sound, it loads, to another table. A caller who keeps
+ * images where bytes may change keeps a checksum with each.
  *
- * REPLIES. The result is 0 (TCAM_OK), or the number of the refusal. Data goes to the lent cells, the lent
- * plan and the lent image, and a load's to the lent table. On a refusal only *spot is written and everything
- * else is left as it was; on a success *spot is left as it was. tcam_slot_record refuses nothing, and its
- * result is a number of words. The result of tcam_carry_out holds number and spot together, and a refusal
- * writes nothing at all.
+ * RESULTS. The result is 0 (TCAM_OK), or the number of the refusal. A refusal also has a spot, which says where
+ * the fault is, how much is needed or how much is done: a slot, an offset or a count, as told at each call, and 0
+ * where there is nothing to tell. tcam_cause_name and tcam_spot_text give number and spot in words, for a log.
+ *
+ * Data goes to the lent cells, the lent plan and the lent image, and a load's to the lent table. On a refusal
+ * only *spot is written and everything else is left as it was. On a success *spot is left as it was, and so is
+ * what a buffer has past the words or bytes that the call wrote. Two calls have no cell for a spot:
+ * tcam_slot_record refuses nothing, and its result is a number of words; the result of tcam_carry_out holds
+ * number and spot together, and a refusal writes nothing at all.
  *
  * THE CALLER OWES, since no call can test it:
  *   - every pointer is valid for what it points to and not null; the pointers of the table, of the plan and
@@ -58,16 +75,20 @@
  *   - every pointer is aligned: a table's to 8 bytes; a plan's, a cell's and a progress record's to 4; an
  *     image's to any;
  *   - the lent cells, the progress record, the plan, the image and the table share no byte with each other;
- *   - nothing changes the table or the image during a call, nor the plan or the progress record during
- *     tcam_carry_out;
+ *   - until a call returns, nothing else changes what it is lent: a table, a plan buffer, an image buffer, a
+ *     progress record or a cell;
  *   - no other call is made on the table while tcam_carry_out or tcam_load runs, not from an interrupt handler
- *     or another core either: a write is six stores, and what is promised of lookups is promised between calls;
- *   - the platform is x86-64 with the System V calling convention. SSE2 registers and the red zone are
- *     used: an interrupt handler saves those registers if it uses them, and steps over the 128 bytes
- *     below the stack pointer if it runs on the same stack;
+ *     or another core either: a write is six stores, and what is promised of lookups is promised between calls.
+ *     While nothing writes the table, calls that only read it, tcam_lookup and tcam_slot_record among them, may
+ *     run side by side, on several cores too, each with its own cells and buffers;
+ *   - the platform is x86-64 with the System V calling convention. At the call instruction the stack pointer is
+ *     a multiple of 16 and the direction flag is clear: a C compiler sees to both, but an interrupt handler or
+ *     assembler code that calls has to do so itself. SSE2 registers and the red zone are used: an interrupt
+ *     handler saves those registers if it uses them or calls the library, and steps over the 128 bytes below the
+ *     stack pointer if it runs on the same stack;
  *   - the program has a memset and a memcpy, as in C's string.h: the planning calls and tcam_save call
  *     memset, tcam_load both;
- *   - there is stack enough.
+ *   - there is stack enough, as told below.
  *
  * No call but tcam_carry_out and tcam_load changes the table, and none keeps anything for later. Each call but
  * tcam_load checks the whole table first, so its time grows with the number of slots. tcam_load looks at the
@@ -84,7 +105,8 @@
  *     tcam_load                       53,760 bytes
  *
  * The longest plan, of 1,024 words, takes 104,960 bytes, 102.5 KiB. A plan that does not fit its buffer is
- * not written out, so that a buffer of n words bounds the stack at 6,656 + 96 * n bytes, or at 10,752.
+ * not written out, so that a buffer of n words bounds the stack at 6,656 + 96 * n bytes, or at 10,752 where
+ * that is more.
  */
 #ifndef TCAM_H
 #define TCAM_H
@@ -121,17 +143,17 @@ enum tcam_cause {
     TCAM_OK = 0,       /* not a refusal */
     TCAM_SHAPE = 1,    /* the words are not 6 * (1 to 1,024). lookup, plan_insert, plan_delete, carry_out, save, load */
     TCAM_RECORD = 2,   /* a slot is neither empty nor a sound rule. lookup, plan_insert, plan_delete, carry_out, save */
-    TCAM_TWICE = 3,    /* an id stands in an earlier slot too. plan_insert, plan_delete, save, load */
+    TCAM_TWICE = 3,    /* a slot's id stands in an earlier one too. plan_insert, plan_delete, save, load */
     TCAM_ORDER = 4,    /* an earlier overlapping rule has no higher priority. plan_insert, plan_delete, save, load */
     TCAM_RULE = 5,     /* the rule given is unsound: plan_insert, carry_out. The id to delete is 0: plan_delete */
     TCAM_KNOWN = 6,    /* the id to insert is present. plan_insert */
     TCAM_UNKNOWN = 7,  /* the id to delete is absent. plan_delete */
     TCAM_TIE = 8,      /* the rule overlaps one of equal priority. plan_insert */
     TCAM_FULL = 9,     /* no slot is empty. plan_insert */
-    TCAM_CROSSED = 10, /* a rule that depends on the new one stands before one that precedes it. plan_insert */
+    TCAM_CROSSED = 10, /* a rule that depends on the new one stands before one that precedes the new one. plan_insert */
     TCAM_SHORT = 11,   /* the plan or image buffer is too short. plan_insert, plan_delete, save */
     TCAM_WRITE = 12,   /* the progress record or the next write does not fit. carry_out */
-    TCAM_LINE = 13,    /* the script line is malformed */
+    TCAM_LINE = 13,    /* a line of a script is malformed */
     TCAM_IMAGE = 14    /* the image is wrong. load */
 };
 
@@ -151,10 +173,8 @@ enum tcam_cause {
  *   TCAM_SHAPE   words is not 6 * (1 to 1,024). *spot is 0.
  *   TCAM_RECORD  a slot is neither empty nor a sound rule, whether it would match or not. *spot is the
  *                lowest such slot.
- * On these *slot, *id and *action are left as they were. Nothing else is checked: where an id stands
- * twice or the rules are out of order, the lowest matching slot is still the answer.
- *
- * Left as it was, always: the table. On a hit or a miss: *spot.
+ * Nothing else is checked: where an id stands twice or the rules are out of order, the lowest matching slot is
+ * still the answer.
  */
 uint32_t tcam_lookup(const uint64_t *table, size_t words, uint64_t key_high, uint64_t key_low,
                      uint32_t *slot, uint32_t *id, uint32_t *action, uint32_t *spot);
@@ -171,9 +191,7 @@ uint32_t tcam_lookup(const uint64_t *table, size_t words, uint64_t key_high, uin
  * Result 0: the part is empty and *first is set to 0. This is so where words is not 6 * (1 to 1,024),
  * where any slot is neither empty nor a sound rule, where there is no such slot, and where it is empty.
  *
- * Never a refusal: the result is a number of words, and *first is always written. Why a table is not
- * sound is told by tcam_lookup, with any key.
- * Left as it was, always: the table.
+ * *first is always written. Why a table is not sound is told by tcam_lookup, with any key.
  */
 uint32_t tcam_slot_record(const uint64_t *table, size_t words, uint32_t slot, uint32_t *first);
 
@@ -189,9 +207,10 @@ uint32_t tcam_slot_record(const uint64_t *table, size_t words, uint32_t slot, ui
  *   count                  cell for the number of words that the call wrote
  *   spot                   cell for a refusal's spot
  *
- * Result TCAM_OK: the plan is the words 0 to *count - 1 of the buffer. They are copies, all toward higher
- * slots or all toward lower ones, the far end of the chain first, and last the word that puts the new rule
- * in. Words of the buffer past the count are left as they were.
+ * Result TCAM_OK: the plan is the words 0 to *count - 1 of the buffer. The new rule goes to a slot; the rule
+ * that stands there goes to another, the one that stands there to a third, and so on to an empty slot. This is
+ * the chain, and all of it goes toward higher slots or all toward lower ones. The plan copies its rules, the
+ * far end first, so that each slot is free when its turn comes; the last word puts the new rule in.
  *
  * *count is at least 1 and at most the number of slots, so that a buffer of as many words as the table has
  * slots always does. It is the least number of writes in this class of sequences: those that copy rules
@@ -199,25 +218,24 @@ uint32_t tcam_slot_record(const uint64_t *table, size_t words, uint32_t slot, ui
  * where each write goes to an empty slot or to one whose id stands in another slot too, and the table is
  * in order after each write. Of sequences outside this class, such as those that copy both ways,
  * nothing is said. Which of several such plans is given is fixed: with copies toward higher slots if there
- * is one; and where slots are equally good the lowest, or in a plan toward lower slots the highest.
+ * is one; and where slots are equally good the lowest, also where nothing is copied, or in a plan toward lower
+ * slots the highest.
  *
  * Refusals, in the order of checks:
- *   TCAM_SHAPE    words is not 6 * (1 to 1,024). *spot is 0.
- *   TCAM_RECORD   a slot is neither empty nor a sound rule. *spot is the lowest such slot.
- *   TCAM_TWICE    an id stands in an earlier slot too. *spot is the lowest slot with such an id.
- *   TCAM_ORDER    an earlier overlapping rule has no higher priority. *spot is the lowest slot with such
- *                 an earlier rule.
+ *   TCAM_SHAPE, TCAM_RECORD  as for tcam_lookup.
+ *   TCAM_TWICE    a slot's id stands in an earlier one too. *spot is the lowest slot whose id stands in an
+ *                 earlier one.
+ *   TCAM_ORDER    an earlier overlapping rule has no higher priority. *spot is the lowest slot whose rule has
+ *                 such a rule before it.
  *   TCAM_RULE     the new rule is unsound: its id is 0, its priority is above 65,535, or its value has a
  *                 bit outside the mask. *spot is 0.
  *   TCAM_KNOWN    the id is in the table. *spot is its slot.
- *   TCAM_TIE      a rule of the table overlaps the new one at equal priority. *spot is the lowest such slot.
+ *   TCAM_TIE      a rule of the table overlaps the new one at equal priority. *spot is the lowest slot of one.
  *   TCAM_FULL     no slot is empty. *spot is 0.
- *   TCAM_CROSSED  a rule that depends on the new one stands before a rule that precedes it, even where some
- *                 sequence of writes would do. *spot is the highest slot with a rule that precedes it.
+ *   TCAM_CROSSED  a rule that depends on the new one stands before a rule that precedes the new one. It is
+ *                 refused even where some sequence of writes would do. *spot is the highest slot with a rule
+ *                 that precedes the new one.
  *   TCAM_SHORT    plan_words is less than the count. *spot is the count: the words needed.
- * On these the buffer and *count are left as they were.
- *
- * Left as it was, always: the table. On a success: *spot.
  */
 uint32_t tcam_plan_insert(const uint64_t *table, size_t words, uint32_t id, uint32_t priority,
                           uint64_t value_high, uint64_t value_low, uint64_t mask_high, uint64_t mask_low,
@@ -232,17 +250,13 @@ uint32_t tcam_plan_insert(const uint64_t *table, size_t words, uint32_t id, uint
  *   count             cell for the number of words that the call wrote, always 1
  *   spot              cell for a refusal's spot
  *
- * Result TCAM_OK: word 0 of the buffer empties the slot that holds the id, and *count is 1. The other words
- * of the buffer are left as they were.
+ * Result TCAM_OK: word 0 of the buffer empties the slot that holds the id, and *count is 1.
  *
  * Refusals, in the order of checks:
  *   TCAM_SHAPE, TCAM_RECORD, TCAM_TWICE, TCAM_ORDER  as for tcam_plan_insert.
  *   TCAM_RULE     id is 0. *spot is 0.
  *   TCAM_UNKNOWN  the id is not in the table. *spot is 0.
- *   TCAM_SHORT    plan_words is 0. *spot is 1.
- * On these the buffer and *count are left as they were.
- *
- * Left as it was, always: the table. On a success: *spot.
+ *   TCAM_SHORT    plan_words is 0. *spot is 1: the word needed.
  */
 uint32_t tcam_plan_delete(const uint64_t *table, size_t words, uint32_t id, uint32_t *plan, size_t plan_words,
                           uint32_t *count, uint32_t *spot);
@@ -261,7 +275,7 @@ typedef struct tcam_progress {
  * Carries a plan out by one write: word progress->done of the plan is made in the table.
  *
  *   table, words           the table and its length in words
- *   plan, plan_words       the plan and the length of its buffer in words
+ *   plan, plan_words       the plan and its length in words: its count, or the length of its whole buffer
  *   id, priority           the rule that the plan puts in: its id and priority
  *   value_high, value_low  its value, high and low 64 bits
  *   mask_high, mask_low    its mask, high and low 64 bits
@@ -271,26 +285,24 @@ typedef struct tcam_progress {
  * The rule is looked at only where the next write puts it in: the plan of a delete is carried out with any.
  *
  * Result TCAM_WROTE: the write is made, in this one slot, and progress->done is one more.
- * Result TCAM_FINISHED: done equals total. Nothing is changed, however often the call is made.
+ * Result TCAM_FINISHED: done equals total. Nothing is changed, however often the call is made; it may be left
+ * out, since the write that made done equal to total was the last.
  * Any other result is a refusal, its number + its spot * 2^32: see tcam_carry_number, tcam_carry_spot. The
  * lower 32 bits tell the three apart, so that nothing but the spot is lost where a result is cut to them.
  *
  * Refusals, in the order of checks:
- *   TCAM_SHAPE   words is not 6 * (1 to 1,024). The spot is 0.
- *   TCAM_RECORD  a slot is neither empty nor a sound rule. The spot is the lowest such slot.
+ *   TCAM_SHAPE, TCAM_RECORD  as for tcam_lookup.
  *   TCAM_WRITE   done is more than total, or total more than plan_words. The spot is the writes done so far.
  * where done equals total, TCAM_FINISHED; else, of the next write:
- *   TCAM_RULE    it puts the rule in, and the rule is unsound: its id is 0, its priority is above 65,535, or
- *                its value has a bit outside the mask. The spot is 0.
+ *   TCAM_RULE    it puts the rule in, and the rule is unsound, as for tcam_plan_insert. The spot is 0.
  *   TCAM_WRITE   it does not fit. The spot is the writes done so far. A copy fits if both slots exist and
  *                differ, slot `from` is not empty, and slot `to` is empty or its id stands in another slot
  *                too. A put-in fits under the same terms for `to`. An emptying write fits if the slot exists
  *                and is not empty.
- * On these, and where it is finished, the table and the progress record are left as they were.
  *
- * What is said above of plans, of order and of replies, holds where the plan is carried out in order, from its
- * start, with its own rule, on the table it was drawn for. Of any other plan, rule or progress record no more
- * is said than stands here: one write that fits, or nothing.
+ * What is said of plans above asks for a plan that is carried out from its start, with its own rule, on the table
+ * it was drawn for. Of any other plan, rule or progress record no more is said than stands here: one write that
+ * fits, or nothing.
  *
  * Left as it was, always: the plan, progress->total, and every slot but the one that a write goes to.
  */
@@ -318,15 +330,11 @@ static inline uint32_t tcam_carry_spot(uint64_t result)
  *   spot                cell for a refusal's spot
  *
  * Result TCAM_OK: the image is the bytes 0 to *bytes - 1 of the buffer, and *bytes is 4 + 50 * e for a table
- * of e rules. The other bytes of the buffer are left as they were. A buffer of 51,204 bytes always does,
- * TCAM_IMAGE_BYTES(TCAM_MAX_SLOTS).
+ * of e rules. A buffer of 51,204 bytes always does, TCAM_IMAGE_BYTES(TCAM_MAX_SLOTS).
  *
  * Refusals, in the order of checks:
  *   TCAM_SHAPE, TCAM_RECORD, TCAM_TWICE, TCAM_ORDER  as for tcam_plan_insert.
  *   TCAM_SHORT    image_bytes is less than the image's bytes. *spot is the bytes needed.
- * On these the buffer and *bytes are left as they were.
- *
- * Left as it was, always: the table. On a success: *spot.
  */
 uint32_t tcam_save(const uint64_t *table, size_t words, uint8_t *image, size_t image_bytes, uint32_t *bytes,
                    uint32_t *spot);
@@ -342,7 +350,7 @@ uint32_t tcam_save(const uint64_t *table, size_t words, uint8_t *image, size_t i
  * other slot is empty, and the table is sound: it passes the checks of tcam_save.
  *
  * Refusals, in the order of checks:
- *   TCAM_SHAPE  words is not 6 * (1 to 1,024). *spot is 0.
+ *   TCAM_SHAPE  as for tcam_lookup.
  *   TCAM_IMAGE  a field of the image is wrong. *spot is its offset, of the first such field:
  *                 0                   image_bytes is below 4, or the image's slots are not the table's
  *                 2                   e is above slots, or image_bytes is not 4 + 50 * e
@@ -352,16 +360,11 @@ uint32_t tcam_save(const uint64_t *table, size_t words, uint8_t *image, size_t i
  *                 4 + 10 * e + 40 * k body k is unsound: its priority is above 65,535, or its value has a bit
  *                                     outside the mask
  *               All entries come before all bodies.
- *   TCAM_TWICE  an id stands in an earlier slot too. *spot is the lowest slot with such an id.
- *   TCAM_ORDER  an earlier overlapping rule has no higher priority. *spot is the lowest slot with such an
- *               earlier rule.
- * On these the table is left as it was.
- *
- * Left as it was, always: the image. On a success: *spot.
+ *   TCAM_TWICE, TCAM_ORDER  as for tcam_plan_insert, in the table that the image gives. *spot is a slot.
  */
 uint32_t tcam_load(const uint8_t *image, size_t image_bytes, uint64_t *table, size_t words, uint32_t *spot);
 
-/* The two halves of a plan word, and the word of two halves, each cut to 16 bits. */
+/* The two halves of a plan word, and the word that two halves make, each cut to its 16 bits. */
 static inline uint32_t tcam_write_from(uint32_t word)
 {
     return word >> 16;

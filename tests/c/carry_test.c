@@ -438,9 +438,44 @@ static void choose_keys(void)
     }
 }
 
-/* Carries a plan out to its end: every key keeps its reply until the last write. `changes` makes the change in `held`. */
+static uint64_t carry(uint64_t *lent_table, uint32_t plan_words, tcam_progress *record)
+{
+    return tcam_carry_out(lent_table, words, plan, plan_words, rule.id, rule.priority, rule.value[0], rule.value[1],
+                          rule.mask[0], rule.mask[1], rule.action, record);
+}
+
+/*
+ * The plan's length given as its count and as that of its whole buffer: call by call both come to the same. After the last
+ * write the table is as it stays, so that the call that answers "finished" may be left out.
+ */
+static void either_length(uint32_t count)
+{
+    static uint64_t by_count[SLOTS(MOST_SLOTS)], by_room[SLOTS(MOST_SLOTS)], written[SLOTS(MOST_SLOTS)];
+    tcam_progress counted = {0, count}, whole = {0, count};
+    size_t bytes = words * sizeof *table;
+    int same = 1;
+    memcpy(by_count, table, bytes);
+    memcpy(by_room, table, bytes);
+    for (uint32_t call = 0; call < count + 2; call++) {
+        if (call == count)
+            memcpy(written, by_count, bytes);
+        uint64_t result = carry(by_count, count, &counted);
+        same &= result == (call < count ? TCAM_WROTE : TCAM_FINISHED) && carry(by_room, room, &whole) == result;
+        same &= counted.done == (call < count ? call + 1 : count) && counted.total == count;
+        same &= memcmp(&whole, &counted, sizeof whole) == 0 && memcmp(by_room, by_count, bytes) == 0;
+    }
+    CHECK(same);
+    CHECK(memcmp(written, by_count, bytes) == 0 && memcmp(written, table, bytes) != 0);
+}
+
+/*
+ * Carries a plan out to its end: every key keeps its reply until the last write. `changes` makes the change in `held`. The
+ * call that answers "finished" is left out after every other plan, and what is done to the table next shows no difference.
+ */
 static void carry_to_the_end(uint32_t count, void (*changes)(void))
 {
+    static unsigned long plans;
+    either_length(count);
     choose_keys();
     progress = (tcam_progress){0, count};
     check_replies();
@@ -451,8 +486,10 @@ static void carry_to_the_end(uint32_t count, void (*changes)(void))
             changes();
         check_replies();
     }
-    leaves(TCAM_FINISHED);
-    leaves(TCAM_FINISHED);
+    if (plans++ % 2 == 0) {
+        leaves(TCAM_FINISHED);
+        leaves(TCAM_FINISHED);
+    }
 }
 
 static void rule_comes(void)
@@ -484,7 +521,8 @@ static uint32_t insert(uint32_t *count)
 static uint32_t delete_rule(uint32_t id)
 {
     uint32_t count, spot;
-    room = 1;
+    room = 3;
+    plan[1] = plan[2] = COPY(0, 0);
     memset(&rule, 0, sizeof rule);
     uint32_t number = tcam_plan_delete(table, words, id, plan, room, &count, &spot);
     if (number == TCAM_OK) {

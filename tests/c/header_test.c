@@ -1,0 +1,274 @@
+/*
+ * The header's constants, macros and inline functions: cases whose answers are written here, and the texts of a spot for
+ * refusals as the calls give them. The names of causes and a slot's words are in lookup_test.c, a result's halves in
+ * carry_test.c.
+ *
+ *     header_test [seed [numbers]]
+ */
+#define _DEFAULT_SOURCE /* for mmap without a file */
+#include "testing.h"
+
+#include <inttypes.h>
+
+/* ---- Constants, plan words, lengths ---- */
+
+/* One less than zero is above zero: the constant has no sign. */
+#define NO_SIGN(constant) (0 * (constant) - 1 > 0)
+
+static void constants(void)
+{
+    HERE;
+    CHECK(NO_SIGN(TCAM_SLOT_WORDS) && NO_SIGN(TCAM_MAX_SLOTS) && NO_SIGN(TCAM_PUT) && NO_SIGN(TCAM_EMPTY));
+    CHECK(NO_SIGN(TCAM_WROTE) && NO_SIGN(TCAM_FINISHED) && NO_SIGN(TCAM_SPOT_TEXT) && NO_SIGN(TCAM_IMAGE_BYTES(1)));
+    CHECK(TCAM_SPOT_TEXT == 24);
+    /* the header's formula for a plan word, as it stands there */
+    CHECK(TCAM_PUT * 65536 + 65535 == 4294967295u && TCAM_EMPTY * 65536 + 0 == 4294836224u);
+}
+
+static void plan_words(void)
+{
+    static const struct {
+        uint32_t from, to, word;
+    } want[] = {
+        {TCAM_PUT, 0, 4294901760u},    {TCAM_PUT, 4, 4294901764u},   {TCAM_PUT, 1023, 4294902783u},
+        {TCAM_EMPTY, 0, 4294836224u},  {TCAM_EMPTY, 2, 4294836226u}, {TCAM_EMPTY, 1023, 4294837247u},
+        {0, 0, 0},                     {0, 1, 1},                    {1, 0, 65536},
+        {1, 4, 65540},                 {1023, 1022, 67044350u},      {1022, 1023, 66978815u},
+        {65533, 65535, 4294836223u},   {65535, 65535, 4294967295u},  {32768, 32768, 2147516416u},
+    };
+    for (size_t index = 0; index < COUNT_OF(want); index++) {
+        HERE;
+        CHECK(tcam_write_word(want[index].from, want[index].to) == want[index].word);
+        CHECK(tcam_write_from(want[index].word) == want[index].from && tcam_write_to(want[index].word) == want[index].to);
+        /* a half above 16 bits is cut, and does not reach into the other */
+        CHECK(tcam_write_word(want[index].from + 65536, want[index].to + 65536) == want[index].word);
+    }
+    int there_and_back = 1;
+    for (uint32_t half = 0; half < 65536; half++) {
+        uint32_t from = tcam_write_word(half, 65535 - half), to = tcam_write_word(half ^ 0x5A5A, half);
+        there_and_back &= tcam_write_from(from) == half && tcam_write_to(from) == 65535 - half;
+        there_and_back &= tcam_write_from(to) == (half ^ 0x5A5A) && tcam_write_to(to) == half;
+    }
+    CHECK(there_and_back);
+}
+
+static void lengths(void)
+{
+    static const uint64_t whole[SLOTS(TCAM_MAX_SLOTS)] = {0};
+    uint64_t one_slot[TCAM_SLOT_WORDS] = {0};
+    uint32_t plan[4] = {0}, *const lent = plan;
+    struct {
+        uint64_t table[SLOTS(128)];
+    } device;
+    HERE;
+    CHECK(TCAM_WORDS(whole) == 6144 && TCAM_WORDS(one_slot) == 6 && TCAM_WORDS(device.table) == 768);
+    CHECK(TCAM_WORDS(plan) == 4 && lent[TCAM_WORDS(plan) - 1] == 0);
+    /* bytes pass for words up to 128 slots, which is what the header warns of */
+    CHECK(slots_of(sizeof device.table) == 1024 && slots_of(sizeof whole) == 0 && slots_of(sizeof one_slot) == 8);
+
+    int rules = 3;
+    HERE;
+    CHECK(TCAM_IMAGE_BYTES(0) == 4 && TCAM_IMAGE_BYTES(1) == 54 && TCAM_IMAGE_BYTES(TCAM_MAX_SLOTS) == 51204);
+    CHECK(TCAM_IMAGE_BYTES(rules) == 154 && TCAM_IMAGE_BYTES(rules + 1) == 204 && 2 * TCAM_IMAGE_BYTES(1) == 108);
+}
+
+static void record_parts(void)
+{
+    static const uint64_t record[TCAM_SLOT_WORDS] = {ALL, ALL, ALL, ALL, TCAM_ID_ACTION(4294967295u, 0), 65535};
+    static const uint64_t other[TCAM_SLOT_WORDS] = {ALL, ALL, ALL, ALL, TCAM_ID_ACTION(1, 4294967294u), 0};
+    HERE;
+    CHECK(tcam_record_id(record) == 4294967295u && tcam_record_action(record) == 0 && tcam_record_priority(record) == 65535);
+    CHECK(tcam_record_id(other) == 1 && tcam_record_action(other) == 4294967294u && tcam_record_priority(other) == 0);
+}
+
+/* ---- Spots in words ---- */
+
+typedef char *text_of_spot(uint32_t number, uint32_t spot, char *text);
+
+/* The text stands in a buffer of TCAM_SPOT_TEXT bytes between marks, which stay. */
+static void check_text(int line, text_of_spot *of_spot, uint32_t number, uint32_t spot, const char *want)
+{
+    char bytes[8 + TCAM_SPOT_TEXT + 8], before[sizeof bytes];
+    case_line = line;
+    for (size_t index = 0; index < sizeof bytes; index++)
+        bytes[index] = before[index] = (char)(next_mark() % 255 + 1);
+    CHECK(of_spot(number, spot, bytes + 8) == bytes + 8);
+    CHECK(memchr(bytes + 8, 0, TCAM_SPOT_TEXT) != NULL);
+    CHECK(memcmp(bytes, before, 8) == 0 && memcmp(bytes + 8 + TCAM_SPOT_TEXT, before + 8 + TCAM_SPOT_TEXT, 8) == 0);
+    bytes[8 + TCAM_SPOT_TEXT] = 0;
+    CHECK(strcmp(bytes + 8, want) == 0);
+}
+
+#define OF_TABLE(number, spot, want) check_text(__LINE__, tcam_spot_text, number, spot, want)
+#define OF_IMAGE(number, spot, want) check_text(__LINE__, tcam_image_spot_text, number, spot, want)
+#define OF_BOTH(number, spot, want) (OF_TABLE(number, spot, want), OF_IMAGE(number, spot, want))
+
+static void spots_that_are_slots(void)
+{
+    OF_BOTH(TCAM_RECORD, 4, "slot 4");
+    OF_BOTH(TCAM_TWICE, 1023, "slot 1023");
+    OF_BOTH(TCAM_ORDER, 1, "slot 1");
+    OF_BOTH(TCAM_KNOWN, 0, "slot 0");
+    OF_BOTH(TCAM_TIE, 10, "slot 10");
+    OF_BOTH(TCAM_CROSSED, 99, "slot 99");
+    static const uint32_t numbers[] = {TCAM_RECORD, TCAM_TWICE, TCAM_ORDER, TCAM_KNOWN, TCAM_TIE, TCAM_CROSSED};
+    for (size_t index = 0; index < COUNT_OF(numbers); index++) {
+        OF_BOTH(numbers[index], 0, "slot 0");
+        OF_BOTH(numbers[index], 1, "slot 1");
+        OF_BOTH(numbers[index], 4294967295u, "slot 4294967295");
+    }
+}
+
+static void spots_that_count(void)
+{
+    OF_TABLE(TCAM_SHORT, 1, "1 word needed");
+    OF_TABLE(TCAM_SHORT, 2, "2 words needed");
+    OF_TABLE(TCAM_SHORT, 11, "11 words needed");
+    OF_TABLE(TCAM_SHORT, 1024, "1024 words needed");
+    OF_TABLE(TCAM_SHORT, 4294967295u, "4294967295 words needed");
+    OF_IMAGE(TCAM_SHORT, 1, "1 byte needed");
+    OF_IMAGE(TCAM_SHORT, 4, "4 bytes needed");
+    OF_IMAGE(TCAM_SHORT, 204, "204 bytes needed");
+    OF_IMAGE(TCAM_SHORT, 51204, "51204 bytes needed");
+    OF_IMAGE(TCAM_SHORT, 4294967295u, "4294967295 bytes needed");
+    OF_BOTH(TCAM_WRITE, 0, "0 writes done");
+    OF_BOTH(TCAM_WRITE, 1, "1 write done");
+    OF_BOTH(TCAM_WRITE, 2, "2 writes done");
+    OF_BOTH(TCAM_WRITE, 21, "21 writes done");
+    OF_BOTH(TCAM_WRITE, 4294967295u, "4294967295 writes done");
+}
+
+static void spots_that_are_places(void)
+{
+    OF_BOTH(TCAM_LINE, 1, "line 1");
+    OF_BOTH(TCAM_LINE, 7, "line 7");
+    OF_BOTH(TCAM_LINE, 4294967295u, "line 4294967295");
+    OF_BOTH(TCAM_IMAGE, 0, "byte 0");
+    OF_BOTH(TCAM_IMAGE, 1, "byte 1");
+    OF_BOTH(TCAM_IMAGE, 2, "byte 2");
+    OF_BOTH(TCAM_IMAGE, 4294967295u, "byte 4294967295");
+}
+
+static void spots_that_name_nothing(void)
+{
+    static const uint32_t numbers[] = {TCAM_OK, TCAM_SHAPE, TCAM_RULE, TCAM_UNKNOWN, TCAM_FULL, 15, 16, 65536, 4294967295u};
+    for (size_t index = 0; index < COUNT_OF(numbers); index++) {
+        OF_BOTH(numbers[index], 0, "");
+        OF_BOTH(numbers[index], 1, "");
+        OF_BOTH(numbers[index], 4294967295u, "");
+    }
+}
+
+/* Each power of ten with its neighbours, and random numbers of every length, against C's own printing. */
+static void digits(unsigned long most)
+{
+    char want[TCAM_SPOT_TEXT + 1];
+    for (uint64_t power = 1; power <= 10000000000u; power *= 10)
+        for (uint64_t spot = power - 1; spot <= power + 1 && spot <= 4294967295u; spot++) {
+            snprintf(want, sizeof want, "slot %" PRIu64, spot);
+            OF_BOTH(TCAM_RECORD, (uint32_t)spot, want);
+        }
+    for (unsigned long index = 0; index < most; index++) {
+        uint32_t spot = (uint32_t)(random_word() >> (32 + below(32)));
+        snprintf(want, sizeof want, "byte %" PRIu32, spot);
+        OF_BOTH(TCAM_IMAGE, spot, want);
+        snprintf(want, sizeof want, "%" PRIu32 " word%s needed", spot, spot == 1 ? "" : "s");
+        OF_TABLE(TCAM_SHORT, spot, want);
+    }
+}
+
+/* ---- Spots as the calls give them ---- */
+
+/* Five slots, of which the last is empty: a new rule before the first takes three writes, and the image has 204 bytes. */
+static uint64_t table[SLOTS(5)];
+
+static void five_slots(void)
+{
+    static const char *const pattern[] = {"00*", "01", "*01", "1*1"};
+    static const uint32_t priority[] = {40, 10, 30, 20};
+    memset(table, 0, sizeof table);
+    for (uint32_t slot = 0; slot < 4; slot++) {
+        struct rule rule = rule_of(slot + 1, priority[slot], pattern[slot], 7);
+        set_record(table + SLOTS(slot), &rule);
+    }
+}
+
+static uint32_t insert(const struct rule *rule, uint32_t *plan, size_t room, uint32_t *count, uint32_t *spot)
+{
+    return tcam_plan_insert(table, TCAM_WORDS(table), rule->id, rule->priority, rule->value[0], rule->value[1],
+                            rule->mask[0], rule->mask[1], rule->action, plan, room, count, spot);
+}
+
+static void refused_plans(void)
+{
+    struct rule new_rule = rule_of(5, 50, "000", 9);
+    uint32_t plan[5], count, spot, number;
+    HERE;
+    five_slots();
+    number = insert(&new_rule, plan, 2, &count, &spot);
+    OF_TABLE(number, spot, "3 words needed");
+    number = tcam_plan_delete(table, TCAM_WORDS(table), 3, plan, 0, &count, &spot);
+    OF_TABLE(number, spot, "1 word needed");
+    new_rule.id = 3;
+    number = insert(&new_rule, plan, 5, &count, &spot);
+    CHECK(number == TCAM_KNOWN);
+    OF_TABLE(number, spot, "slot 2");
+    new_rule.id = 5;
+    new_rule.priority = 40;
+    number = insert(&new_rule, plan, 5, &count, &spot);
+    CHECK(number == TCAM_TIE);
+    OF_TABLE(number, spot, "slot 0");
+    number = tcam_plan_delete(table, TCAM_WORDS(table), 9, plan, 5, &count, &spot);
+    CHECK(number == TCAM_UNKNOWN);
+    OF_TABLE(number, spot, "");
+    memcpy(table + SLOTS(4), table + SLOTS(1), SLOTS(1) * sizeof *table);
+    number = tcam_plan_delete(table, TCAM_WORDS(table), 3, plan, 5, &count, &spot);
+    CHECK(number == TCAM_TWICE);
+    OF_TABLE(number, spot, "slot 4"); /* the later of the two */
+}
+
+static void refused_images(void)
+{
+    static uint8_t image[TCAM_IMAGE_BYTES(5)];
+    uint32_t bytes, spot, number;
+    HERE;
+    five_slots();
+    number = tcam_save(table, TCAM_WORDS(table), image, 203, &bytes, &spot);
+    OF_IMAGE(number, spot, "204 bytes needed");
+    CHECK(tcam_save(table, TCAM_WORDS(table), image, sizeof image, &bytes, &spot) == TCAM_OK && bytes == 204);
+    number = tcam_load(image, bytes - 1, table, TCAM_WORDS(table), &spot);
+    OF_IMAGE(number, spot, "byte 2");
+    /* no checksum: another action is a sound image of another table */
+    image[bytes - 1] ^= 1;
+    CHECK(tcam_load(image, bytes, table, TCAM_WORDS(table), &spot) == TCAM_OK);
+    CHECK(tcam_record_action(table + SLOTS(3)) == 6 && tcam_record_id(table + SLOTS(3)) == 4);
+}
+
+static void refused_writes(void)
+{
+    uint32_t plan[3] = {tcam_write_word(1, 4), tcam_write_word(2, 3), tcam_write_word(TCAM_EMPTY, 4)};
+    tcam_progress progress = {0, 3};
+    uint64_t result = 0;
+    HERE;
+    five_slots();
+    for (int call = 0; call < 2; call++)
+        result = tcam_carry_out(table, TCAM_WORDS(table), plan, TCAM_WORDS(plan), 0, 0, 0, 0, 0, 0, 0, &progress);
+    OF_TABLE(tcam_carry_number(result), tcam_carry_spot(result), "1 write done");
+    progress.done = 3;
+    result = tcam_carry_out(table, TCAM_WORDS(table), plan, TCAM_WORDS(plan), 0, 0, 0, 0, 0, 0, 0, &progress);
+    CHECK(result == TCAM_FINISHED);
+    OF_TABLE(tcam_carry_number(result), tcam_carry_spot(result), "");
+}
+
+int main(int count, char **arguments)
+{
+    static void (*const cases[])(void) = {
+        constants, plan_words, lengths, record_parts, spots_that_are_slots, spots_that_count, spots_that_are_places,
+        spots_that_name_nothing, refused_plans, refused_images, refused_writes,
+    };
+    unsigned long most = begin(count, arguments, 20000);
+    run_cases(cases, COUNT_OF(cases));
+    digits(most);
+
+    return verdict("header_test");
+}
