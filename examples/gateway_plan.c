@@ -1,18 +1,8 @@
 /* The gateway's table while it is in use: a rule is put in, by a plan that first moves others out of its way, and a rule
  * is taken out. The library plans and makes one write per call, and frames are looked up between any two writes. Then
- * the table is saved, and loaded again.
- * Key: destination address in the upper 32 bits of the key, port in the 16 bits below. Build and run: examples/run */
-#include <inttypes.h>
-#include <stdio.h>
-#include <stdlib.h>
+ * the table is saved, and loaded again. Build and run: examples/run */
 #include <string.h>
-#include "tcam.h"
-
-/* an address and a port, as a value, a mask or a key */
-#define KEY(a, b, c, d, port) \
-    ((uint64_t)(a) << 56 | (uint64_t)(b) << 48 | (uint64_t)(c) << 40 | (uint64_t)(d) << 32 | (uint64_t)(port) << 16)
-#define RULE(id, priority, value, mask, action) (value), 0, (mask), 0, TCAM_ID_ACTION(id, action), (priority)
-#define EMPTY 0, 0, 0, 0, 0, 0
+#include "gateway.h"
 
 static uint64_t table[] = {
     RULE(12, 200, KEY(10, 0, 7, 0, 0), KEY(255, 255, 255, 0, 0), 3),   /* subscriber 7: port 3 */
@@ -21,7 +11,7 @@ static uint64_t table[] = {
     RULE(14, 100, KEY(10, 0, 9, 0, 0), KEY(255, 255, 255, 0, 0), 4),   /* subscriber 9: port 4 */
     EMPTY,
 };
-#define WORDS (sizeof table / sizeof table[0])
+#define WORDS TCAM_WORDS(table)
 #define SLOTS (WORDS / TCAM_SLOT_WORDS)
 
 /* the new rule comes before subscriber 7's, and so has to stand in a lower slot */
@@ -29,44 +19,12 @@ static const uint64_t console[TCAM_SLOT_WORDS] = {
     RULE(11, 300, KEY(10, 0, 7, 0, 22), KEY(255, 255, 255, 0, 65535), 9), /* the subscriber's console: drop */
 };
 
-static const struct {
-    const char *name;
-    uint64_t key;
-} frames[] = {
-    {"10.0.7.40:22", KEY(10, 0, 7, 40, 22)}, {"10.0.7.40:443", KEY(10, 0, 7, 40, 443)},
-    {"10.0.9.1:443", KEY(10, 0, 9, 1, 443)}, {"10.0.9.1:80", KEY(10, 0, 9, 1, 80)},
-    {"192.168.0.1:80", KEY(192, 168, 0, 1, 80)}, {"172.16.0.1:80", KEY(172, 16, 0, 1, 80)},
+static struct frame frames[] = {
+    {"10.0.7.40:22", KEY(10, 0, 7, 40, 22), 0, 0}, {"10.0.7.40:443", KEY(10, 0, 7, 40, 443), 0, 0},
+    {"10.0.9.1:443", KEY(10, 0, 9, 1, 443), 0, 0}, {"10.0.9.1:80", KEY(10, 0, 9, 1, 80), 0, 0},
+    {"192.168.0.1:80", KEY(192, 168, 0, 1, 80), 0, 0}, {"172.16.0.1:80", KEY(172, 16, 0, 1, 80), 0, 0},
 };
 #define FRAMES (sizeof frames / sizeof frames[0])
-
-/* id and action; a miss is id 0 */
-struct reply {
-    uint32_t id, action;
-};
-
-static void stop(const char *call, uint32_t result, uint32_t spot)
-{
-    printf("%s refused: %s, spot %" PRIu32 "\n", call, tcam_cause_name(result), spot);
-    exit(1);
-}
-
-static struct reply look_up(uint64_t key)
-{
-    struct reply reply;
-    uint32_t slot, spot;
-    uint32_t result = tcam_lookup(table, WORDS, key, 0, &slot, &reply.id, &reply.action, &spot);
-    if (result != TCAM_OK)
-        stop("lookup", result, spot);
-    return reply;
-}
-
-static void print_reply(size_t frame, struct reply reply)
-{
-    if (reply.id == 0)
-        printf("    %-18s miss\n", frames[frame].name);
-    else
-        printf("    %-18s rule %" PRIu32 ", action %" PRIu32 "\n", frames[frame].name, reply.id, reply.action);
-}
 
 static void print_write(uint32_t word)
 {
@@ -79,27 +37,14 @@ static void print_write(uint32_t word)
         printf("slot %" PRIu32 " -> slot %" PRIu32 "\n", from, to);
 }
 
-/* Carries a plan out, write by write, and tells after each which frames have another reply than at the start. */
+/* Carries a plan out, write by write, and tells after each which frames have another reply than before. */
 static void carry_out_plan(const uint32_t *plan, uint32_t count, const uint64_t *rule)
 {
-    struct reply before[FRAMES];
     tcam_progress progress = {0, count};
     uint64_t result;
-    for (size_t frame = 0; frame < FRAMES; frame++)
-        before[frame] = look_up(frames[frame].key);
-    while ((result = tcam_carry_out(table, WORDS, plan, count, tcam_record_id(rule), tcam_record_priority(rule), rule[0],
-                                    rule[1], rule[2], rule[3], tcam_record_action(rule), &progress)) == TCAM_WROTE) {
-        int changes = 0;
+    while ((result = tcam_carry_out(table, WORDS, plan, count, RULE_ARGUMENTS(rule), &progress)) == TCAM_WROTE) {
         print_write(plan[progress.done - 1]);
-        for (size_t frame = 0; frame < FRAMES; frame++) {
-            struct reply now = look_up(frames[frame].key);
-            if (now.id == before[frame].id && now.action == before[frame].action)
-                continue;
-            changes = 1;
-            print_reply(frame, now);
-        }
-        if (!changes)
-            printf("    all replies stay\n");
+        print_changes(table, WORDS, frames, FRAMES);
     }
     if (result != TCAM_FINISHED)
         stop("carrying out", tcam_carry_number(result), tcam_carry_spot(result));
@@ -109,29 +54,24 @@ static void carry_out_plan(const uint32_t *plan, uint32_t count, const uint64_t 
 static void restart(void)
 {
     static uint8_t image[TCAM_IMAGE_BYTES(SLOTS)];
-    struct reply before[FRAMES];
     uint32_t bytes, spot;
-    for (size_t frame = 0; frame < FRAMES; frame++)
-        before[frame] = look_up(frames[frame].key);
-
-    uint32_t result = tcam_save(table, WORDS, image, sizeof image, &bytes, &spot);
-    if (result != TCAM_OK)
-        stop("save", result, spot);
+    uint32_t number = tcam_save(table, WORDS, image, sizeof image, &bytes, &spot);
+    if (number != TCAM_OK) {
+        print_image_refusal("save", number, spot);
+        exit(1);
+    }
     printf("saved, %" PRIu32 " bytes\n", bytes);
     memset(table, 0, sizeof table);
-    result = tcam_load(image, bytes, table, WORDS, &spot);
-    if (result != TCAM_OK)
-        stop("load", result, spot);
-
-    int changes = 0;
-    for (size_t frame = 0; frame < FRAMES; frame++) {
-        struct reply now = look_up(frames[frame].key);
-        changes += now.id != before[frame].id || now.action != before[frame].action;
+    number = tcam_load(image, bytes, table, WORDS, &spot);
+    if (number != TCAM_OK) {
+        print_image_refusal("load", number, spot);
+        exit(1);
     }
-    printf("loaded, %d replies changed\n", changes);
+    printf("loaded\n");
+    print_changes(table, WORDS, frames, FRAMES);
 
-    result = tcam_load(image, bytes - 1, table, WORDS, &spot);
-    printf("a byte short: %s at byte %" PRIu32 "\n", tcam_cause_name(result), spot);
+    number = tcam_load(image, bytes - 1, table, WORDS, &spot);
+    print_image_refusal("load of a byte less", number, spot);
 }
 
 int main(void)
@@ -139,23 +79,17 @@ int main(void)
     uint32_t plan[SLOTS], count, spot; /* as many words as slots always do */
 
     printf("at the start\n");
-    for (size_t frame = 0; frame < FRAMES; frame++)
-        print_reply(frame, look_up(frames[frame].key));
+    print_replies(table, WORDS, frames, FRAMES);
 
-    uint32_t result = tcam_plan_insert(table, WORDS, tcam_record_id(console), tcam_record_priority(console), console[0],
-                                       console[1], console[2], console[3], tcam_record_action(console), plan, SLOTS, &count,
-                                       &spot);
-    if (result != TCAM_OK)
-        stop("insert", result, spot);
+    uint32_t number = tcam_plan_insert(table, WORDS, RULE_ARGUMENTS(console), plan, SLOTS, &count, &spot);
+    if (number != TCAM_OK)
+        stop("insert", number, spot);
     printf("insert rule 11, %" PRIu32 " writes\n", count);
-    for (uint32_t index = 0; index < count; index++)
-        print_write(plan[index]);
-    printf("carried out\n");
     carry_out_plan(plan, count, console);
 
-    result = tcam_plan_delete(table, WORDS, 15, plan, SLOTS, &count, &spot);
-    if (result != TCAM_OK)
-        stop("delete", result, spot);
+    number = tcam_plan_delete(table, WORDS, 15, plan, SLOTS, &count, &spot);
+    if (number != TCAM_OK)
+        stop("delete", number, spot);
     printf("delete rule 15, %" PRIu32 " write\n", count);
     carry_out_plan(plan, count, console); /* no rule is put in, so that any will do */
     restart();
