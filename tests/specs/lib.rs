@@ -1,6 +1,7 @@
 // Reads the specifications, proofs, sources and promises of the repository: which items there are, whether each is a definition
 // or a law, and which names each mentions.
 
+pub mod asked;
 pub mod code;
 pub mod comments;
 pub mod disk;
@@ -14,6 +15,8 @@ pub mod tokens;
 pub mod tree;
 pub mod uses;
 
+#[cfg(test)]
+mod asked_test;
 #[cfg(test)]
 mod comments_test;
 #[cfg(test)]
