@@ -6,15 +6,14 @@ mod believed;
 mod files;
 mod known;
 mod names;
-mod page;
 mod requires;
 
 use crate::believed::Believed;
 use crate::files::{breaches, listing, with_names};
 use crate::known::Known;
 use crate::names::wrong_names;
-use crate::page::List;
 use crate::requires::{asked, requires};
+use specs::lists::List;
 use specs::promises::PROMISES;
 use specs::tree::Tree;
 use std::path::Path;

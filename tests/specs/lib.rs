@@ -7,6 +7,7 @@ pub mod comments;
 pub mod disk;
 pub mod items;
 pub mod kinds;
+pub mod lists;
 pub mod mentions;
 pub mod promises;
 pub mod reach;
@@ -21,6 +22,8 @@ mod asked_test;
 mod comments_test;
 #[cfg(test)]
 mod items_test;
+#[cfg(test)]
+mod lists_test;
 #[cfg(test)]
 mod mentions_test;
 #[cfg(test)]
