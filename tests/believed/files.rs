@@ -1,14 +1,11 @@
-// The list of the files to believe, where it stands in the table of promises, and the kinds of files.
+// The list of the files to believe, and the kinds of files.
 
 use crate::believed::Believed;
-use specs::promises::PROMISES;
 use specs::reach::closure;
 use specs::tree::Module;
 use std::collections::BTreeSet;
 use std::fmt::Write;
 
-const BEGIN: &str = "<!-- believed: begin -->\n";
-const END: &str = "<!-- believed: end -->";
 /// A law this long, that a definition needs, has a file of laws to stand in.
 const LONG_LAW: usize = 20;
 
@@ -45,29 +42,6 @@ pub fn with_names(believed: &Believed) -> String {
         let _ = writeln!(text, "- `{}`: {}", believed.tree.modules[module].path, names.join(", "));
     }
     text
-}
-
-/// The text with the list between its two lines, if it has them.
-pub fn replaced(text: &str, list: &str) -> Option<String> {
-    let begin = text.find(BEGIN)? + BEGIN.len();
-    let end = begin + text[begin..].find(END)?;
-    Some(format!("{}{list}{}", &text[..begin], &text[end..]))
-}
-
-/// How the list that stands in the text differs from this one, line by line.
-pub fn standing(text: &str, list: &str) -> Vec<String> {
-    let Some(begin) = text.find(BEGIN).map(|at| at + BEGIN.len()) else {
-        return vec![format!("{PROMISES}: no list of the files to believe")];
-    };
-    let there = &text[begin..begin + text[begin..].find(END).unwrap_or(0)];
-    let missing = list.lines().filter(|line| !there.lines().any(|other| other == *line));
-    let extra = there.lines().filter(|line| !list.lines().any(|other| other == *line));
-    let mut found: Vec<String> = extra.map(|line| format!("{PROMISES}: - {line}")).collect();
-    found.extend(missing.map(|line| format!("{PROMISES}: + {line}")));
-    if found.is_empty() && there != list {
-        found.push(format!("{PROMISES}: the list is in another order"));
-    }
-    found
 }
 
 /// Each item that stands in a file of the wrong kind.

@@ -1,15 +1,19 @@
-// What an auditor must believe: the files with the definitions that the contracts and the table of promises rest on.
+// What an auditor must believe: the files with the definitions that the contracts and the table of promises rest on; and what
+// functions ask of their callers.
 // See `run` for the flags.
 
 mod believed;
 mod files;
 mod known;
 mod names;
+mod requires;
 
 use crate::believed::Believed;
-use crate::files::{breaches, listing, replaced, standing, with_names};
+use crate::files::{breaches, listing, with_names};
 use crate::known::Known;
 use crate::names::wrong_names;
+use crate::requires::{asked, requires};
+use specs::lists::List;
 use specs::promises::PROMISES;
 use specs::tree::Tree;
 use std::path::Path;
@@ -23,6 +27,7 @@ fn main() -> ExitCode {
         "" => print!("{}", listing(&believed)),
         "--names" => print!("{}", with_names(&believed)),
         "--kinds" => print_kinds(&believed),
+        "--requires" => print!("{}", requires(&tree, &asked())),
         "--write" => return write(&believed),
         "--check" => return check(&believed),
         _ => {
@@ -44,12 +49,22 @@ fn print_kinds(believed: &Believed) {
     }
 }
 
+/// The lists that the table of promises has.
+fn lists(believed: &Believed) -> [List; 2] {
+    let requires = requires(believed.tree, &asked());
+    [List { name: "believed", text: listing(believed) }, List { name: "requires", text: requires }]
+}
+
 fn write(believed: &Believed) -> ExitCode {
-    let Some(text) = replaced(&believed.tree.promises, &listing(believed)) else {
-        eprintln!("{PROMISES}: there are no lines for the list");
-        return ExitCode::FAILURE;
-    };
-    match std::fs::write(PROMISES, text) {
+    let mut page = believed.tree.promises.clone();
+    for list in lists(believed) {
+        let Some(text) = list.replaced(&page) else {
+            eprintln!("{PROMISES}: there are no lines for the list `{}`", list.name);
+            return ExitCode::FAILURE;
+        };
+        page = text;
+    }
+    match std::fs::write(PROMISES, page) {
         Ok(()) => ExitCode::SUCCESS,
         Err(error) => {
             eprintln!("{PROMISES}: {error}");
@@ -59,14 +74,17 @@ fn write(believed: &Believed) -> ExitCode {
 }
 
 fn check(believed: &Believed) -> ExitCode {
-    let mut wrong = standing(&believed.tree.promises, &listing(believed));
+    let tree = believed.tree;
+    let mut wrong: Vec<String> = lists(believed).iter().flat_map(|list| list.standing(&tree.promises)).collect();
+    wrong.extend(asked().wrong(tree));
     wrong.extend(breaches(believed));
-    wrong.extend(wrong_names(believed.tree, &Known::new(believed.tree, Path::new("."))));
+    wrong.extend(wrong_names(tree, &Known::new(tree, Path::new("."))));
     for line in &wrong {
         println!("{line}");
     }
     if wrong.is_empty() {
-        println!("believed: {} definitions in {} files, as listed", believed.definitions().count(), believed.files().len());
+        let (definitions, files) = (believed.definitions().count(), believed.files().len());
+        println!("believed: {definitions} definitions in {files} files, and what functions ask, as listed");
         return ExitCode::SUCCESS;
     }
     println!("believed: {} lines to put right", wrong.len());

@@ -1,11 +1,13 @@
 // Reads the specifications, proofs, sources and promises of the repository: which items there are, whether each is a definition
 // or a law, and which names each mentions.
 
+pub mod asked;
 pub mod code;
 pub mod comments;
 pub mod disk;
 pub mod items;
 pub mod kinds;
+pub mod lists;
 pub mod mentions;
 pub mod promises;
 pub mod reach;
@@ -15,9 +17,13 @@ pub mod tree;
 pub mod uses;
 
 #[cfg(test)]
+mod asked_test;
+#[cfg(test)]
 mod comments_test;
 #[cfg(test)]
 mod items_test;
+#[cfg(test)]
+mod lists_test;
 #[cfg(test)]
 mod mentions_test;
 #[cfg(test)]

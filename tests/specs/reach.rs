@@ -30,7 +30,7 @@ pub fn contracts(tree: &Tree, ghost: bool) -> BTreeSet<usize> {
     let mut found = BTreeSet::new();
     for source in &tree.sources {
         for function in &source.functions {
-            for text in function.contracts.iter().chain(function.ghost.iter().filter(|_| ghost)) {
+            for text in function.contracts().chain(function.ghost.iter().filter(|_| ghost)) {
                 let mentions = of_text(text, &function.arguments);
                 found.extend(tree.resolve_all(&source.imports, None, &mentions, &mut vec![false; source.imports.len()]));
             }

@@ -56,9 +56,12 @@ fn contracts() {
     assert_eq!(functions.iter().map(|function| function.name.as_str()).collect::<Vec<_>>(), ["one", "two", "four"]);
     assert_eq!(functions.iter().map(|function| function.public).collect::<Vec<_>>(), [true, true, false]);
     assert_eq!(functions[1].arguments, ["key", "at"]);
-    assert_eq!(mentioned(&functions[0], &functions[0].contracts), ["first"]);
-    assert_eq!(mentioned(&functions[1], &functions[1].contracts), ["second", "third", "now", "fourth"]);
-    assert_eq!(functions[1].contracts.iter().map(|text| text[0].line).collect::<Vec<_>>(), [24, 24]);
+    assert_eq!(functions.iter().map(|function| function.exported).collect::<Vec<_>>(), [false, true, false]);
+    assert_eq!(mentioned(&functions[0], &functions[0].ensures), ["first"]);
+    assert_eq!(mentioned(&functions[1], &functions[1].requires), ["second"]);
+    assert_eq!(mentioned(&functions[1], &functions[1].ensures), ["third", "now", "fourth"]);
+    assert_eq!(functions[1].contracts().map(|text| text[0].line).collect::<Vec<_>>(), [24, 24]);
+    assert!(functions[0].requires.is_empty() && functions[2].contracts().next().is_none());
 }
 
 #[test]
@@ -78,6 +81,29 @@ fn names_declared() {
         ["Both", "Kind", "MOST", "Named", "Pair", "Plain", "four", "kept", "left", "one", "other", "right", "two", "width"];
     assert_eq!(names, expected);
     assert_eq!(found.imports.iter().map(|import| import.local.as_str()).collect::<Vec<_>>(), ["first", "second"]);
+}
+
+#[test]
+fn calls_and_what_use_lines_bring() {
+    let text = "use low::one;\nuse crate::file::two;\nghost use high.{three};\n\
+                fn four() { one(low::deep::two(3)); if x.len() < ⌜ one (2) ⌝ { crate::four() } }\n";
+    let found = source("test.rt", "own", text);
+    let calls = found.functions[0].calls.iter().map(|call| (call.path.as_deref(), call.name.as_str()));
+    assert_eq!(calls.collect::<Vec<_>>(), [(None, "one"), (Some("low"), "two"), (Some("crate"), "four")]);
+    assert_eq!((found.uses["one"].as_str(), found.uses["two"].as_str()), ("low", "own"));
+    assert!(!found.uses.contains_key("three"));
+}
+
+#[test]
+#[should_panic(expected = "test.rt:2: a name that is brought in as another")]
+fn a_name_brought_in_as_another() {
+    source("test.rt", "own", "use low::one;\nuse low::two as three;\n");
+}
+
+#[test]
+#[should_panic(expected = "test.rt: a requires that stands at no function")]
+fn a_requires_behind_a_clause_of_another_kind() {
+    source("test.rt", "own", "fn one() other { x } requires { ⌜ first ⌝ } {}\n");
 }
 
 #[test]

@@ -156,7 +156,7 @@ impl Tree {
             let found = source(&shown(root, &path), crate_name, &read(&path));
             let mut mentioned = vec![false; found.imports.len()];
             for function in &found.functions {
-                for text in function.contracts.iter().chain(&function.ghost) {
+                for text in function.contracts().chain(&function.ghost) {
                     self.resolve_all(&found.imports, None, &of_text(text, &function.arguments), &mut mentioned);
                 }
             }
