@@ -3,6 +3,7 @@
 pub mod Carrying
 pub mod Steps
 pub mod StepsLaws
+pub mod SpotsLaws
 pub mod Calls
 pub mod CallsLaws
 pub mod UntilLaws

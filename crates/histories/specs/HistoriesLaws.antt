@@ -7,9 +7,10 @@ use Prim.Native.Nat.{ℕ, zero, suc, _+_, _*_, _≤_, _<_}
 use native.Mathlib.Decide.{decLe}
 use native.Mathlib.Omega.{arith}
 use lib.ListN.{length, getD, replicate, length-replicate}
+use lib.Seq.{ext-getD}
 use Rattle.ternary.specs.Pattern.{Words}
 use Rattle.records.specs.Record.{recordWords, slotWords, empty}
-use Rattle.records.specs.Checks.{Told, success, tableChecks}
+use Rattle.records.specs.Checks.{Told, success, checkShape, tableChecks}
 use Rattle.records.specs.Laws.{slot-checks-law, table-checks-law, shape-law, records-law, empty-law}
 use Rattle.records.specs.Entries.{vacant, entries, entryOccupied}
 use Rattle.records.specs.declared.Rule.{Rule}
@@ -60,6 +61,16 @@ module _ (w n : ℕ) (some : 1 ≤ n) (few : n ≤ 1024) where
     held = λ x. (λ m. absurd (true≢false (sym (m .0) ∙ (ap (entryOccupied w) (sym (m .1 .2)) ∙ entry-empty (m .1 .0) (m .1 .1)))), λ m. absurd (m .1));
     actions = λ r m. absurd m;
   }
+
+-- every table of zeros that passes check 1 is where a history starts
+pub reached-start : (w : ℕ) (t : List ℕ) → checkShape w t ≡ Pass → ((i : ℕ) → i < length t → getD t i 0 ≡ 0) → Reached w [] t
+reached-start w t shape none =
+    let s = shape-law w t .0 shape in
+    let n = s .0 in
+    let long : length (emptyTable w n) ≡ n * recordWords w = length-replicate (n * recordWords w) 0 in
+    subst (Reached w [])
+    (ext-getD 0 (emptyTable w n) t (long ∙ sym (s .3)) (λ i h. zero-word (n * recordWords w) i ∙ sym (none i (omega (arith, s .3, long)))))
+    (Reached.start n (s .1) (s .2))
 
 -- a plan that has answered "finished" is carried out in full
 finished-late : {w : ℕ} {t plan : List ℕ} {rule : Rule} {words : List ℕ} {count : ℕ} {change : List Rule → List Rule} → Demand2 w t plan rule words count change

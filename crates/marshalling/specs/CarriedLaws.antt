@@ -16,6 +16,7 @@ use Rattle.carrying.specs.declared.StepInfo.{StepInfo}
 use Rattle.carrying.specs.declared.StepAnswer.{StepAnswer}
 use Rattle.carrying.specs.declared.StepAnswer.the-variants.{Wrote, Finished, Refused}
 use Rattle.carrying.specs.StepsLaws.{doneTold, done-told}
+use Rattle.carrying.specs.SpotsLaws.{step-spot}
 use Rattle.marshalling.specs.declared.Carried.{Carried}
 use Rattle.marshalling.specs.Carried.{SameCase, SpotFits, carriedStep, carryResult}
 
@@ -74,6 +75,13 @@ carry-result-once (Refused cause spot) Finished f g e = omega (arith, sym e ∙ 
 carry-result-once (Refused cause spot) (Refused other place) f g e =
     let same = sym (carry-refused cause spot) ∙ (e ∙ carry-refused other place) in
     (cause-number-once cause other (omega (arith, same, cause-small cause, cause-small other)), omega (arith, same, cause-small cause, cause-small other))
+
+-- the spot of every step's answer has 32 bits where the writes done have, so that this is said of any two calls
+pub step-spot-fits : (w : ℕ) (t plan : List ℕ) (rule : Rule) (done total : ℕ) (a : StepAnswer) → stepTold a ≡ stepAnswer w t plan rule done total
+    → done < 4294967296 → SpotFits a
+step-spot-fits w t plan rule done total (Wrote info) e h = tt
+step-spot-fits w t plan rule done total Finished e h = tt
+step-spot-fits w t plan rule done total (Refused cause spot) e h = step-spot w t plan rule done total 4294967296 (omega arith) h cause spot e
 
 -- the writes done after an answer, and the number that tells it
 abbrev pub carriedTold : Told → ℕ → Carried

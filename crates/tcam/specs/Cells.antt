@@ -4,10 +4,10 @@ use mathlib.Core.Path.{_≡_}
 use Prim.Native.Nat.{ℕ}
 use lib.ListN.{length}
 use mathlib.Core.List.{List, [], _∷_}
-use Rattle.records.specs.Record.{word}
+use Rattle.records.specs.Record.{word, slotWords, ident, action}
 use Rattle.records.specs.Checks.{Told}
 use Rattle.records.specs.declared.Rule.{Rule}
-use Rattle.lookups.specs.Lookup.{lookupAnswer}
+use Rattle.lookups.specs.Lookup.{lookupAnswer, FirstAt, NoMatch}
 use Rattle.delete_plans.specs.Deletes.{deleteAnswer, deletePlan}
 use Rattle.insert_plans.specs.Inserts.{insertAnswer, insertPlan}
 use Rattle.insert_plans.specs.Insertable.{Insertable}
@@ -25,6 +25,20 @@ pub record LookupLeft (t : List ℕ) (high low result slot slot′ id id′ acti
   pub named : id′ ≡ dataCell (keyAnswer t high low) 1 id
   pub acted : action′ ≡ dataCell (keyAnswer t high low) 2 action
   pub spotted : spot′ ≡ spotCell (keyAnswer t high low) spot
+
+-- What a lookup that returns 0 leaves in the cells for slot, id and action: those of the lowest slot that matches, whose id is not 0 ..
+pub record HitCells (t : List ℕ) (high low slot id did : ℕ) : Type 0 where
+  pub first : FirstAt 2 t (word (high ∷ low ∷ [])) slot
+  pub named : id ≡ ident 2 (slotWords 2 t slot)
+  pub acted : did ≡ action 2 (slotWords 2 t slot)
+  pub some : id ≡ 0 → ⊥
+
+-- .. or 0 in all three, where no slot matches: so id 0 tells a miss
+pub record MissCells (t : List ℕ) (high low slot id did : ℕ) : Type 0 where
+  pub none : NoMatch 2 t (word (high ∷ low ∷ []))
+  pub slot-zero : slot ≡ 0
+  pub id-zero : id ≡ 0
+  pub did-zero : did ≡ 0
 
 -- What a planning call leaves: its result, the plan buffer and the two cells, before and after; told is its answer.
 pub record PlanLeft (told : Told) (planned : List ℕ) (result : ℕ) (after : List ℕ) (count count′ spot spot′ : ℕ) : Type 0 where

@@ -1,0 +1,75 @@
+-- Laws on the spot of a step's refusal: it is a slot, the writes done, or 0.
+use mathlib.Core.Path.{_≡_, refl, sym, subst}
+use mathlib.Core.Bool.{Bool, true, false, cond, _&&_, true≢false}
+use mathlib.Core.List.{List, [], _∷_}
+use Prim.Native.Nat.{ℕ, _+_, _≤_, _<_}
+use native.Mathlib.Omega.{arith}
+use lib.Dec.{eqb, ltb, leb}
+use lib.ListN.{length, getD}
+use borrow.Author.Tests.{ltb-true}
+use Rattle.search.specs.Search.{least}
+use Rattle.plan_words.specs.PlanWords.{writeOf}
+use Rattle.records.specs.Order.{slots}
+use Rattle.records.specs.Checks.{Told, success, refusal, unless, orElse, lowest, shaped, checkShape, unsoundAt, checkRecords, slotChecks}
+use Rattle.records.specs.Laws.{cause-not-zero}
+use Rattle.records.specs.Writes.{fitsWrite}
+use Rattle.records.specs.EntriesLaws.{shaped-slots}
+use Rattle.records.specs.declared.Rule.{Rule}
+use Rattle.records.specs.declared.Cause.{Cause}
+use Rattle.records.specs.declared.Cause.the-variants.{Shape, Record, Rule as RuleCause, Write as WriteCause}
+use Rattle.records.specs.declared.Check.{Check}
+use Rattle.records.specs.declared.Check.the-variants.{Pass, Fail}
+use Rattle.carrying.specs.Carrying.{progressChecks, putSound, writeChecks, stepAnswer}
+
+-- the spot is below n, of a check that fails and of a refusal that is told
+abbrev Below : ℕ → Check → Type 0
+Below n Pass = Unit {0}
+Below n (Fail cause spot) = spot < n
+
+abbrev ToldBelow : ℕ → Told → Type 0
+ToldBelow n told = eqb (told .number) 0 ≡ false → getD (told .values) 0 0 < n
+
+cond-below : (n : ℕ) (b : Bool) (cause : Cause) (spot : ℕ) → spot < n → Below n (cond b Pass (Fail cause spot))
+cond-below n true cause spot h = tt
+cond-below n false cause spot h = h
+
+or-else-below : (n : ℕ) (x y : Check) → Below n x → (x ≡ Pass → Below n y) → Below n (orElse x y)
+or-else-below n Pass y a b = b refl
+or-else-below n (Fail cause spot) y a b = a
+
+lowest-below : (n : ℕ) (cause : Cause) (p : ℕ → Bool) (m : ℕ) → m ≤ n → Below n (lowest cause p m)
+unfolding lowest
+lowest-below n cause p m h = pick (ltb (least p m 0) m) refl
+  where
+    pick : (b : Bool) → ltb (least p m 0) m ≡ b → Below n (cond b (Fail cause (least p m 0)) Pass)
+    pick true e = omega (arith, ltb-true (least p m 0) m e)
+    pick false e = tt
+
+unless-below : (n : ℕ) (x : Check) (told : Told) → Below n x → ToldBelow n told → ToldBelow n (unless x told)
+unless-below n Pass told a b = b
+unless-below n (Fail cause spot) told a b = λ e. a
+
+-- below every number that is above the slots and the writes done
+pub step-spot : (w : ℕ) (t plan : List ℕ) (rule : Rule) (done total n : ℕ) → 1024 ≤ n → done < n → (cause : Cause) (spot : ℕ)
+    → refusal cause spot ≡ stepAnswer w t plan rule done total → spot < n
+unfolding stepAnswer progressChecks writeChecks slotChecks checkShape checkRecords
+step-spot w t plan rule done total n large few cause spot e =
+    subst (ToldBelow n) (sym e) (unless-below n (progressChecks w t (length plan) done total) _ progress (finished (eqb done total))) (cause-not-zero cause)
+  where
+    progress : Below n (progressChecks w t (length plan) done total)
+    progress =
+        or-else-below n (slotChecks w t) (cond (leb done total && leb total (length plan)) Pass (Fail WriteCause done))
+        (or-else-below n (checkShape w t) (checkRecords w t) (cond-below n (shaped w t) Shape 0 (omega arith))
+        (λ s. lowest-below n Record (unsoundAt w t) (slots w t) (omega (arith, shaped-slots w t s .1))))
+        (λ s. cond-below n (leb done total && leb total (length plan)) WriteCause done few)
+
+    write : Below n (writeChecks w t rule (getD plan done 0) done)
+    write =
+        or-else-below n (cond (putSound w rule (writeOf (getD plan done 0))) Pass (Fail RuleCause 0))
+        (cond (fitsWrite w t (writeOf (getD plan done 0))) Pass (Fail WriteCause done))
+        (cond-below n (putSound w rule (writeOf (getD plan done 0))) RuleCause 0 (omega arith))
+        (λ s. cond-below n (fitsWrite w t (writeOf (getD plan done 0))) WriteCause done few)
+
+    finished : (b : Bool) → ToldBelow n (cond b (success []) (unless (writeChecks w t rule (getD plan done 0) done) (success ((done + 1) ∷ []))))
+    finished true = λ f. absurd (true≢false f)
+    finished false = unless-below n (writeChecks w t rule (getD plan done 0) done) (success ((done + 1) ∷ [])) write (λ f. absurd (true≢false f))
