@@ -31,11 +31,11 @@ CarriedOut t plan rule count after = (progress : Progress) × Carrying t plan ru
 
 -- The tables that a caller comes to, with the changes made, the latest first: from 1 to 1,024 empty slots, by inserts and deletes that the planning
 -- calls accepted and that were carried out in full. An action has 32 bits.
-pub data Ran : List Change → List ℕ → Type 0 where
-  started : (n : ℕ) → 1 ≤ n → n ≤ 1024 → Ran [] (replicate (n * 6) 0)
-  inserted : (history : List Change) (t : List ℕ) → Ran history t → (rule : Rule) → rule .action < 4294967296
+pub data CameTo : List Change → List ℕ → Type 0 where
+  started : (n : ℕ) → 1 ≤ n → n ≤ 1024 → CameTo [] (replicate (n * 6) 0)
+  inserted : (history : List Change) (t : List ℕ) → CameTo history t → (rule : Rule) → rule .action < 4294967296
       → (plan after : List ℕ) (count count′ spot spot′ : ℕ) → InsertLeft t rule 0 plan after count count′ spot spot′
-      → (u : List ℕ) → CarriedOut t after rule count′ u → Ran (insert rule ∷ history) u
-  deleted : (history : List Change) (t : List ℕ) → Ran history t → (id : ℕ)
+      → (u : List ℕ) → CarriedOut t after rule count′ u → CameTo (insert rule ∷ history) u
+  deleted : (history : List Change) (t : List ℕ) → CameTo history t → (id : ℕ)
       → (plan after : List ℕ) (count count′ spot spot′ : ℕ) → DeleteLeft t id 0 plan after count count′ spot spot′
-      → (rule : Rule) (u : List ℕ) → CarriedOut t after rule count′ u → Ran (delete id ∷ history) u
+      → (rule : Rule) (u : List ℕ) → CarriedOut t after rule count′ u → CameTo (delete id ∷ history) u

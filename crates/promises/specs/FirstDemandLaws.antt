@@ -44,8 +44,8 @@ use Rattle.script_operations.specs.Outcomes.{outcomeOf, refused, changeOutcome,
 use Rattle.script.specs.Script.{tableIn, tableOutcome, commandOutcome}
 use Rattle.script.specs.Told.{tableTold, commandTold}
 use Rattle.refusals.specs.Rows.{Row, AnsweredBy}
-use Rattle.refusals.specs.CallsLaws.{lookup-answered, insert-answered, delete-answered, save-answered, load-answered, step-answered}
-use Rattle.refusals.specs.LinesLaws.{line-answered}
+use Rattle.refusals.specs.CallsLaws.{lookup-by-rows, insert-by-rows, delete-by-rows, save-by-rows, load-by-rows, step-by-rows}
+use Rattle.refusals.specs.LinesLaws.{line-by-rows}
 use Rattle.refusals.specs.CarryingLaws.{stepChecks, step-told}
 use Rattle.tcam.specs.declared.carry.Progress.{Progress}
 use Rattle.tcam.specs.Cells.{keyAnswer, PlanLeft}
@@ -262,7 +262,7 @@ pub first-demand : FirstDemand
 first-demand = record {
   numbers = cause-number-once;
   lookup = λ t high low result slot slot′ id id′ action action′ spot spot′ left. (
-    told-declines _ (keyAnswer t high low) result spot spot′ (lookup-answered 2 t (word (high ∷ low ∷ []))) (lookup-kind t (word (high ∷ low ∷ []))) (left .number) (left .spotted),
+    told-declines _ (keyAnswer t high low) result spot spot′ (lookup-by-rows 2 t (word (high ∷ low ∷ []))) (lookup-kind t (word (high ∷ low ∷ []))) (left .number) (left .spotted),
     λ refused. let declines : IsRefusal (keyAnswer t high low .number) = λ z. refused (left .number ∙ z) in (
       left .slotted ∙ cell-kept (keyAnswer t high low) 0 slot declines,
       left .named ∙ cell-kept (keyAnswer t high low) 1 id declines,
@@ -270,24 +270,24 @@ first-demand = record {
     ),
   );
   insert = λ t rule result plan after count count′ spot spot′ left.
-      buffer-call _ (insertChecks 2 t rule) (insertWords 2 t rule) plan after _ result count count′ spot spot′ refl (insert-answered 2 t rule (length plan)) (left .left);
+      buffer-call _ (insertChecks 2 t rule) (insertWords 2 t rule) plan after _ result count count′ spot spot′ refl (insert-by-rows 2 t rule (length plan)) (left .left);
   delete = λ t id result plan after count count′ spot spot′ left.
-      buffer-call _ (deleteChecks 2 t id) (deleteWords 2 t id) plan after _ result count count′ spot spot′ refl (delete-answered 2 t id (length plan)) left;
+      buffer-call _ (deleteChecks 2 t id) (deleteWords 2 t id) plan after _ result count count′ spot spot′ refl (delete-by-rows 2 t id (length plan)) left;
   save = λ t result image after bytes bytes′ spot spot′ left.
-      buffer-call _ (tableChecks 2 t) (imageOf 2 t) image after _ result bytes bytes′ spot spot′ (sym (image-length 2 t)) (save-answered 2 t (length image)) left;
+      buffer-call _ (tableChecks 2 t) (imageOf 2 t) image after _ result bytes bytes′ spot spot′ (sym (image-length 2 t)) (save-by-rows 2 t (length image)) left;
   load = λ b result t after spot spot′ left. (
-    told-declines _ (loadAnswer 2 b t) result spot spot′ (load-answered 2 b t) (load-kind b t) (left .number) (left .spotted),
+    told-declines _ (loadAnswer 2 b t) result spot spot′ (load-by-rows 2 b t) (load-kind b t) (left .number) (left .spotted),
     λ refused. left .loaded ∙ load-kept b t (λ z. refused (left .number ∙ z)),
   );
   carry = λ t plan rule progress result after progress′ left. (
-    carries-by _ progress _ result (step-answered 2 t plan rule (progress .done) (progress .total)) (step-case t plan rule progress) (left .told),
+    carries-by _ progress _ result (step-by-rows 2 t plan rule (progress .done) (progress .total)) (step-case t plan rule progress) (left .told),
     λ other. let kept = carry-kept t plan rule (progress .done) (progress .total) (λ z. other (left .told ∙ z)) in
         (left .table ∙ kept .0, left .advanced ∙ kept .1, left .in-all),
   );
   line = λ memory memory′ slots number line out out′ ran left told. (
     λ cause place. (
-      λ e. line-answered (tableIn memory slots) number line .declined cause place .0 (ap (λ (x : LineTold). x .told) (sym told ∙ ap lineTold e)),
-      λ d. refused-line (ran .answer) cause place (ap (λ (x : LineTold). x .told) told ∙ line-answered (tableIn memory slots) number line .declined cause place .1 d),
+      λ e. line-by-rows (tableIn memory slots) number line .declined cause place .0 (ap (λ (x : LineTold). x .told) (sym told ∙ ap lineTold e)),
+      λ d. refused-line (ran .answer) cause place (ap (λ (x : LineTold). x .told) told ∙ line-by-rows (tableIn memory slots) number line .declined cause place .1 d),
     ),
     λ cause place e. left .table ∙ memory-kept memory slots _
         (line-kept (tableIn memory slots) number (commandOf line) (ap (λ (x : LineTold). x .letter) (sym told ∙ ap lineTold e))),

@@ -1,5 +1,5 @@
 -- Document 01, demand 2: from an empty table, after any accepted inserts and deletes carried out in full, each key is answered by the highest-priority
--- matching rule that was inserted and not since deleted, or by a miss. Within a plan every key keeps its old rule or miss until the last write, and from
+-- matching rule that was inserted and not since deleted, or by a miss. DuringPlan a plan every key keeps its old rule or miss until the last write, and from
 -- then on has the reply of the changed rule set. Images load to the table they were saved from.
 use mathlib.Core.Path.{_≡_}
 use mathlib.Core.Logic.{_⊎_}
@@ -18,7 +18,7 @@ use Rattle.tcam.specs.declared.carry.Progress.{Progress}
 use Rattle.tcam.specs.Carried.{CarryLeft}
 use Rattle.tcam.specs.Cells.{LookupLeft, InsertLeft, DeleteLeft}
 use Rattle.tcam.specs.Images.{SaveLeft, LoadLeft}
-use Rattle.promises.specs.Calls.{wroteResult, finishedResult, Carrying, Ran}
+use Rattle.promises.specs.Calls.{wroteResult, finishedResult, Carrying, CameTo}
 
 -- a key of two words matches a rule when it equals the value at all bits cared for
 abbrev pub KeyMatches : ℕ → ℕ → Rule → Type 0
@@ -36,27 +36,27 @@ module _ (rules : List Rule) (high low : ℕ) where
   NoneMatches = (rule : Rule) → Member rule rules → KeyMatches high low rule → ⊥
 
   -- a lookup of the key is accepted, and its cells tell that rule's id and action, or 0 in both for a miss
-  abbrev pub RepliedBy : ℕ → ℕ → ℕ → Type 0
-  RepliedBy result id action =
+  abbrev pub KeyReplied : ℕ → ℕ → ℕ → Type 0
+  KeyReplied result id action =
       (result ≡ 0) × (((rule : Rule) × Highest rule × (id ≡ rule .id) × (action ≡ rule .action)) ⊎ (NoneMatches × (id ≡ 0) × (action ≡ 0)))
 
 -- every call of tcam_lookup on the table is replied to so, whatever the key
-abbrev pub Answers : List ℕ → List Rule → Type 0
-Answers t rules =
+abbrev pub AllReplied : List ℕ → List Rule → Type 0
+AllReplied t rules =
     (high low result slot slot′ id id′ action action′ spot spot′ : ℕ) → LookupLeft t high low result slot slot′ id id′ action action′ spot spot′
-    → RepliedBy rules high low result id′ action′
+    → KeyReplied rules high low result id′ action′
 
 -- The rules of a table: of one that a caller came to from an empty one, those inserted and not since deleted; of any sound one, as a loaded one
 -- is, those that stand in its slots.
 pub data RulesOf : List Rule → List ℕ → Type 0 where
-  ran : (history : List Change) (t : List ℕ) → Ran history t → RulesOf (ruleSet history) t
+  ran : (history : List Change) (t : List ℕ) → CameTo history t → RulesOf (ruleSet history) t
   stand : (t : List ℕ) → Accepts (tableRows 2 t) → RulesOf (tableRules 2 t) t
 
--- Within a plan, from the table it was drawn for, with its rule and count: old are the rules before it, new those after it.
-pub record Within (t plan : List ℕ) (rule : Rule) (count : ℕ) (old new : List Rule) : Type 0 where
+-- DuringPlan a plan, from the table it was drawn for, with its rule and count: old are the rules before it, new those after it.
+pub record DuringPlan (t plan : List ℕ) (rule : Rule) (count : ℕ) (old new : List Rule) : Type 0 where
   -- until the last write every key has its old reply, and from then on that of the changed rules
-  pub kept : (u : List ℕ) (progress : Progress) → Carrying t plan rule count u progress → progress .done < count → Answers u old
-  pub changed : (u : List ℕ) (progress : Progress) → Carrying t plan rule count u progress → progress .done ≡ count → Answers u new
+  pub kept : (u : List ℕ) (progress : Progress) → Carrying t plan rule count u progress → progress .done < count → AllReplied u old
+  pub changed : (u : List ℕ) (progress : Progress) → Carrying t plan rule count u progress → progress .done ≡ count → AllReplied u new
   -- until then each call makes a write, and then it answers "finished": so every plan can be carried out in full
   pub few : (u : List ℕ) (progress : Progress) → Carrying t plan rule count u progress → progress .done ≤ count
   pub goes-on : (u : List ℕ) (progress : Progress) → Carrying t plan rule count u progress
@@ -66,14 +66,14 @@ pub record Within (t plan : List ℕ) (rule : Rule) (count : ℕ) (old new : Lis
 
 pub record SecondDemand : Type 0 where
   -- each key is answered by the highest-priority match of the table's rules, or by a miss
-  pub answered : (rules : List Rule) (t : List ℕ) → RulesOf rules t → Answers t rules
+  pub answered : (rules : List Rule) (t : List ℕ) → RulesOf rules t → AllReplied t rules
   -- within the plan of an insert, and of a delete, which is carried out with any rule
   pub insert : (rules : List Rule) (t : List ℕ) → RulesOf rules t → (rule : Rule) → rule .action < 4294967296
       → (plan after : List ℕ) (count count′ spot spot′ : ℕ) → InsertLeft t rule 0 plan after count count′ spot spot′
-      → Within t after rule count′ rules (rule ∷ rules)
+      → DuringPlan t after rule count′ rules (rule ∷ rules)
   pub delete : (rules : List Rule) (t : List ℕ) → RulesOf rules t → (id : ℕ)
       → (plan after : List ℕ) (count count′ spot spot′ : ℕ) → DeleteLeft t id 0 plan after count count′ spot spot′
-      → (rule : Rule) → Within t after rule count′ rules (without id rules)
+      → (rule : Rule) → DuringPlan t after rule count′ rules (without id rules)
   -- an image loads, into any table of as many words of 64 bits, to the table it was saved from
   pub loads : (t image saved : List ℕ) (bytes bytes′ spot spot′ : ℕ) → Words64 t → SaveLeft t 0 image saved bytes bytes′ spot spot′
       → (lent loaded : List ℕ) (result place place′ : ℕ) → length lent ≡ length t → LoadLeft (take bytes′ saved) result lent loaded place place′

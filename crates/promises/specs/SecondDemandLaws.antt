@@ -31,10 +31,10 @@ use Rattle.marshalling.specs.Cells.{dataCell}
 use Rattle.refusals.specs.TableLaws.{table-rows}
 use Rattle.tcam.specs.Cells.{keyAnswer, InsertLeft, DeleteLeft}
 use Rattle.tcam.specs.ImagesLaws.{save-load-call}
-use Rattle.promises.specs.Calls.{CarriedOut, Ran}
+use Rattle.promises.specs.Calls.{CarriedOut, CameTo}
 use Rattle.promises.specs.CallsLaws.{carrying-at, carried-at, goes-on-at}
 use Rattle.promises.specs.FirstDemandLaws.{counted-answer}
-use Rattle.promises.specs.SecondDemand.{KeyMatches, Highest, NoneMatches, RepliedBy, Answers, RulesOf, Within, SecondDemand}
+use Rattle.promises.specs.SecondDemand.{KeyMatches, Highest, NoneMatches, KeyReplied, AllReplied, RulesOf, DuringPlan, SecondDemand}
 
 abbrev keyWords : ℕ → ℕ → Words
 keyWords high low = word (high ∷ low ∷ [])
@@ -69,7 +69,7 @@ module _ (rules : List Rule) (v : List ℕ) (h : Holding 2 rules v) (high low : 
               ∙ (ap (λ (x : List ℕ). ident 2 (word x)) one ∙ record-ident 2 rule (h .actions rule (is .0))))
 
   replied : (told : Told) (result id id′ action action′ : ℕ) → told .number ≡ 0 → drop 1 (told .values) ≡ setReply 2 rules (keyWords high low)
-      → result ≡ told .number → id′ ≡ dataCell told 1 id → action′ ≡ dataCell told 2 action → RepliedBy rules high low result id′ action′
+      → result ≡ told .number → id′ ≡ dataCell told 1 id → action′ ≡ dataCell told 2 action → KeyReplied rules high low result id′ action′
   replied told result id id′ action action′ zero-number values e f g = (
     e ∙ zero-number,
     pick (highestMatch 2 (keyWords high low) rules) (highest-law 2 (keyWords high low) rules)
@@ -82,7 +82,7 @@ module _ (rules : List Rule) (v : List ℕ) (h : Holding 2 rules v) (high low : 
       pick (some rule) is a b = inl (rule, highest rule is, a, b)
 
 -- a table whose lookups reply as rules that some table holds
-answers : (rules : List Rule) (u v : List ℕ) → Holding 2 rules v → ((key : Words) → Replies 2 u key (setReply 2 rules key)) → Answers u rules
+answers : (rules : List Rule) (u v : List ℕ) → Holding 2 rules v → ((key : Words) → Replies 2 u key (setReply 2 rules key)) → AllReplied u rules
 answers rules u v h replies high low result slot slot′ id id′ action action′ spot spot′ left =
     let r = replies (keyWords high low) in
     replied rules v h high low (keyAnswer u high low) result id id′ action action′ (r .0) (r .1) (left .number) (left .named) (left .acted)
@@ -92,7 +92,7 @@ module _ (t plan : List ℕ) (rule : Rule) (words : List ℕ) (count : ℕ) (cha
   held-after : (rules : List Rule) → Holding 2 rules t → (u : List ℕ) → CarriedOut t plan rule count u → Holding 2 (change rules) u
   held-after rules h u full = subst (Holding 2 (change rules)) (sym (carried-at t plan rule words count change d u full)) (d .holds rules h)
 
-  within : (rules : List Rule) → Holding 2 rules t → Within t plan rule count rules (change rules)
+  within : (rules : List Rule) → Holding 2 rules t → DuringPlan t plan rule count rules (change rules)
   within rules h = record {
     kept = λ u progress under less.
         let state = carrying-at t plan rule words count change d u progress under in
@@ -125,11 +125,11 @@ deleting t id plan after count count′ spot spot′ left rule =
     (demand-2-delete 2 t id plan count′ rule (counted-answer (deleteChecks 2 t id) _ _ _ after count count′ spot spot′ left))
 
 -- a table's rules are held by it
-ran-holding : (history : List Change) (t : List ℕ) → Ran history t → Holding 2 (ruleSet history) t
-ran-holding history t (Ran.started n some-slot few) = empty-holding 2 n some-slot few
-ran-holding history t (Ran.inserted before u ran rule small plan after count count′ spot spot′ left v full) =
+ran-holding : (history : List Change) (t : List ℕ) → CameTo history t → Holding 2 (ruleSet history) t
+ran-holding history t (CameTo.started n some-slot few) = empty-holding 2 n some-slot few
+ran-holding history t (CameTo.inserted before u ran rule small plan after count count′ spot spot′ left v full) =
     held-after u after rule _ count′ (λ rules. rule ∷ rules) (inserting u rule small plan after count count′ spot spot′ left) (ruleSet before) (ran-holding before u ran) t full
-ran-holding history t (Ran.deleted before u ran id plan after count count′ spot spot′ left rule v full) =
+ran-holding history t (CameTo.deleted before u ran id plan after count count′ spot spot′ left rule v full) =
     held-after u after rule _ count′ (without id) (deleting u id plan after count count′ spot spot′ left rule) (ruleSet before) (ran-holding before u ran) t full
 
 held : (rules : List Rule) (t : List ℕ) → RulesOf rules t → Holding 2 rules t

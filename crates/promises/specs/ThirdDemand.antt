@@ -28,7 +28,7 @@ LosesNone t j =
 
 -- A sequence of writes, of any length, from a table and a rule, toward one end: each write but the last copies a rule from one slot to another that way,
 -- the last puts the new rule in; none loses a rule; after each the table is in order.
-pub record Sequence (toward : ℕ → ℕ → Type 0) (t : List ℕ) (rule : Rule) (words : List ℕ) : Type 0 where
+pub record WritesToward (toward : ℕ → ℕ → Type 0) (t : List ℕ) (rule : Rule) (words : List ℕ) : Type 0 where
   pub some : 0 < length words
   pub copies : (k : ℕ) → suc k < length words
       → (from : ℕ) × (to : ℕ) × (writeOf (getD words k 0) ≡ copy from to) × toward from to
@@ -41,14 +41,14 @@ pub record Sequence (toward : ℕ → ℕ → Type 0) (t : List ℕ) (rule : Rul
 
 -- the comparison class: toward higher slots, or toward lower
 abbrev pub OneWay : List ℕ → Rule → List ℕ → Type 0
-OneWay t rule words = Sequence Higher t rule words ⊎ Sequence Lower t rule words
+OneWay t rule words = WritesToward Higher t rule words ⊎ WritesToward Lower t rule words
 
 -- a rule's record stands in some slot
 abbrev pub Stands : List ℕ → List ℕ → Type 0
 Stands t x = (occupied 2 (word x) ≡ true) × ((i : ℕ) × (i < slots 2 t) × (entryAt 2 t i ≡ x))
 
 -- What tcam_plan_insert returned and left: words are the plan.
-pub record Planned (t : List ℕ) (rule : Rule) (result : ℕ) (plan after : List ℕ) (count count′ spot spot′ : ℕ) : Type 0 where
+pub record InsertPlanned (t : List ℕ) (rule : Rule) (result : ℕ) (plan after : List ℕ) (count count′ spot spot′ : ℕ) : Type 0 where
   pub words : List ℕ
   -- it moves rules toward one end only, loses none, keeps the table in order, and its last write puts the new rule in
   pub class : OneWay t rule words
@@ -70,4 +70,4 @@ pub record Planned (t : List ℕ) (rule : Rule) (result : ℕ) (plan after : Lis
 pub record ThirdDemand : Type 0 where
   pub plans : (t : List ℕ) (rule : Rule) → rule .action < 4294967296 → Accepts (newRuleRows 2 t rule)
       → (result : ℕ) (plan after : List ℕ) (count count′ spot spot′ : ℕ) → InsertLeft t rule result plan after count count′ spot spot′
-      → Planned t rule result plan after count count′ spot spot′
+      → InsertPlanned t rule result plan after count count′ spot spot′

@@ -36,7 +36,7 @@ use Rattle.refusals.specs.Rows.{Accepts}
 use Rattle.refusals.specs.Calls.{OneId, newRuleRows}
 use Rattle.refusals.specs.PlanningLaws.{insert-rows}
 use Rattle.tcam.specs.Cells.{InsertLeft}
-use Rattle.promises.specs.ThirdDemand.{LosesNone, Sequence, Stands, Planned, ThirdDemand}
+use Rattle.promises.specs.ThirdDemand.{LosesNone, WritesToward, Stands, InsertPlanned, ThirdDemand}
 
 -- a write that loses no rule, as the test has it
 free-law : (t : List ℕ) (j : ℕ) → (freeAt 2 t j ≡ true) ↔ LosesNone t j
@@ -92,7 +92,7 @@ module _ (toward : ℕ → ℕ → Type 0) (apart : (i k : ℕ) → toward i k �
   abbrev then-table : ℕ → List ℕ
   then-table k = applyWords 2 t rule (take k words)
 
-  sequence-of : ClassToward toward 2 t rule words → Sequence toward t rule words
+  sequence-of : ClassToward toward 2 t rule words → WritesToward toward t rule words
   sequence-of c = record {
     some = c .some;
     copies = λ k h.
@@ -108,7 +108,7 @@ module _ (toward : ℕ → ℕ → Type 0) (apart : (i k : ℕ) → toward i k �
     order = c .order;
   }
 
-  class-of : Sequence toward t rule words → ClassToward toward 2 t rule words
+  class-of : WritesToward toward t rule words → ClassToward toward 2 t rule words
   class-of s = record {
     some = s .some;
     copies = λ k h. let w = s .copies k h in (w .0, w .1, w .2, w .3);
@@ -143,7 +143,7 @@ stands-law t x = (
 -- document 01's demand 3
 planned : (t : List ℕ) (rule : Rule) → rule .action < 4294967296 → Accepts (newRuleRows 2 t rule)
     → (result : ℕ) (plan after : List ℕ) (count count′ spot spot′ : ℕ) → InsertLeft t rule result plan after count count′ spot spot′
-    → Planned t rule result plan after count count′ spot spot′
+    → InsertPlanned t rule result plan after count count′ spot spot′
 planned t rule small accepts result plan after count count′ spot spot′ left = record {
   words = words;
   class = ⊎-elim (λ c. inl (sequence-of Higher higher-apart t rule words c)) (λ c. inr (sequence-of Lower lower-apart t rule words c))

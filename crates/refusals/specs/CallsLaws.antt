@@ -25,9 +25,9 @@ use Rattle.refusals.specs.PlanningLaws.{short-row, insert-rows, delete-r
 use Rattle.refusals.specs.CarryingLaws.{stepChecks, stepSuccess, step-told, step-rows}
 use Rattle.refusals.specs.ImageLaws.{load-rows}
 
-pub lookup-answered : (w : ℕ) (t : List ℕ) (key : Words) → AnsweredBy (lookupRows w t) (lookupAnswer w t key)
+pub lookup-by-rows : (w : ℕ) (t : List ℕ) (key : Words) → AnsweredBy (lookupRows w t) (lookupAnswer w t key)
 unfolding lookupAnswer matchTold
-lookup-answered w t key =
+lookup-by-rows w t key =
     answered (slotChecks w t) (lookupRows w t) _ (slot-rows w t) (either (ltb (firstMatch w t key) (slots w t)) _)
   where
     either : (found : Bool) (values : List ℕ) → cond found (success values) (success []) .number ≡ 0
@@ -41,22 +41,22 @@ unfolding bufferAnswer
 buffer-answered checks rows needed room agree =
     answered _ _ _ (rows-then checks (checkRoom needed room) rows (shortRow needed room ∷ []) agree (λ e. short-row needed room)) refl
 
-pub insert-answered : (w : ℕ) (t : List ℕ) (rule : Rule) (room : ℕ) → AnsweredBy (insertRows w t rule room) (insertAnswer w t rule room)
-insert-answered w t rule room = buffer-answered _ _ (length (insertWords w t rule)) room (insert-rows w t rule)
+pub insert-by-rows : (w : ℕ) (t : List ℕ) (rule : Rule) (room : ℕ) → AnsweredBy (insertRows w t rule room) (insertAnswer w t rule room)
+insert-by-rows w t rule room = buffer-answered _ _ (length (insertWords w t rule)) room (insert-rows w t rule)
 
-pub delete-answered : (w : ℕ) (t : List ℕ) (id room : ℕ) → AnsweredBy (deleteRows w t id room) (deleteAnswer w t id room)
-delete-answered w t id room = buffer-answered _ _ 1 room (delete-rows w t id)
+pub delete-by-rows : (w : ℕ) (t : List ℕ) (id room : ℕ) → AnsweredBy (deleteRows w t id room) (deleteAnswer w t id room)
+delete-by-rows w t id room = buffer-answered _ _ 1 room (delete-rows w t id)
 
-pub save-answered : (w : ℕ) (t : List ℕ) (room : ℕ) → AnsweredBy (saveRows w t room) (saveAnswer w t room)
-save-answered w t room = buffer-answered _ _ (imageBytes w (ruleCount w t)) room (table-rows w t)
+pub save-by-rows : (w : ℕ) (t : List ℕ) (room : ℕ) → AnsweredBy (saveRows w t room) (saveAnswer w t room)
+save-by-rows w t room = buffer-answered _ _ (imageBytes w (ruleCount w t)) room (table-rows w t)
 
-pub load-answered : (w : ℕ) (b t : List ℕ) → AnsweredBy (loadRows w b t) (loadAnswer w b t)
+pub load-by-rows : (w : ℕ) (b t : List ℕ) → AnsweredBy (loadRows w b t) (loadAnswer w b t)
 unfolding loadAnswer
-load-answered w b t = answered _ _ (success []) (load-rows w b t) refl
+load-by-rows w b t = answered _ _ (success []) (load-rows w b t) refl
 
-pub step-answered : (w : ℕ) (t plan : List ℕ) (rule : Rule) (done total : ℕ)
+pub step-by-rows : (w : ℕ) (t plan : List ℕ) (rule : Rule) (done total : ℕ)
     → AnsweredBy (stepRows w t plan rule done total) (stepAnswer w t plan rule done total)
-step-answered w t plan rule done total =
+step-by-rows w t plan rule done total =
     subst (λ (told : Told). AnsweredBy (stepRows w t plan rule done total) told) (step-told w t plan rule done total)
     (answered (stepChecks w t plan rule done total) _ (stepSuccess done total) (step-rows w t plan rule done total) (either (eqb done total)))
   where

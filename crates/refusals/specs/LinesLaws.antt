@@ -29,7 +29,7 @@ use Rattle.refusals.specs.Rows.{Row, rowAt, AnsweredBy}
 use Rattle.refusals.specs.RowsLaws.{Agrees, answered}
 use Rattle.refusals.specs.TableLaws.{test-row}
 use Rattle.refusals.specs.PlanningLaws.{insert-rows, delete-rows}
-use Rattle.refusals.specs.CallsLaws.{lookup-answered}
+use Rattle.refusals.specs.CallsLaws.{lookup-by-rows}
 use Rattle.refusals.specs.Calls.{newRuleRows, oldRuleRows}
 use Rattle.refusals.specs.Lines.{commandRows, lineRows}
 
@@ -92,8 +92,8 @@ table-answered slots =
     pick false = refl
 
 -- document 01, script lines: 13 first, then the call's own checks in their order
-pub line-answered : (t : List ℕ) (number : ℕ) (line : List ℕ) → AnsweredBy (lineRows t number line) (commandTold t number (commandOf line) .told)
-line-answered t number line = pick (commandOf line) refl
+pub line-by-rows : (t : List ℕ) (number : ℕ) (line : List ℕ) → AnsweredBy (lineRows t number line) (commandTold t number (commandOf line) .told)
+line-by-rows t number line = pick (commandOf line) refl
   where
     formed : (c : Command) → commandOf line ≡ c → (c ≡ Malformed → ⊥) → (WellFormed line → ⊥) → ⊥
     formed c e other none = other (sym e ∙ malformed-law line .1 none)
@@ -109,6 +109,6 @@ line-answered t number line = pick (commandOf line) refl
     pick (Delete deletion) e = first (Delete deletion) e (λ f. let z : _≡_ {A = ℕ} 0 1 = cc in omega arith) (delete-line-answered t (deletion .id))
     pick (Lookup query) e =
         first (Lookup query) e (λ f. let z : _≡_ {A = ℕ} 0 1 = cc in omega arith)
-        (subst (AnsweredBy (commandRows t (Lookup query))) (sym (looked-told _)) (lookup-answered 2 t (word (keyOf query))))
+        (subst (AnsweredBy (commandRows t (Lookup query))) (sym (looked-told _)) (lookup-by-rows 2 t (word (keyOf query))))
     pick Malformed e =
         answered (Fail Line number) _ (success []) (test-row Line (WellFormed line → ⊥) number false (λ f. absurd (true≢false (sym f))) (λ f. malformed-law line .0 e)) refl
