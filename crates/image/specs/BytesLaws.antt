@@ -4,7 +4,7 @@ use mathlib.Core.Path.{_≡_, refl, sym, ap, ap₂, _∙_}
 use mathlib.Core.List.{List, [], _∷_, _++_, append-assoc, append-nil}
 use Prim.Native.Nat.{ℕ, zero, suc, _+_, _-_, _*_, _/_, _%_, _^_, _≤_, _<_}
 use native.Mathlib.Nat.{div-add-mod', add-zero, pow-suc, pow-zero, div-lt-iff-lt-mul, pow-le-pow-right, mul-le-mul-right, add-assoc, zero-add}
-use native.Mathlib.Nat.{suc-mul, zero-mul}
+use native.Mathlib.Nat.{suc-mul, zero-mul, mod-lt}
 use native.Mathlib.Omega.{arith}
 use native.Mathlib.Decide.{decLt}
 use lib.Arith.{digits-div, digits-mod, digits-lt}
@@ -17,6 +17,26 @@ pub length-bytes : (k n : ℕ) → length (bytesOf k n) ≡ k
 unfolding bytesOf
 length-bytes zero n = refl
 length-bytes (suc k) n = length-append (bytesOf k (n / 256)) (n % 256 ∷ []) ∙ (let e = length-bytes k (n / 256) in omega arith)
+
+-- what is made of a number's bytes is bytes
+pub append-in-bytes : (b c : List ℕ) → Bytes b → Bytes c → Bytes (b ++ c)
+append-in-bytes [] c left right i = right i
+append-in-bytes (x ∷ b) c left right zero = left 0
+append-in-bytes (x ∷ b) c left right (suc i) = append-in-bytes b c (λ j. left (suc j)) right i
+
+pub number-in-bytes : (k n : ℕ) → Bytes (bytesOf k n)
+unfolding bytesOf
+number-in-bytes zero n = λ i. omega arith
+number-in-bytes (suc k) n = append-in-bytes (bytesOf k (n / 256)) (n % 256 ∷ []) (number-in-bytes k (n / 256)) last
+  where
+    last : Bytes (n % 256 ∷ [])
+    last zero = mod-lt n (omega arith)
+    last (suc i) = omega arith
+
+pub pieces-in-bytes : (f : ℕ → List ℕ) (n : ℕ) → ((k : ℕ) → Bytes (f k)) → Bytes (pieces f n)
+unfolding pieces
+pieces-in-bytes f zero each = λ i. omega arith
+pieces-in-bytes f (suc n) each = append-in-bytes (pieces f n) (f n) (pieces-in-bytes f n each) (each n)
 
 -- a number reads its own bytes alone
 pub number-cong : (k : ℕ) (b c : List ℕ) (at to : ℕ) → ((j : ℕ) → j < k → getD b (at + j) 0 ≡ getD c (to + j) 0) → numberAt b at k ≡ numberAt c to k

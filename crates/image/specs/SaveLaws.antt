@@ -16,11 +16,11 @@ use Rattle.records.specs.declared.Check.the-variants.{Pass}
 use Rattle.records.specs.EntriesLaws.{shaped-slots}
 use Rattle.buffers.specs.Buffers.{bufferAnswer}
 use Rattle.image.specs.Answers.{saveAnswer}
-use Rattle.image.specs.Bytes.{bytesOf, store, pieces}
+use Rattle.image.specs.Bytes.{bytesOf, store, pieces, Bytes}
 use Rattle.image.specs.Indices.{indices, index}
 use Rattle.image.specs.Format.{bodyBytes, imageBytes, entryPlace, bodyPlace, entryOf, bodyOf, holds, ruleCount, ruleSlot, entryBytes, ruleBytes}
 use Rattle.image.specs.Format.{stored, imageOf}
-use Rattle.image.specs.BytesLaws.{length-bytes, pieces-length, store-none, store-length, store-next, store-then, store-swap}
+use Rattle.image.specs.BytesLaws.{append-in-bytes, number-in-bytes, pieces-in-bytes, length-bytes, pieces-length, store-none, store-length, store-next, store-then, store-swap}
 use Rattle.image.specs.IndicesLaws.{count-high, index-at}
 
 pub entry-length : (id slot body : ℕ) → length (entryOf id slot body) ≡ 10
@@ -38,6 +38,33 @@ body-length w x =
     let words = pieces (λ j. bytesOf 8 (x j)) (2 * w) in
     length-append (words ++ bytesOf 4 (rank w x)) (bytesOf 4 (action w x))
     ∙ omega (arith, length-append words (bytesOf 4 (rank w x)), words-length w x, length-bytes 4 (rank w x), length-bytes 4 (action w x))
+
+-- the image of every table is bytes, as what is said of loading it again asks
+entry-in-bytes : (id slot body : ℕ) → Bytes (entryOf id slot body)
+unfolding entryOf
+entry-in-bytes id slot body =
+    append-in-bytes (bytesOf 4 id ++ bytesOf 2 slot) (bytesOf 4 body)
+    (append-in-bytes (bytesOf 4 id) (bytesOf 2 slot) (number-in-bytes 4 id) (number-in-bytes 2 slot)) (number-in-bytes 4 body)
+
+body-in-bytes : (w : ℕ) (x : Words) → Bytes (bodyOf w x)
+unfolding bodyOf
+body-in-bytes w x =
+    let words = pieces (λ j. bytesOf 8 (x j)) (2 * w) in
+    append-in-bytes (words ++ bytesOf 4 (rank w x)) (bytesOf 4 (action w x))
+    (append-in-bytes words (bytesOf 4 (rank w x)) (pieces-in-bytes (λ j. bytesOf 8 (x j)) (2 * w) (λ j. number-in-bytes 8 (x j))) (number-in-bytes 4 (rank w x)))
+    (number-in-bytes 4 (action w x))
+
+pub image-in-bytes : (w : ℕ) (t : List ℕ) → Bytes (imageOf w t)
+unfolding imageOf entryBytes ruleBytes
+image-in-bytes w t =
+    let header = bytesOf 2 (slots w t) ++ bytesOf 2 (ruleCount w t) in
+    let contents = pieces (entryBytes w t) (ruleCount w t) in
+    append-in-bytes (header ++ contents) (pieces (ruleBytes w t) (ruleCount w t))
+    (append-in-bytes header contents
+    (append-in-bytes (bytesOf 2 (slots w t)) (bytesOf 2 (ruleCount w t)) (number-in-bytes 2 (slots w t)) (number-in-bytes 2 (ruleCount w t)))
+    (pieces-in-bytes (entryBytes w t) (ruleCount w t)
+    (λ k. entry-in-bytes (ident w (slotWords w t (ruleSlot w t k))) (ruleSlot w t k) (bodyPlace w (ruleCount w t) k))))
+    (pieces-in-bytes (ruleBytes w t) (ruleCount w t) (λ k. body-in-bytes w (slotWords w t (ruleSlot w t k))))
 
 -- an image's bytes: header, contents, bodies
 pub image-bytes : (w e : ℕ) → imageBytes w e ≡ 4 + e * 10 + e * bodyBytes w
