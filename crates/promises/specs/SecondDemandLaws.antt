@@ -16,17 +16,20 @@ use Rattle.records.specs.Checks.{Told}
 use Rattle.records.specs.RulesLaws.{record-ident}
 use Rattle.records.specs.declared.Rule.{Rule}
 use Rattle.neighbours.specs.Neighbours.{insertChecks}
-use Rattle.delete_plans.specs.Deletes.{deleteChecks, deleteWords}
-use Rattle.insert_plans.specs.Inserts.{insertWords}
-use Rattle.carrying.specs.Calls.{afterCalls}
+use Rattle.delete_plans.specs.Deletes.{deleteChecks, deletePlan, deleteWords}
+use Rattle.insert_plans.specs.Inserts.{insertWords, insertPlan}
+use Rattle.carrying.specs.Calls.{afterCalls, Lent}
+use Rattle.carrying.specs.CallsLaws.{lent-whole}
 use Rattle.histories.specs.RuleSet.{Change, ruleSet, without, Member, ruleMatches, highestMatch, ruleReply, setReply, IsHighest}
 use Rattle.histories.specs.RuleSetLaws.{highest-law}
+use Rattle.histories.specs.TableRules.{tableRules}
 use Rattle.histories.specs.TableRulesLaws.{table-holding}
 use Rattle.histories.specs.Holding.{Holding, Replies}
 use Rattle.histories.specs.HoldingLaws.{holding-reply, holding-lookup, holding-untied}
-use Rattle.histories.specs.HistoriesLaws.{empty-holding}
+use Rattle.histories.specs.Histories.{Reached}
+use Rattle.histories.specs.HistoriesLaws.{reached-holding, reached-lookup}
 use Rattle.histories.specs.Demand2.{Demand2}
-use Rattle.histories.specs.Demand2Laws.{demand-2-insert, demand-2-delete}
+use Rattle.histories.specs.Demand2Laws.{demand-2-insert, demand-2-delete, demand-2-room}
 use Rattle.marshalling.specs.Cells.{dataCell}
 use Rattle.refusals.specs.TableLaws.{table-rows}
 use Rattle.tcam.specs.Cells.{keyAnswer, InsertLeft, DeleteLeft}
@@ -89,9 +92,6 @@ answers rules u v h replies high low result slot slot′ id id′ action action�
 
 -- a plan drawn and carried out
 module _ (t plan : List ℕ) (rule : Rule) (words : List ℕ) (count : ℕ) (change : List Rule → List Rule) (d : Demand2 2 t plan rule words count change) where
-  held-after : (rules : List Rule) → Holding 2 rules t → (u : List ℕ) → CarriedOut t plan rule count u → Holding 2 (change rules) u
-  held-after rules h u full = subst (Holding 2 (change rules)) (sym (carried-at t plan rule words count change d u full)) (d .holds rules h)
-
   within : (rules : List Rule) → Holding 2 rules t → DuringPlan t plan rule count rules (change rules)
   within rules h = record {
     kept = λ u progress under less.
@@ -124,22 +124,37 @@ deleting t id plan after count count′ spot spot′ left rule =
     subst (λ (p : List ℕ). Demand2 2 t p rule (deleteWords 2 t id) count′ (without id)) (sym (left .plan))
     (demand-2-delete 2 t id plan count′ rule (counted-answer (deleteChecks 2 t id) _ _ _ after count count′ spot spot′ left))
 
--- a table's rules are held by it
-ran-holding : (history : List Change) (t : List ℕ) → CameTo history t → Holding 2 (ruleSet history) t
-ran-holding history t (CameTo.started n some-slot few) = empty-holding 2 n some-slot few
-ran-holding history t (CameTo.inserted before u ran rule small plan after count count′ spot spot′ left v full) =
-    held-after u after rule _ count′ (λ rules. rule ∷ rules) (inserting u rule small plan after count count′ spot spot′ left) (ruleSet before) (ran-holding before u ran) t full
-ran-holding history t (CameTo.deleted before u ran id plan after count count′ spot spot′ left rule v full) =
-    held-after u after rule _ count′ (without id) (deleting u id plan after count count′ spot spot′ left rule) (ruleSet before) (ran-holding before u ran) t full
+-- a table that a caller came to is one of the histories below: there the whole buffer is lent, and as many calls are made as are counted
+came-reached : (history : List Change) (t : List ℕ) → CameTo history t → Reached 2 history t
+came-reached history t (CameTo.started n some-slot few) = Reached.start n some-slot few
+came-reached history t (CameTo.inserted before u came rule small plan after count count′ spot spot′ left v full) =
+    let d = inserting u rule small plan after count count′ spot spot′ left in
+    let told = counted-answer (insertChecks 2 u rule) _ _ _ after count count′ spot spot′ (left .left) in
+    let lent = subst (Lent (insertPlan 2 u rule plan) count′) (sym (left .left .plan))
+    (lent-whole (insertPlan 2 u rule plan) count′ (demand-2-room (demand-2-insert 2 u rule plan count′ small told))) in
+    subst (Reached 2 history) (sym (carried-at u after rule _ count′ (λ rules. rule ∷ rules) d t full))
+    (Reached.inserted before u (came-reached before u came) rule small plan count′ told after lent count′ (d .finished count′ (omega arith)))
+came-reached history t (CameTo.deleted before u came id plan after count count′ spot spot′ left rule v full) =
+    let d = deleting u id plan after count count′ spot spot′ left rule in
+    let told = counted-answer (deleteChecks 2 u id) _ _ _ after count count′ spot spot′ left in
+    let lent = subst (Lent (deletePlan 2 u id plan) count′) (sym (left .plan))
+    (lent-whole (deletePlan 2 u id plan) count′ (demand-2-room (demand-2-delete 2 u id plan count′ rule told))) in
+    subst (Reached 2 history) (sym (carried-at u after rule _ count′ (without id) d t full))
+    (Reached.deleted before u (came-reached before u came) id plan count′ told rule after lent count′ (d .finished count′ (omega arith)))
 
+-- a table's rules are held by it, and lookups tell them
 held : (rules : List Rule) (t : List ℕ) → RulesOf rules t → Holding 2 rules t
-held rules t (RulesOf.ran history u ran) = ran-holding history u ran
+held rules t (RulesOf.ran history u came) = reached-holding (came-reached history u came)
 held rules t (RulesOf.stand u sound) = table-holding 2 u (table-rows 2 u .passes .1 sound)
+
+told : (rules : List Rule) (t : List ℕ) → RulesOf rules t → (key : Words) → Replies 2 t key (setReply 2 rules key)
+told rules t (RulesOf.ran history u came) key = reached-lookup (came-reached history u came) key
+told rules t (RulesOf.stand u sound) key = holding-lookup 2 (tableRules 2 u) u (held rules t (RulesOf.stand u sound)) key
 
 -- document 01's demand 2
 pub second-demand : SecondDemand
 second-demand = record {
-  answered = λ rules t of. let h = held rules t of in answers rules t t h (λ key. holding-lookup 2 rules t h key);
+  answered = λ rules t of. answers rules t t (held rules t of) (told rules t of);
   insert = λ rules t of rule small plan after count count′ spot spot′ left.
       within t after rule _ count′ (λ rs. rule ∷ rs) (inserting t rule small plan after count count′ spot spot′ left) rules (held rules t of);
   delete = λ rules t of id plan after count count′ spot spot′ left rule.
