@@ -20,7 +20,7 @@ use Rattle.delete_plans.specs.Deletes.{deleteChecks, deletePlan, deleteWords}
 use Rattle.insert_plans.specs.Inserts.{insertWords, insertPlan}
 use Rattle.carrying.specs.Calls.{afterCalls, Lent}
 use Rattle.carrying.specs.CallsLaws.{lent-whole}
-use Rattle.histories.specs.RuleSet.{Change, ruleSet, without, Member, ruleMatches, highestMatch, ruleReply, setReply, IsHighest}
+use Rattle.histories.specs.RuleSet.{Change, without, Member, ruleMatches, highestMatch, ruleReply, setReply, IsHighest}
 use Rattle.histories.specs.RuleSetLaws.{highest-law}
 use Rattle.histories.specs.TableRules.{tableRules}
 use Rattle.histories.specs.TableRulesLaws.{table-holding}
@@ -34,7 +34,7 @@ use Rattle.marshalling.specs.Cells.{dataCell}
 use Rattle.refusals.specs.TableLaws.{table-rows}
 use Rattle.tcam.specs.Cells.{keyAnswer, InsertLeft, DeleteLeft}
 use Rattle.tcam.specs.ImagesLaws.{save-load-call}
-use Rattle.promises.specs.Calls.{CarriedOut, CameTo}
+use Rattle.promises.specs.Calls.{CameTo}
 use Rattle.promises.specs.CallsLaws.{carrying-at, carried-at, goes-on-at}
 use Rattle.promises.specs.FirstDemandLaws.{counted-answer}
 use Rattle.promises.specs.SecondDemand.{KeyMatches, Highest, NoneMatches, KeyReplied, AllReplied, RulesOf, DuringPlan, SecondDemand}
