@@ -19,7 +19,7 @@ last-turn-requires : tie.Need-last-turn-requires
 last-turn-requires c κs = search needs
 
 send-requires : tie.Need-send-requires
-send-requires c κs = shown-within (c .before .before .last-turn .ensures .shown)
+send-requires c κs = search (needs, shown-within (c .before .before .last-turn .ensures .shown))
 
 sent-well-requires : tie.Need-sent-well-requires
 sent-well-requires c κs = search needs
