@@ -11,6 +11,9 @@ use support::random::Random;
 const SCRIPTS: u64 = 2000;
 const SEED: u64 = 5;
 
+/// A plan of so many writes is a long one.
+const LONG: usize = 10;
+
 fn main() {
     let words: Vec<String> = std::env::args().skip(1).collect();
     let Some(end) = words.iter().position(|word| word == "--") else { return be_the_program() };
@@ -20,7 +23,7 @@ fn main() {
         place.map_or(otherwise, |place| flags[place + 1].parse().expect("a flag takes a number"))
     };
     let (scripts, seed) = (number("--scripts", SCRIPTS), number("--seed", SEED));
-    let (mut lines, mut refusals) = (0, [0u64; 15]);
+    let (mut lines, mut long_plans, mut refusals) = (0, 0, [0u64; 15]);
     for number in 0..scripts {
         let script = make::script(&mut Random::new(seed, number));
         let expected = run_script(&script);
@@ -29,12 +32,15 @@ fn main() {
             std::process::exit(1);
         }
         lines += script.split(|&byte| byte == b'\n').count();
+        long_plans += count_long_plans(&expected);
         count_refusals(&expected, &mut refusals);
     }
     println!(
-        "script differential: {scripts} scripts of {lines} lines in all, seed {seed}; refusals by number: {:?}",
+        "script differential: {scripts} scripts of {lines} lines in all, seed {seed}; {long_plans} plans of {LONG} writes and more; \
+         refusals by number: {:?}",
         &refusals[1..]
     );
+    assert!(long_plans > 0 || scripts < 100, "no plan had {LONG} writes");
     let reached = [1, 5, 6, 7, 8, 9, 10, 13].iter().all(|&number| refusals[number] > 0);
     assert!(reached || scripts < 100, "a refusal that a script can meet was never met");
 }
@@ -43,6 +49,12 @@ fn be_the_program() {
     let mut input = Vec::new();
     std::io::stdin().read_to_end(&mut input).expect("standard input can be read");
     std::io::stdout().write_all(&run_script(&input)).expect("standard output can be written");
+}
+
+/// The inserts whose plans are long, by what is printed of them.
+fn count_long_plans(output: &[u8]) -> usize {
+    let output = String::from_utf8_lossy(output);
+    output.lines().filter(|line| line.strip_prefix("P ").is_some_and(|count| count.parse::<usize>().unwrap() >= LONG)).count()
 }
 
 fn count_refusals(output: &[u8], refusals: &mut [u64; 15]) {

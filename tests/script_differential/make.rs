@@ -3,20 +3,26 @@
 
 use support::random::Random;
 
-/// How large a script's tables, ids and patterns are, and how many lines it has at most.
+/// How large a script's tables, ids, priorities and patterns are, and how many lines it has at most; whether all its patterns overlap.
 struct Scale {
     slots: (usize, usize),
     ids: usize,
+    priorities: usize,
     bits: usize,
     lines: usize,
+    nested: bool,
 }
 
-/// Mostly small; one in forty fills tables of more slots than the library's searches pass over at a time.
+/// Mostly small; one in forty fills tables of more slots than the library's searches pass over at a time, and in one in ten every rule
+/// overlaps every other, so that an insert moves all rules up to the next empty slot.
 fn scale(random: &mut Random) -> Scale {
     if random.one_in(40) {
-        return Scale { slots: (60, 300), ids: 400, bits: random.between(5, 10), lines: 700 };
+        return Scale { slots: (60, 300), ids: 400, priorities: 400, bits: random.between(5, 10), lines: 700, nested: false };
     }
-    Scale { slots: (1, 12), ids: 30, bits: random.between(1, 4), lines: 80 }
+    if random.one_in(10) {
+        return Scale { slots: (12, 60), ids: 60, priorities: 5000, bits: random.between(1, 8), lines: 120, nested: true };
+    }
+    Scale { slots: (1, 12), ids: 30, priorities: 30, bits: random.between(1, 4), lines: 80, nested: false }
 }
 
 pub fn script(random: &mut Random) -> Vec<u8> {
@@ -57,16 +63,18 @@ fn some_id(random: &mut Random, scale: &Scale) -> u64 {
     random.between(1, scale.ids) as u64
 }
 
-fn pattern(random: &mut Random, bits: usize) -> String {
-    let length = if random.one_in(60) { random.between(120, 130) } else { random.between(1, bits) };
-    (0..length).map(|_| random.pick(&['0', '1', '*', '*'])).collect()
+/// Nested patterns have no 0, so that the key of ones matches them all.
+fn pattern(random: &mut Random, scale: &Scale) -> String {
+    let length = if random.one_in(60) { random.between(120, 130) } else { random.between(1, scale.bits) };
+    let symbols: &[char] = if scale.nested { &['1', '*'] } else { &['0', '1', '*', '*'] };
+    (0..length).map(|_| random.pick(symbols)).collect()
 }
 
 fn insert(random: &mut Random, scale: &Scale) -> Vec<u8> {
     let priority =
-        if random.one_in(30) { random.pick(&[0, 65_535, 65_536, 4_294_967_295]) } else { random.below(scale.ids) as u64 };
+        if random.one_in(30) { random.pick(&[0, 65_535, 65_536, 4_294_967_295]) } else { random.below(scale.priorities) as u64 };
     let action = if random.one_in(10) { random.word() & 0xffff_ffff } else { random.below(9) as u64 };
-    format!("I {} {priority} {} {action}", some_id(random, scale), pattern(random, scale.bits)).into_bytes()
+    format!("I {} {priority} {} {action}", some_id(random, scale), pattern(random, scale)).into_bytes()
 }
 
 fn lookup(random: &mut Random, bits: usize) -> Vec<u8> {

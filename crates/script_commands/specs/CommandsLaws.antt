@@ -1,8 +1,8 @@
 -- End theorems on lines: only the first 257 bytes of a line count, so that the program need not hold more.
--- A number, printed, is read back; and which keys match the rule of an insert.
-use mathlib.Core.Path.{_≡_, sym, ap, subst, _∙_}
-use mathlib.Core.Bool.{true}
-use mathlib.Core.Logic.{_↔_}
+-- A letter stands alone in its field; a number, printed, is read back; and which keys match the rule of an insert.
+use mathlib.Core.Path.{_≡_, refl, sym, ap, subst, _∙_}
+use mathlib.Core.Bool.{Bool, true, cond}
+use mathlib.Core.Logic.{_↔_, _≢_}
 use mathlib.Core.List.{List, [], _∷_}
 use Prim.Native.Nat.{ℕ, zero, suc, _+_, _-_, _≤_, _<_}
 use native.Mathlib.Omega.{arith}
@@ -10,7 +10,7 @@ use native.Mathlib.Decide.{decLe}
 use lib.Dec.{leb}
 use lib.ListN.{length, getD, take}
 use lib.Seq.{take-all, length-take-le}
-use borrow.Author.Tests.{le-leb, lt-ltb}
+use borrow.Author.Tests.{le-leb, lt-ltb, ne-eqb}
 use Rattle.search.specs.SearchLaws.{and-both}
 use Rattle.ternary.specs.Pattern.{Matches, matches}
 use Rattle.ternary.specs.PatternLaws.{matches-law}
@@ -19,7 +19,7 @@ use Rattle.script_text.specs.Decimal.{every, digit, decimal, digitsOf}
 use Rattle.script_text.specs.DecimalLaws.{digits-read, digits-digits, digits-some, digits-few}
 use Rattle.script_fields.specs.Fields.{isNumber, sized, valueBit, maskBit, symbolWord, symbolWords, Asks}
 use Rattle.script_fields.specs.PatternLaws.{word-asks}
-use Rattle.script_commands.specs.Commands.{insertedRule, keyOf, commandOf}
+use Rattle.script_commands.specs.Commands.{insertedRule, keyOf, letterOf, commandOf}
 use Rattle.script_commands.specs.LineLaws.{line-long}
 
 -- a longer line is malformed, whatever follows: the program need not hold more than 257 bytes
@@ -29,6 +29,16 @@ command-short line = by (decLe (length line) 256)
     by : Dec (length line ≤ 256) → commandOf (take 257 line) ≡ commandOf line
     by (yes h) = ap commandOf (take-all 257 line (omega arith))
     by (no h) = sym (line-long (take 257 line) (let e = length-take-le 257 line (omega arith) in omega arith)) ∙ line-long line (omega arith)
+
+-- a letter stands alone in its field: `letterOf` is 0, the letter of no command, for any other field
+pub letter-alone : (field : List ℕ) → 0 < letterOf field → field ≡ letterOf field ∷ []
+unfolding letterOf
+letter-alone [] h = absurd (omega arith)
+letter-alone (b ∷ []) h = refl
+letter-alone (b ∷ c ∷ rest) h =
+    let more : length (b ∷ c ∷ rest) ≢ 1 = λ e. omega arith in
+    let none : letterOf (b ∷ c ∷ rest) ≡ 0 = ap (λ (alone : Bool). cond alone b 0) (ne-eqb (length (b ∷ c ∷ rest)) 1 more) in
+    absurd (omega (arith, h, none))
 
 -- a number of 32 bits, printed, is a number, and read back it is the same
 pub number-printed : (n : ℕ) → n < 4294967296 → (isNumber (digitsOf n) ≡ true) × (decimal (digitsOf n) ≡ n)

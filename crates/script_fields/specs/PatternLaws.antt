@@ -9,11 +9,11 @@ use native.Mathlib.Omega.{arith}
 use native.Mathlib.Nat.{pow-suc, mul-comm, div-one, div-div-eq-div-mul}
 use native.Mathlib.Decide.{decLt}
 use lib.Dec.{eqb}
-use lib.ListN.{getD}
+use lib.ListN.{length, getD}
 use Rattle.ternary.specs.Bit.{bit}
 use Rattle.ternary.specs.BitLaws.{bit-zero}
-use Rattle.script_fields.specs.Fields.{oneIf, binary, valueBit, maskBit, symbolWord, Asks}
-use Rattle.script_fields.specs.FieldsLaws.{one-if-small}
+use Rattle.script_fields.specs.Fields.{oneIf, binary, bitOf, valueBit, maskBit, symbolWord, Asks}
+use Rattle.script_fields.specs.FieldsLaws.{one-if-small, bit-past}
 
 -- the bits of a number with one digit more
 double-low : (b c : ℕ) → c ≤ 1 → bit (b * 2 + c) 0 ≡ c
@@ -52,6 +52,10 @@ unfolding symbolWord
 symbol-bit test field from j h =
     let e : 64 - 1 - (63 - j) ≡ j = omega arith in
     binary-bit (λ (k : ℕ). test (getD field (from + k) 0)) 64 (63 - j) (omega arith) ∙ ap (λ (k : ℕ). oneIf (test (getD field (from + k) 0))) e
+
+-- document 01: the rest of a pattern uncared for, of a key 0: past the field's end every bit of value and mask is 0
+pub rest-zero : (zeros : Bool) (field : List ℕ) (from j : ℕ) → j < 64 → length field ≤ from + j → bit (symbolWord (bitOf zeros) field from) (63 - j) ≡ 0
+rest-zero zeros field from j h past = symbol-bit (bitOf zeros) field from j h ∙ sym (bit-past zeros field (from + j) past)
 
 -- a symbol that is not cared for has no value bit
 uncared : (b : ℕ) → oneIf (maskBit b) ≡ 0 → oneIf (valueBit b) ≡ 0

@@ -14,8 +14,9 @@ use borrow.Author.Tests.{lt-ltb, le-ltb}
 use Rattle.search.specs.SearchLaws.{decided}
 use Rattle.script_text.specs.Parts.{firstPart}
 use Rattle.script_text.specs.PartsLaws.{first-le}
+use Rattle.script_lines.specs.Lines.{nextNumber}
 use Rattle.script_lines.specs.Held.{takenOf, standing}
-use Rattle.script_lines.specs.Blocks.{Reading, Outcome, whole, started, taking, handedOut, turns, blocksRead, finished, outcome}
+use Rattle.script_lines.specs.Blocks.{Reading, Outcome, whole, started, taking, handedOut, turns, blocksRead, finished, outcome, answered}
 use Rattle.script_lines.specs.BlocksLaws.{blocks-as-whole}
 use Rattle.script_printing.specs.Printing.{Shown}
 use Rattle.script_commands.specs.CommandsLaws.{command-short}
@@ -244,3 +245,27 @@ script-printed memory line h blocks bytes kept read turn memory′ out out′ t 
       ap (λ (x : List ℕ). x ++ take (turn .length) out′) (sym (here .1)) ∙ (sym (end .1) ∙ ap (λ (x : Outcome (List ℕ)). x .printed) e),
       end .0 .table ∙ ap (λ (x : Outcome (List ℕ)). x .table) e,
     )
+
+-- one line more, numbers counted on while they are below the top of 64 bits
+line-next : (t : List ℕ) (number : ℕ) (lines : List (List ℕ)) (line : List ℕ) → number + length lines ≤ 18446744073709551615
+    → answered lineOutcome t number (lines ++ line ∷ []) .printed
+    ≡ answered lineOutcome t number lines .printed ++ lineOutcome (answered lineOutcome t number lines .table) (number + length lines) line .printed
+unfolding answered
+line-next t number [] line h =
+    append-nil (lineOutcome t number line .printed) ∙ ap (λ (n : ℕ). lineOutcome t n line .printed) (let e : number ≡ number + 0 = omega arith in e)
+line-next t number (first ∷ lines) line h =
+    let table = lineOutcome t number first .table in
+    let next = answered lineOutcome table (nextNumber number) lines in
+    let same : nextNumber number + length lines ≡ number + length (first ∷ lines) = omega arith in
+    ap (λ (x : List ℕ). lineOutcome t number first .printed ++ x)
+    (line-next table (nextNumber number) lines line (omega arith) ∙ ap (λ (n : ℕ). next .printed ++ lineOutcome (next .table) n line .printed) same)
+    ∙ sym (append-assoc (lineOutcome t number first .printed) (next .printed) (lineOutcome (next .table) (number + length (first ∷ lines)) line .printed))
+
+-- Lines are numbered from 1: a line prints what its number is told, one more than there are lines before it, while that fits 64 bits.
+pub script-numbered : (lines : List (List ℕ)) (line : List ℕ) → length lines < 18446744073709551615
+    → answered lineOutcome [] 1 (lines ++ line ∷ []) .printed
+    ≡ answered lineOutcome [] 1 lines .printed ++ lineOutcome (answered lineOutcome [] 1 lines .table) (length lines + 1) line .printed
+script-numbered lines line h =
+    line-next [] 1 lines line (omega arith)
+    ∙ ap (λ (n : ℕ). answered lineOutcome [] 1 lines .printed ++ lineOutcome (answered lineOutcome [] 1 lines .table) n line .printed)
+    (let e : 1 + length lines ≡ length lines + 1 = omega arith in e)

@@ -11,6 +11,8 @@ use lib.Signed.{leZ}
 use Rattle.script_lines.specs.Blocks.{whole}
 use Rattle.script.specs.Script.{tableIn}
 use Rattle.script_transcripts.specs.Whole.{Kept, Called, Through, Read, scriptOutcome}
+use Rattle.tcam_script.specs.Checksum.{checksumOn, checksumOf}
+use Rattle.tcam_script.specs.declared.console.Got.{Got}
 use Rattle.tcam_script.specs.declared.console.Sent.{Sent}
 use Rattle.tcam_script.specs.declared.Went.{Went}
 
@@ -18,10 +20,24 @@ use Rattle.tcam_script.specs.declared.Went.{Went}
 abbrev pub capped : ℕ → ℕ
 capped n = min n 18446744073709551615
 
--- Calls on a block, and as many bytes more handed to the output as their answers have: to the block's end where all were written.
+-- nothing handed to the output yet
+abbrev pub unsent : Sent
+unsent = record { bytes = 0; checksum = checksumOf []; well = true }
+
+-- what was handed to the output after a point: as many bytes more, and with their checksum
+pub record HandedOver (before : Sent) (bytes : List ℕ) (sent : Sent) : Type 0 where
+  pub count : sent .bytes ≡ capped (before .bytes + length bytes)
+  pub checksum : sent .checksum ≡ checksumOn (before .checksum) bytes
+
+-- what all reads came to: a block for each, and the checksum of their bytes
+pub record Received (blocks : List (List ℕ)) (got : Got) : Type 0 where
+  pub reads : got .reads ≡ length blocks
+  pub checksum : got .checksum ≡ checksumOf (whole blocks)
+
+-- Calls on a block, and their answers handed to the output: to the block's end where all were written.
 pub record TookBlock (block : List ℕ) (start : Kept) (before : Sent) (sent : Sent) (end : Kept) : Type 0 where
-  pub through : sent .well ≡ true → (bytes : List ℕ) × (sent .bytes ≡ capped (before .bytes + length bytes)) × Through block start bytes end
-  pub stopped : sent .well ≡ false → (bytes : List ℕ) × (sent .bytes ≡ capped (before .bytes + length bytes)) × (from : ℕ) × Called block start bytes end from
+  pub through : sent .well ≡ true → (bytes : List ℕ) × HandedOver before bytes sent × Through block start bytes end
+  pub stopped : sent .well ≡ false → (bytes : List ℕ) × HandedOver before bytes sent × (from : ℕ) × Called block start bytes end from
 
 -- by what the read answered: less than 0 for a failure, after which no line is run, else so many bytes at the buffer's start
 unfoldable pub TookRead : ℤ → List ℕ → Kept → Sent → Went → Kept → Type 0
@@ -40,26 +56,27 @@ Stopped blocks went =
     ((before : List (List ℕ)) × (blocks ≡ before ++ [] ∷ []) × (went .got .number ≡ pos 0)) ⊎ (length blocks ≡ 18446744073709551615)
 
 -- What is left after the whole script, the last answer at the output's start: the blocks read, one for each read, all answers before the last,
--- and where the program then stood. As many bytes were handed to the output as the input prints, and all of them were written.
+-- and where the program then stood. The bytes of all reads have the checksum of these blocks, the bytes handed to the output that of what the
+-- input prints, and their number; and all of them were written.
 pub record Ended (start : Kept) (went : Went) (memory′ out′ : List ℕ) : Type 0 where
   pub blocks : List (List ℕ)
   pub answers : List ℕ
   pub before : Kept
   pub stopped : Stopped blocks went
-  pub reads : went .got .reads ≡ length blocks
+  pub received : Received blocks (went .got)
   pub read : Read start blocks answers before
   pub last : ℕ
   pub printed : answers ++ take last out′ ≡ scriptOutcome (whole blocks) .printed
   pub table : tableIn memory′ (went .place .slots) ≡ scriptOutcome (whole blocks) .table
-  pub handed : went .sent .bytes ≡ capped (length (scriptOutcome (whole blocks) .printed))
+  pub handed : HandedOver unsent (scriptOutcome (whole blocks) .printed) (went .sent)
   pub written : went .sent .well ≡ true
 
--- the blocks read one after the other, one for each read, and as many bytes handed to the output as their answers have
+-- the blocks read one after the other, one for each read, and their answers handed to the output
 pub record ReadAll (start : Kept) (went : Went) (end : Kept) : Type 0 where
   pub failed : went .well ≡ false → Failed went
   pub read : went .well ≡ true
-      → (blocks : List (List ℕ)) × (bytes : List ℕ) × Stopped blocks went × (went .got .reads ≡ length blocks)
-      × (went .sent .bytes ≡ capped (length bytes)) × Read start blocks bytes end
+      → (blocks : List (List ℕ)) × (bytes : List ℕ) × Stopped blocks went × Received blocks (went .got) × HandedOver unsent bytes (went .sent)
+      × Read start blocks bytes end
 
 pub record RanAll (start : Kept) (went : Went) (memory′ out′ : List ℕ) : Type 0 where
   pub failed : went .well ≡ false → Failed went

@@ -4,6 +4,7 @@ ghost use mathlib.Core.Path.{_≡_};
 ghost use Prim.Native.Nat.{_+_};
 ghost use lib.ListN.{replicate};
 ghost use Rattle.script_transcripts.specs.Whole.{keeping, opening};
+ghost use Rattle.tcam_script.specs.Checksum.{checksumOn, blockOf};
 ghost use Rattle.tcam_script.specs.Reads.{capped, TookBlock, TookRead, ReadAll, RanAll};
 
 mod console;
@@ -104,7 +105,9 @@ fn read_block(
     buffer: &mut [u8; 4096],
     out: &mut [u8; 14343],
 ) -> Went
-    ensures { λ r. ⌜ (r .got .reads ≡ capped (before .got .reads + 1)) × TookRead (r .got .number) (now (buffer .exit)) (keeping (now (memory .entry)) (now (line .entry)) (before .place)) (before .sent) r (keeping (now (memory .exit)) (now (line .exit)) (r .place)) ⌝ }
+    ensures { λ r. ⌜ r .got .reads ≡ capped (before .got .reads + 1) ⌝ }
+    ensures { λ r. ⌜ r .got .checksum ≡ checksumOn (before .got .checksum) (blockOf (r .got .number) (now (buffer .exit))) ⌝ }
+    ensures { λ r. ⌜ TookRead (r .got .number) (now (buffer .exit)) (keeping (now (memory .entry)) (now (line .entry)) (before .place)) (before .sent) r (keeping (now (memory .exit)) (now (line .exit)) (r .place)) ⌝ }
 {
     let place = before.place;
     let sent = before.sent;

@@ -8,7 +8,9 @@ use native.Mathlib.Omega.{arith}
 use borrow.Author.Tests.{ltb-true, ltb-false}
 use borrow.Author.Needs.{needs}
 use denote.Ref.{now}
+use Rattle.script_lines.specs.Blocks.{whole}
 use Rattle.script_transcripts.specs.Whole.{Read, keeping, opening}
+use Rattle.tcam_script.specs.Checksum.{checksumOn}
 use Rattle.tcam_script.specs.ReadsLaws.{ReadSome, block-read, reading-ends}
 use Rattle.tcam_script.proofs.read_blocks.Statement.{statement}
 use Rattle.tcam_script.proofs.read_blocks.Tie as tie
@@ -27,10 +29,19 @@ nothing-got-requires : tie.Need-nothing-got-requires Inv-loop μ-loop
 nothing-got-requires c κs = search needs
 
 loop-holds : tie.Need-loop-holds Inv-loop μ-loop
+unfolding checksumOn whole
 loop-holds c = record {
   goes = λ m. refl;
   failed = λ f. absurd (true≢false f);
-  read = λ w. ([], [], λ f. absurd (true≢false f), omega arith, c .nothing-got .ensures, (let none = c .before .nothing-sent .ensures .0 in omega (arith, none)), Read.nothing);
+  read = λ w. (
+    [],
+    [],
+    λ f. absurd (true≢false f),
+    omega arith,
+    record { reads = c .nothing-got .ensures .0; checksum = c .nothing-got .ensures .1 },
+    record { count = let none = c .before .nothing-sent .ensures .0 in omega (arith, none); checksum = c .before .nothing-sent .ensures .1 },
+    Read.nothing,
+  );
 }
 
 sub-turns : tie.Need-sub-turns Inv-loop μ-loop
@@ -49,7 +60,7 @@ loop-again c =
     let some = ltb-true 0 (b .turns) (c .before .before .before .before .before .if1 .taken) in
     let t = c .read-block in
     block-read (opening (now (a .memory)) (now (a .line))) (b .turns) (b .went) (b .memory) (b .line) (b .inv) (c .before .before .before .before .before .before .loop-test .taken) some
-    (t .last .1 .1 .1 .0) (t .result) (keeping (t .last .0) (t .last .1 .0) (t .result .place)) (t .ensures .0) (t .ensures .1)
+    (t .last .1 .1 .1 .0) (t .result) (keeping (t .last .0) (t .last .1 .0) (t .result .place)) (t .ensures .0) (t .ensures .1 .0) (t .ensures .1 .1)
 
 returns : tie.Need-returns Inv-loop μ-loop
 returns c =

@@ -19,7 +19,7 @@ last-turn-requires : tie.Need-last-turn-requires
 last-turn-requires c κs = search needs
 
 send-requires : tie.Need-send-requires
-send-requires c κs = shown-within (c .before .before .last-turn .ensures .shown)
+send-requires c κs = search (needs, shown-within (c .before .before .last-turn .ensures .shown))
 
 sent-well-requires : tie.Need-sent-well-requires
 sent-well-requires c κs = search needs
@@ -32,7 +32,7 @@ returns c =
     let t = c .before .before .before .before .before .before .last-turn in
     let s = c .before .before .before .send in
     all-ran (now (a .memory)) (replicate 257 0) (length-replicate {A = ℕ} 257 0) (keeping (b .last .0) (b .last .1 .0) (b .result .place)) (b .result) (b .ensures) w
-    (t .result) (t .last .0) _ (t .last .1 .1 .1 .0) (t .ensures) (s .result) (s .ensures .0) (c .sent-well .result) (c .sent-well .ensures)
+    (t .result) (t .last .0) _ (t .last .1 .1 .1 .0) (t .ensures) (s .result) (s .ensures .0 .0) (s .ensures .1) (c .sent-well .result) (c .sent-well .ensures)
 
 returns-2 : tie.Need-returns-2
 returns-2 c = record {

@@ -10,13 +10,14 @@ use borrow.Author.Tests.{ltb-true, ltb-false}
 use borrow.Author.Needs.{needs}
 use Rattle.script_transcripts.specs.Whole.{keeping, Called}
 use Rattle.script_transcripts.specs.WholeLaws.{next-within, shown-within}
-use Rattle.tcam_script.specs.Reads.{capped}
+use Rattle.tcam_script.specs.Reads.{HandedOver}
+use Rattle.tcam_script.specs.ReadsLaws.{nothing-more, handed-on, answer-handed}
 use Rattle.tcam_script.proofs.run_block.Statement.{statement}
 use Rattle.tcam_script.proofs.run_block.Tie as tie
 
 abbrev Inv-loop : tie.InvT-loop
 Inv-loop memory₀ line₀ block out₀ place₀ sent₀ from₀ well₀ memory line out place sent from well =
-    (well ≡ sent .well) × (bytes : List ℕ) × (sent .bytes ≡ capped (sent₀ .bytes + length bytes))
+    (well ≡ sent .well) × (bytes : List ℕ) × HandedOver sent₀ bytes sent
     × Called block (keeping memory₀ line₀ place₀) bytes (keeping memory line place) from
 
 abbrev μ-loop : tie.MeasureT-loop
@@ -26,13 +27,13 @@ sent-well-requires : tie.Need-sent-well-requires Inv-loop μ-loop
 sent-well-requires c κs = search needs
 
 loop-holds : tie.Need-loop-holds Inv-loop μ-loop
-loop-holds c = (c .sent-well .ensures, [], omega arith, Called.begin)
+loop-holds c = (c .sent-well .ensures, [], nothing-more (c .before .before .args .before) (omega arith), Called.begin)
 
 take-turn-requires : tie.Need-take-turn-requires Inv-loop μ-loop
 take-turn-requires c κs = search needs
 
 send-requires : tie.Need-send-requires Inv-loop μ-loop
-send-requires c κs = shown-within (c .before .before .take-turn .ensures .shown)
+send-requires c κs = search (needs, shown-within (c .before .before .take-turn .ensures .shown))
 
 sent-well-requires-2 : tie.Need-sent-well-requires-2 Inv-loop μ-loop
 sent-well-requires-2 c κs = search needs
@@ -54,14 +55,10 @@ loop-again c =
     let t = c .before .before .before .before .before .take-turn in
     let h = ltb-true (b .from) (length (a .block .now)) (c .before .before .before .before .before .before .before .before .before .if1 .taken) in
     let out = t .last .1 .1 .1 .1 .1 .0 in
-    let sum = length-append (b .inv .1) (take (t .result .length) out) in
-    let part = length-take (t .result .length) out in
-    let within = shown-within (t .ensures .shown) in
-    let before = b .inv .2 in
-    let sent = c .before .before .send .ensures .0 in (
+    let sent = c .before .before .send in (
       c .before .sent-well2 .ensures,
       b .inv .1 ++ take (t .result .length) out,
-      omega (arith, sum, part, within, before, sent),
+      handed-on (b .inv .2) (answer-handed (t .ensures .shown) (b .sent) (sent .result) (sent .ensures .0 .0) (sent .ensures .1)),
       Called.turned (b .inv .1) (keeping (b .memory) (b .line) (b .place)) (b .from) (b .inv .3) h (t .result) (t .last .0) (t .last .1 .0) (b .out) out (t .ensures),
     )
 

@@ -16,8 +16,11 @@ write-all-requires c κs = search needs
 counted-requires : tie.Need-counted-requires
 counted-requires c κs = search needs
 
+checksum-on-requires : tie.Need-checksum-on-requires
+checksum-on-requires c κs = search needs
+
 returns : tie.Need-returns
-returns c = (c .before .counted .ensures, λ f. absurd (true≢false (sym (c .if1 .taken) ∙ f)))
+returns c = ((c .before .before .counted .ensures, λ f. absurd (true≢false (sym (c .if1 .taken) ∙ f))), c .before .checksum-on .ensures)
 
 returns-2 : tie.Need-returns-2
 returns-2 c = search needs
@@ -25,4 +28,4 @@ returns-2 c = search needs
 pub send-spec : {M : Type 1} → statement M
 send-spec =
     tie.close
-    (tie.spec slice-aggregate-write-all write-all-requires counted-requires returns returns-2)
+    (tie.spec slice-aggregate-write-all write-all-requires counted-requires checksum-on-requires returns returns-2)

@@ -1,38 +1,47 @@
--- End theorems: every accepted I and every accepted D prints its plan whole, and changes the table by the writes printed.
-use mathlib.Core.Path.{_≡_, refl, sym, ap, ap₂, _∙_, subst, subst₂}
-use mathlib.Core.Bool.{Bool}
+-- End theorems on what each line prints, on every table: an accepted I and an accepted D their whole plan, and they change the table by the writes
+-- printed; a T by check 1 of the table that it asks for; an L by its lookup.
+use mathlib.Core.Path.{_≡_, refl, sym, ap, ap₂, _∙_, subst}
+use mathlib.Core.Bool.{Bool, true, false, cond, _&&_}
 use mathlib.Core.Logic.{⊎-elim}
 use mathlib.Core.List.{List, [], _∷_, _++_, map, append-assoc}
-use Prim.Native.Nat.{ℕ, suc, _≤_, _<_}
+use Prim.Native.Nat.{ℕ, suc, _*_, _/_, _%_}
 use native.Mathlib.Omega.{arith}
-use lib.ListN.{length, length-map, length-append}
+use lib.Dec.{leb}
+use lib.ListN.{length, length-map, length-append, length-replicate}
 use Rattle.layout.specs.Write.{Write, copy, put, clear}
 use Rattle.layout.specs.Class.{Sequence}
-use Rattle.plan_words.specs.PlanWords.{writeOf, writeWord, emptying}
+use Rattle.plan_words.specs.PlanWords.{writeOf}
 use Rattle.plan_words.specs.PlanWordsLaws.{write-of-word}
-use Rattle.records.specs.Order.{slots}
+use Rattle.records.specs.Record.{word, putSlot}
+use Rattle.records.specs.Checks.{shaped, checkShape}
+use Rattle.records.specs.Entries.{vacant}
 use Rattle.records.specs.Writes.{applyWords}
 use Rattle.records.specs.Laws.{slot-checks-law, table-checks-law}
 use Rattle.records.specs.EntriesLaws.{shaped-slots}
-use Rattle.records.specs.declared.Rule.{Rule}
-use Rattle.records.specs.declared.Check.the-variants.{Pass}
+use Rattle.records.specs.declared.Cause.the-variants.{Shape}
+use Rattle.records.specs.declared.Check.the-variants.{Pass, Fail}
+use Rattle.lookups.specs.Lookup.{lookupAnswer, hitAt, Case, refusedBy, hit, miss}
+use Rattle.lookups.specs.LookupLaws.{lookup-cases, lookup-hit, lookup-miss, lookup-refused}
 use Rattle.neighbours.specs.Neighbours.{insertChecks}
-use Rattle.delete_plans.specs.Deletes.{deleteChecks, deleteWords, slotOfId}
+use Rattle.delete_plans.specs.Deletes.{deleteChecks, deleteWords, hasId, slotOfId}
 use Rattle.delete_plans.specs.DeletesLaws.{delete-planned}
 use Rattle.insert_plans.specs.Inserts.{insertWords}
 use Rattle.insert_plans.specs.InsertableLaws.{insertable-law}
 use Rattle.insert_plans.specs.Demand3Laws.{shortest-words}
-use Rattle.script_text.specs.Decimal.{digitsOf}
-use Rattle.script_commands.specs.Commands.{commandOf, insertedRule}
+use Rattle.histories.specs.Histories.{emptyTable}
+use Rattle.script_lines.specs.Blocks.{Outcome}
+use Rattle.script_commands.specs.Commands.{commandOf, insertedRule, keyOf}
+use Rattle.script_commands.specs.declared.NewTable.{NewTable}
 use Rattle.script_commands.specs.declared.Insertion.{Insertion}
 use Rattle.script_commands.specs.declared.Deletion.{Deletion}
-use Rattle.script_commands.specs.declared.Command.{Command}
-use Rattle.script_commands.specs.declared.Command.the-variants.{Insert, Delete}
-use Rattle.script_answers.specs.Answers.{printedWrite, printedWrites, planBytes}
-use Rattle.script_operations.specs.Outcomes.{insertOutcome, deleteOutcome, noRule}
-use Rattle.script.specs.Script.{commandOutcome, lineOutcome}
+use Rattle.script_commands.specs.declared.Query.{Query}
+use Rattle.script_commands.specs.declared.Command.the-variants.{Table, Insert, Delete, Lookup}
+use Rattle.script_answers.specs.Answers.{tableBytes, printedWrite, printedWrites, planBytes}
+use Rattle.script_operations.specs.Outcomes.{outcomeOf, refused, lookupBytes, insertOutcome, deleteOutcome, noRule}
+use Rattle.script_operations.specs.OutcomesLaws.{bytes-refused}
+use Rattle.script.specs.Script.{tableOutcome, lineOutcome}
 use Rattle.script_transcripts.specs.ChangesLaws.{Small, line-small}
-use Rattle.script_transcripts.specs.Plans.{ended, Copied, copyOf, countLine, copyLine, putInLine, emptyingLine, InsertPrinted}
+use Rattle.script_transcripts.specs.LinesPrinted.{ended, Copied, copyOf, countLine, copyLine, putInLine, emptyingLine, InsertPrinted, unlessRefused, LookupPrinted}
 
 -- a write's line, without its newline
 abbrev writeLine : Write → List ℕ
@@ -94,14 +103,51 @@ insert-printed t number line insertion e pass =
     let parted = ⊎-elim sequence-parted sequence-parted class in
     rw (e, pass) (parted-printed (insertWords 2 t rule) parted, refl)
 
--- An accepted D line prints `P 1` and `E slot`, the slot being that of the rule deleted, and empties it.
+-- An accepted D line prints `P 1` and `E slot`, the slot of the rule to delete, and empties that slot.
 pub delete-printed : (t : List ℕ) (number : ℕ) (line : List ℕ) (deletion : Deletion) → commandOf line ≡ Delete deletion → deleteChecks 2 t (deletion .id) ≡ Pass
-    → (lineOutcome t number line .printed ≡ ended (countLine 1 ∷ emptyingLine (slotOfId 2 t (deletion .id)) ∷ []))
-    × (lineOutcome t number line .table ≡ applyWords 2 t noRule (deleteWords 2 t (deletion .id)))
+    → (slot : ℕ) × (hasId 2 t (deletion .id) slot ≡ true) × (lineOutcome t number line .printed ≡ ended (countLine 1 ∷ emptyingLine slot ∷ []))
+    × (lineOutcome t number line .table ≡ putSlot 2 t slot (vacant 2))
 unfolding deleteOutcome
 delete-printed t number line deletion e pass =
     let planned = delete-planned 2 t (deletion .id) pass in
     let shape = shaped-slots 2 t (slot-checks-law 2 t .0 (table-checks-law 2 t .0 (planned .table) .0) .0) in
     let slot = slotOfId 2 t (deletion .id) in
     let back = write-of-word (clear slot) (omega (arith, planned .exists, shape .1)) in
-    rw (e, pass) (plan-lines (deleteWords 2 t (deletion .id)) ∙ ap (λ (x : Write). ended (countLine 1 ∷ writeLine x ∷ [])) back, refl)
+    let lines = plan-lines (deleteWords 2 t (deletion .id)) ∙ ap (λ (x : Write). ended (countLine 1 ∷ writeLine x ∷ [])) back in
+    rw (e, pass) (slot, planned .holds, lines, planned .after noRule)
+
+-- document 01, 1 SHAPE: a T makes a table exactly where the empty table of so many slots passes check 1
+good-shape : (slots : ℕ) → leb 1 slots && leb slots 1024 ≡ shaped 2 (emptyTable 2 slots)
+unfolding shaped
+good-shape slots =
+    let size : length (emptyTable 2 slots) ≡ slots * 6 = length-replicate (slots * 6) 0 in
+    let whole : length (emptyTable 2 slots) % 6 ≡ 0 = omega (arith, size) in
+    let count : length (emptyTable 2 slots) / 6 ≡ slots = omega (arith, size) in
+    rw (whole, count)
+
+-- A T line makes the empty table and prints `N slots` where that table passes check 1; else it is refused as the check says.
+pub table-printed : (t : List ℕ) (number : ℕ) (line : List ℕ) (new : NewTable) → commandOf line ≡ Table new
+    → lineOutcome t number line ≡ unlessRefused t (checkShape 2 (emptyTable 2 (new .slots))) (outcomeOf (emptyTable 2 (new .slots)) (tableBytes (new .slots)))
+unfolding tableOutcome checkShape
+table-printed t number line new e = rw (e, good-shape (new .slots)) (by (shaped 2 (emptyTable 2 (new .slots))))
+  where
+    made : Outcome (List ℕ)
+    made = outcomeOf (emptyTable 2 (new .slots)) (tableBytes (new .slots))
+
+    by : (b : Bool) → cond b made (refused t 1 0) ≡ unlessRefused t (cond b Pass (Fail Shape 0)) made
+    by true = refl
+    by false = refl
+
+-- An L line keeps the table and prints, on every table: the refusal of checks 1 and 2; the first slot that matches, its id and action; or a miss.
+pub lookup-printed : (t : List ℕ) (number : ℕ) (line : List ℕ) (query : Query) → commandOf line ≡ Lookup query
+    → (lineOutcome t number line .table ≡ t) × LookupPrinted t (word (keyOf query)) (lineOutcome t number line .printed)
+unfolding hitAt
+lookup-printed t number line query e = rw e (refl, by (lookup-cases 2 t (word (keyOf query))))
+  where
+    by : Case 2 t (word (keyOf query)) → LookupPrinted t (word (keyOf query)) (lookupBytes (lookupAnswer 2 t (word (keyOf query))))
+    by (refusedBy cause spot f) =
+        subst (LookupPrinted t (word (keyOf query))) (bytes-refused cause spot ∙ ap lookupBytes (sym (lookup-refused 2 t (word (keyOf query)) cause spot f)))
+        (LookupPrinted.declined cause spot f)
+    by (hit i f g) =
+        subst (LookupPrinted t (word (keyOf query))) (ap lookupBytes (sym (lookup-hit 2 t (word (keyOf query)) i f g))) (LookupPrinted.found i f g)
+    by (miss f g) = subst (LookupPrinted t (word (keyOf query))) (ap lookupBytes (sym (lookup-miss 2 t (word (keyOf query)) f g))) (LookupPrinted.missed f g)
