@@ -1,7 +1,7 @@
--- End theorems on the checks of an insert: they pass exactly when it is insertable, and what each of 6 and 8 to 10 says when it fails.
+-- End theorems on the checks of an insert: they pass exactly when it is insertable, and what 10 says when it fails.
 -- And in a table in order the rules that may not stand before a rule, of those after it, are the rules that depend on it.
 use mathlib.Core.Path.{_≡_, refl, sym, ap, _∙_, fun-ext, subst}
-use mathlib.Core.Bool.{true, false, true≢false}
+use mathlib.Core.Bool.{true, true≢false}
 use mathlib.Core.Logic.{_↔_}
 use mathlib.Core.List.{List}
 use Prim.Native.Nat.{ℕ, suc, _+_, _-_, _≤_, _<_}
@@ -16,14 +16,14 @@ use Rattle.ternary.specs.Pattern.{Words}
 use Rattle.records.specs.Record.{word, recordWords, slotWords, empty, soundRule, recordOf}
 use Rattle.records.specs.Order.{slots, sameId, tied, precedes, misordered}
 use Rattle.records.specs.Checks.{orElse, tableChecks, checkOrder}
-use Rattle.records.specs.Laws.{or-else-pass, lowest-pass, lowest-fail, pass-law, cond-pass, precedes-law, tied-law, order-law}
+use Rattle.records.specs.Laws.{or-else-pass, lowest-pass, pass-law, cond-pass, precedes-law, tied-law, order-law}
 use Rattle.records.specs.declared.Rule.{Rule}
 use Rattle.records.specs.declared.Cause.the-variants.{Rule as RuleCause, Known, Tie, Full, Crossed}
 use Rattle.records.specs.declared.Check.the-variants.{Pass, Fail}
 use Rattle.records.specs.EntriesLaws.{refuted}
 use Rattle.records.specs.InsertsLaws.{precedes-untied}
 use Rattle.neighbours.specs.Neighbours.{checkRule, checkKnown, checkTie, checkFull, checkCrossed, afterA, slotB, newChecks, ruleWords, insertChecks}
-use Rattle.neighbours.specs.NeighboursLaws.{room-at, room-none, crossed-yes, crossed-no}
+use Rattle.neighbours.specs.NeighboursLaws.{room-at, crossed-yes, crossed-no}
 use Rattle.insert_plans.specs.Insertable.{CrossedAt, Insertable, Uncrossed}
 
 -- a rule as a table of one slot has its record's words
@@ -136,32 +136,6 @@ dependant-after w t order i y l h =
     let o = s .0 in
     let higher = order-law w t .0 order i y l h (o .0) (o .1) (o .2) (o .3) in
     omega (arith, s .1))))
-
--- document 01, check 6: the id is present, in the slot named, which is the lowest such
-pub known-fail : (w : ℕ) (t : List ℕ) (new : Words) (spot : ℕ)
-    → (checkKnown w t new ≡ Fail Known spot)
-    ↔ ((spot < slots w t) × (sameId w (slotWords w t spot) new ≡ true) × ((i : ℕ) → i < spot → sameId w (slotWords w t i) new ≡ false))
-unfolding checkKnown
-known-fail w t new spot = lowest-fail Known (λ (i : ℕ). sameId w (slotWords w t i) new) (slots w t) spot
-
--- document 01, check 8: overlap at equal priority, the lowest such slot
-pub tie-fail : (w : ℕ) (t : List ℕ) (new : Words) (spot : ℕ)
-    → (checkTie w t new ≡ Fail Tie spot)
-    ↔ ((spot < slots w t) × (tied w (slotWords w t spot) new ≡ true) × ((i : ℕ) → i < spot → tied w (slotWords w t i) new ≡ false))
-unfolding checkTie
-tie-fail w t new spot = lowest-fail Tie (λ (i : ℕ). tied w (slotWords w t i) new) (slots w t) spot
-
--- document 01, check 9: no slot is empty; its spot is 0
-pub full-fail : (w : ℕ) (t : List ℕ) (spot : ℕ)
-    → (checkFull w t ≡ Fail Full spot) ↔ ((spot ≡ 0) × ((i : ℕ) → i < slots w t → empty w (slotWords w t i) ≡ false))
-full-fail w t spot = (
-  λ e. let none : (i : ℕ) → i < slots w t → empty w (slotWords w t i) ≡ false =
-      λ i h. refuted (λ f. true≢false (cond-pass Full spot true (sym e ∙ sym (room-at w t i h f)))) in
-      let f : Fail Full 0 ≡ Fail Full spot = room-none w t none ∙ e in
-      let at : 0 ≡ spot = cc in
-      (sym at, none),
-  λ p. sym (room-none w t (p .1)) ∙ ap (Fail Full) (sym (p .0)),
-)
 
 -- document 01, check 10: A > B, spot A
 pub crossed-fail : (w : ℕ) (t : List ℕ) (new : Words) (a : ℕ) → (checkCrossed w t new ≡ Fail Crossed a) ↔ CrossedAt w t new a

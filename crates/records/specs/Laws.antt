@@ -275,13 +275,6 @@ id-word w t i e h = pick (records-law w t .0 e i h)
         let not-zero : word-test (2 * w) ≡ false = ne-eqb (x (2 * w)) 0 (λ z. eqb-false (ident w x) 0 (not-true (eqb (ident w x) 0) id) (ap (λ (y : ℕ). y / 4294967296) z)) in
         not-zero ∙ sym (all-not word-test (recordWords w) (2 * w) (omega arith) not-zero)
 
--- and it names the lowest slot that is neither
-pub records-fail : (w : ℕ) (t : List ℕ) (spot : ℕ)
-    → (checkRecords w t ≡ Fail Record spot)
-    ↔ ((spot < slots w t) × (unsoundAt w t spot ≡ true) × ((i : ℕ) → i < spot → unsoundAt w t i ≡ false))
-unfolding checkRecords
-records-fail w t spot = lowest-fail Record (unsoundAt w t) (slots w t) spot
-
 -- a check of each slot against the earlier ones passes exactly when no two slots fail the test
 earlier-law : (cause : Cause) (p : ℕ → ℕ → Bool) (n : ℕ)
     → (lowest cause (λ (j : ℕ). any (λ (i : ℕ). p i j) j) n ≡ Pass) ↔ ((x y : ℕ) → x < y → y < n → p x y ≡ false)
@@ -294,12 +287,6 @@ pub twice-law : (w : ℕ) (t : List ℕ)
     → (checkTwice w t ≡ Pass) ↔ ((x y : ℕ) → x < y → y < slots w t → sameId w (slotWords w t x) (slotWords w t y) ≡ false)
 unfolding checkTwice twiceAt
 twice-law w t = earlier-law Twice (λ (x y : ℕ). sameId w (slotWords w t x) (slotWords w t y)) (slots w t)
-
-pub twice-fail : (w : ℕ) (t : List ℕ) (spot : ℕ)
-    → (checkTwice w t ≡ Fail Twice spot)
-    ↔ ((spot < slots w t) × (twiceAt w t spot ≡ true) × ((i : ℕ) → i < spot → twiceAt w t i ≡ false))
-unfolding checkTwice
-twice-fail w t spot = lowest-fail Twice (twiceAt w t) (slots w t) spot
 
 -- one id in two slots: both occupied, the ids equal
 pub same-id-law : (w : ℕ) (a b : Words) → (sameId w a b ≡ true) ↔ ((occupied w a ≡ true) × (occupied w b ≡ true) × (ident w a ≡ ident w b))
@@ -372,12 +359,6 @@ order-law w t =
       λ e x y h k. ordered-law w (slotWords w t x) (slotWords w t y) .0 (l .0 e x y h k),
       λ f. l .1 (λ x y h k. ordered-law w (slotWords w t x) (slotWords w t y) .1 (f x y h k)),
     )
-
-pub order-fail : (w : ℕ) (t : List ℕ) (spot : ℕ)
-    → (checkOrder w t ≡ Fail Order spot)
-    ↔ ((spot < slots w t) × (disorderAt w t spot ≡ true) × ((i : ℕ) → i < spot → disorderAt w t i ≡ false))
-unfolding checkOrder
-order-fail w t spot = lowest-fail Order (disorderAt w t) (slots w t) spot
 
 -- of two rules one precedes the other exactly when the one order of them is out of order and the other is not
 pub precedes-misordered : (w : ℕ) (a b : Words) → precedes w a b ≡ true → (misordered w b a ≡ true) × (misordered w a b ≡ false)
