@@ -1,4 +1,4 @@
--- Laws on lines: the first line, and the lines of the rest.
+-- End theorems on lines: the first line, and the lines of the rest.
 use mathlib.Core.Path.{_≡_, sym, ap, _∙_}
 use mathlib.Core.Bool.{cond}
 use mathlib.Core.List.{List, [], _∷_}
