@@ -2,9 +2,12 @@
 -- That no call indexes outside its buffers, wraps a sum or runs on is what the checker proves of every function.
 use mathlib.Core.Path.{_≡_}
 use mathlib.Core.Logic.{_↔_, _⊎_}
-use mathlib.Core.List.{List}
-use Prim.Native.Nat.{ℕ, _%_, _/_}
-use lib.ListN.{length}
+use mathlib.Core.List.{List, [], _∷_}
+use Prim.Native.Nat.{ℕ, _+_, _%_, _/_}
+use lib.ListN.{length, getD}
+use Rattle.records.specs.Writes.{applyWord}
+use Rattle.script_printing.specs.Printing.{Shown}
+use Rattle.script_printing.specs.PrintedLines.{printed}
 use Rattle.records.specs.Checks.{causeNumber}
 use Rattle.records.specs.declared.Rule.{Rule}
 use Rattle.records.specs.declared.Cause.{Cause}
@@ -64,9 +67,12 @@ pub record FirstDemand : Type 0 where
   pub carry : (t plan : List ℕ) (rule : Rule) (progress : Progress) (result : ℕ) (after : List ℕ) (progress′ : Progress)
       → CarryLeft t plan rule progress result after progress′ → CarriesBy (stepRows 2 t plan rule (progress .done) (progress .total)) progress result
       × ((result ≡ wroteResult → ⊥) → (after ≡ t) × (progress′ .done ≡ progress .done) × (progress′ .total ≡ progress .total))
+      × (result ≡ wroteResult → (after ≡ applyWord 2 t rule (getD plan (progress .done) 0)) × (progress′ .done ≡ progress .done + 1) × (progress′ .total ≡ progress .total))
   -- a script line, on the table that the memory holds: a refused one leaves the memory
   pub line : (memory memory′ : List ℕ) (slots number : ℕ) (line out out′ : List ℕ) (ran : Ran)
       → Left (lineOutcome (tableIn memory slots) number line) ran memory memory′ out out′
       → lineTold (ran .answer) ≡ commandTold (tableIn memory slots) number (commandOf line)
       → ((cause : Cause) (place : ℕ) → (ran .answer ≡ Refused cause place) ↔ Declines (lineRows (tableIn memory slots) number line) cause place)
-      × ((cause : Cause) (place : ℕ) → ran .answer ≡ Refused cause place → memory′ ≡ memory)
+      × ((cause : Cause) (place : ℕ) → ran .answer ≡ Refused cause place
+      → (memory′ ≡ memory) × (tableIn memory′ (ran .slots) ≡ tableIn memory slots)
+      × Shown out (printed 82 (causeNumber cause ∷ place ∷ [])) (ran .length) out′)

@@ -35,12 +35,16 @@ use Rattle.marshalling.specs.Carried.{carryResult}
 use Rattle.marshalling.specs.CarriedLaws.{carry-refused, cause-small, cause-some}
 use Rattle.script_operations.specs.declared.LineAnswer.{LineAnswer}
 use Rattle.script_operations.specs.declared.LineAnswer.the-variants.{Made, Planned, Found as LineFound, Miss, Refused}
-use Rattle.script_operations.specs.Told.{LineTold, lettered, lineTold, changeTold, insertTold, deleteTold}
+use Rattle.script_operations.specs.Told.{LineTold, lettered, lineTold, changeTold, insertTold, deleteTold, lookedTold}
 use Rattle.script_commands.specs.declared.Command.{Command}
 use Rattle.script_commands.specs.declared.Command.the-variants.{Table, Insert, Delete, Lookup, Malformed}
-use Rattle.script_commands.specs.Commands.{insertedRule, commandOf}
-use Rattle.script_answers.specs.Answers.{tableBytes}
-use Rattle.script_operations.specs.Outcomes.{outcomeOf, refused, changeOutcome, insertOutcome, deleteOutcome}
+use Rattle.script_commands.specs.Commands.{insertedRule, keyOf, commandOf}
+use Rattle.script_answers.specs.Answers.{tableBytes, missBytes, refusalBytes}
+use Rattle.script_lines.specs.Blocks.{Outcome}
+use Rattle.script_printing.specs.Printing.{Shown}
+use Rattle.script_printing.specs.PrintedLines.{printed}
+use Rattle.records.specs.Writes.{applyWord}
+use Rattle.script_operations.specs.Outcomes.{outcomeOf, refused, lookupBytes, changeOutcome, insertOutcome, deleteOutcome}
 use Rattle.script.specs.Script.{tableIn, tableOutcome, commandOutcome}
 use Rattle.script.specs.Told.{tableTold, commandTold}
 use Rattle.refusals.specs.Rows.{Row, AnsweredBy}
@@ -231,22 +235,40 @@ refused-line Miss cause place e = absurd (no-refusal _ cause place e)
 refused-line (Refused c s) cause place e =
     ap₂ Refused (cause-number-once c cause (ap (λ (t : Told). t .number) e)) (ap (λ (t : Told). getD (t .values) 0 0) e)
 
-change-kept : (t : List ℕ) (checks : Check) (words after : List ℕ) → changeTold checks words .letter ≡ 82 → changeOutcome t checks words after .table ≡ t
-change-kept t Pass words after e = absurd (omega (arith, e))
-change-kept t (Fail cause spot) words after e = refl
+-- a line that is refused keeps the table and prints its number and spot
+toldBytes : Told → List ℕ
+toldBytes told = refusalBytes (told .number) (getD (told .values) 0 0)
 
-line-kept : (t : List ℕ) (number : ℕ) (command : Command) → commandTold t number command .letter ≡ 82 → commandOutcome t number command .table ≡ t
-unfolding tableTold tableOutcome insertTold insertOutcome deleteTold deleteOutcome
-line-kept t number (Table new) e = pick (leb 1 (new .slots) && leb (new .slots) 1024) e
+change-refused : (t : List ℕ) (checks : Check) (words after : List ℕ) → changeTold checks words .letter ≡ 82
+    → changeOutcome t checks words after ≡ outcomeOf t (toldBytes (changeTold checks words .told))
+unfolding toldBytes
+change-refused t Pass words after e = absurd (omega (arith, e))
+change-refused t (Fail cause spot) words after e = refl
+
+line-refused : (t : List ℕ) (number : ℕ) (command : Command) → commandTold t number command .letter ≡ 82
+    → commandOutcome t number command ≡ outcomeOf t (toldBytes (commandTold t number command .told))
+unfolding tableTold tableOutcome insertTold insertOutcome deleteTold deleteOutcome toldBytes
+line-refused t number (Table new) e = pick (leb 1 (new .slots) && leb (new .slots) 1024) e
   where
     pick : (good : Bool) → cond good (lettered 78 (success (new .slots ∷ []))) (lettered 82 (refusal Shape 0)) .letter ≡ 82
-        → cond good (outcomeOf (emptyTable 2 (new .slots)) (tableBytes (new .slots))) (refused t 1 0) .table ≡ t
+        → cond good (outcomeOf (emptyTable 2 (new .slots)) (tableBytes (new .slots))) (refused t 1 0)
+        ≡ outcomeOf t (toldBytes (cond good (lettered 78 (success (new .slots ∷ []))) (lettered 82 (refusal Shape 0)) .told))
     pick true e = absurd (omega (arith, e))
     pick false e = refl
-line-kept t number (Insert insertion) e = change-kept t (insertChecks 2 t (insertedRule insertion)) _ _ e
-line-kept t number (Delete deletion) e = change-kept t (deleteChecks 2 t (deletion .id)) _ _ e
-line-kept t number (Lookup query) e = refl
-line-kept t number Malformed e = refl
+line-refused t number (Insert insertion) e = change-refused t (insertChecks 2 t (insertedRule insertion)) _ _ e
+line-refused t number (Delete deletion) e = change-refused t (deleteChecks 2 t (deletion .id)) _ _ e
+line-refused t number (Lookup query) e = looked (lookupAnswer 2 t (word (keyOf query))) e
+  where
+    looked : (told : Told) → lookedTold told .letter ≡ 82 → outcomeOf t (lookupBytes told) ≡ outcomeOf t (toldBytes (lookedTold told .told))
+    looked told f = by (eqb (told .number) 0) (eqb (length (told .values)) 0) f
+      where
+        by : (b m : Bool) → cond b (cond m (lettered 77 told) (lettered 65 told)) (lettered 82 told) .letter ≡ 82
+            → outcomeOf t (cond b (cond m missBytes (printed 65 (told .values))) (toldBytes told))
+            ≡ outcomeOf t (toldBytes (cond b (cond m (lettered 77 told) (lettered 65 told)) (lettered 82 told) .told))
+        by true true g = absurd (omega (arith, g))
+        by true false g = absurd (omega (arith, g))
+        by false m g = refl
+line-refused t number Malformed e = refl
 
 -- the table at the start of the memory, and what stands past it
 front-kept : (n : ℕ) (l : List ℕ) → take n l ++ drop (length (take n l)) l ≡ l
@@ -256,6 +278,34 @@ front-kept (suc n) (a ∷ l) = ap (λ (rest : List ℕ). a ∷ rest) (front-kept
 
 memory-kept : (memory : List ℕ) (slots : ℕ) (table : List ℕ) → table ≡ tableIn memory slots → table ++ drop (length table) memory ≡ memory
 memory-kept memory slots table e = ap (λ (u : List ℕ). u ++ drop (length u) memory) e ∙ front-kept (slots * 6) memory
+
+front-again : (n : ℕ) (l : List ℕ) → take (length (take n l)) l ≡ take n l
+front-again zero l = refl
+front-again (suc n) [] = refl
+front-again (suc n) (a ∷ l) = ap (λ (rest : List ℕ). a ∷ rest) (front-again n l)
+
+shown-as : {out out′ text : List ℕ} {count : ℕ} (cause : Cause) (place : ℕ) → text ≡ toldBytes (refusal cause place) → Shown out text count out′
+    → Shown out (printed 82 (causeNumber cause ∷ place ∷ [])) count out′
+unfolding toldBytes
+shown-as {out} {out′} {text} {count} cause place e s = subst (λ (x : List ℕ). Shown out x count out′) e s
+
+-- where it writes, it makes the next write of the plan
+carry-made : (t plan : List ℕ) (rule : Rule) (done total : ℕ) → carryResult (stepAnswer 2 t plan rule done total) ≡ 0
+    → (stepTable 2 t plan rule done total ≡ applyWord 2 t rule (getD plan done 0)) × (stepDone 2 t plan rule done total ≡ done + 1)
+unfolding stepAnswer stepTable stepDone stepWrites
+carry-made t plan rule done total zero-result =
+    let makes = pick (progressChecks 2 t (length plan) done total) (eqb done total) (writeChecks 2 t rule (getD plan done 0) done) zero-result in
+    (rw makes, rw makes)
+  where
+    never : (cause : Cause) (spot : ℕ) → carryResult (refusal cause spot) ≡ 0 → ⊥
+    never cause spot e = omega (arith, sym (carry-refused cause spot) ∙ e, cause-some cause)
+
+    pick : (p : Check) (b : Bool) (c : Check) → carryResult (unless p (cond b (success []) (unless c (success ((done + 1) ∷ []))))) ≡ 0
+        → passes p && (not b && passes c) ≡ true
+    pick (Fail cause spot) b c e = absurd (never cause spot e)
+    pick Pass true c e = absurd (omega (arith, e))
+    pick Pass false Pass e = refl
+    pick Pass false (Fail cause spot) e = absurd (never cause spot e)
 
 -- document 01's demand 1
 pub first-demand : FirstDemand
@@ -283,13 +333,22 @@ first-demand = record {
     carries-by _ progress _ result (step-by-rows 2 t plan rule (progress .done) (progress .total)) (step-case t plan rule progress) (left .told),
     λ other. let kept = carry-kept t plan rule (progress .done) (progress .total) (λ z. other (left .told ∙ z)) in
         (left .table ∙ kept .0, left .advanced ∙ kept .1, left .in-all),
+    λ zero-result. let made = carry-made t plan rule (progress .done) (progress .total) (sym (left .told) ∙ zero-result) in
+        (left .table ∙ made .0, left .advanced ∙ made .1, left .in-all),
   );
   line = λ memory memory′ slots number line out out′ ran left told. (
     λ cause place. (
       λ e. line-by-rows (tableIn memory slots) number line .declined cause place .0 (ap (λ (x : LineTold). x .told) (sym told ∙ ap lineTold e)),
       λ d. refused-line (ran .answer) cause place (ap (λ (x : LineTold). x .told) told ∙ line-by-rows (tableIn memory slots) number line .declined cause place .1 d),
     ),
-    λ cause place e. left .table ∙ memory-kept memory slots _
-        (line-kept (tableIn memory slots) number (commandOf line) (ap (λ (x : LineTold). x .letter) (sym told ∙ ap lineTold e))),
+    λ cause place e.
+        let outcome = line-refused (tableIn memory slots) number (commandOf line) (ap (λ (x : LineTold). x .letter) (sym told ∙ ap lineTold e)) in
+        let table = ap (λ (x : Outcome (List ℕ)). x .table) outcome in
+        let bytes = ap (λ (x : Outcome (List ℕ)). x .printed) outcome ∙ ap (λ (x : LineTold). toldBytes (x .told)) (sym told ∙ ap lineTold e) in
+        let kept = left .table ∙ memory-kept memory slots _ table in (
+          kept,
+          ap₂ (λ (m : List ℕ) (n : ℕ). take n m) kept (left .slots ∙ ap length table) ∙ front-again (slots * 6) memory,
+          shown-as cause place bytes (left .shown),
+        ),
   );
 }

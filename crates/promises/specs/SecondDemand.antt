@@ -1,5 +1,5 @@
 -- Document 01, demand 2: from an empty table, after any accepted inserts and deletes carried out in full, each key is answered by the highest-priority
--- matching rule that was inserted and not since deleted, or by a miss. DuringPlan a plan every key keeps its old rule or miss until the last write, and from
+-- matching rule that was inserted and not since deleted, or by a miss. Within a plan every key keeps its old rule or miss until the last write, and from
 -- then on has the reply of the changed rule set. Images load to the table they were saved from.
 use mathlib.Core.Path.{_≡_}
 use mathlib.Core.Logic.{_⊎_}
@@ -7,11 +7,12 @@ use mathlib.Core.List.{List, [], _∷_}
 use Prim.Native.Nat.{ℕ, _≤_, _<_}
 use lib.ListN.{length, take}
 use Rattle.ternary.specs.Pattern.{Matches}
-use Rattle.records.specs.Record.{word}
+use Rattle.records.specs.Record.{word, recordOf}
 use Rattle.records.specs.declared.Rule.{Rule}
 use Rattle.histories.specs.RuleSet.{Change, ruleSet, without, Member}
 use Rattle.histories.specs.TableRules.{tableRules}
 use Rattle.image.specs.Reading.{Words64}
+use Rattle.marshalling.specs.Cells.{ruleFrom}
 use Rattle.refusals.specs.Rows.{Accepts}
 use Rattle.refusals.specs.Calls.{tableRows}
 use Rattle.tcam.specs.declared.carry.Progress.{Progress}
@@ -29,7 +30,7 @@ module _ (rules : List Rule) (high low : ℕ) where
   abbrev pub Highest : Rule → Type 0
   Highest rule =
       Member rule rules × KeyMatches high low rule
-      × ((other : Rule) → Member other rules → KeyMatches high low other → (other .id ≡ rule .id) ⊎ (other .priority < rule .priority))
+      × ((other : Rule) → Member other rules → KeyMatches high low other → (recordOf 2 other ≡ recordOf 2 rule) ⊎ (other .priority < rule .priority))
 
   -- no rule of the list matches the key
   abbrev pub NoneMatches : Type 0
@@ -52,7 +53,7 @@ pub data RulesOf : List Rule → List ℕ → Type 0 where
   ran : (history : List Change) (t : List ℕ) → CameTo history t → RulesOf (ruleSet history) t
   stand : (t : List ℕ) → Accepts (tableRows 2 t) → RulesOf (tableRules 2 t) t
 
--- DuringPlan a plan, from the table it was drawn for, with its rule and count: old are the rules before it, new those after it.
+-- Within a plan, from the table it was drawn for, with its rule and count: old are the rules before it, new those after it.
 pub record DuringPlan (t plan : List ℕ) (rule : Rule) (count : ℕ) (old new : List Rule) : Type 0 where
   -- until the last write every key has its old reply, and from then on that of the changed rules
   pub kept : (u : List ℕ) (progress : Progress) → Carrying t plan rule count u progress → progress .done < count → AllReplied u old
@@ -64,7 +65,16 @@ pub record DuringPlan (t plan : List ℕ) (rule : Rule) (count : ℕ) (old new :
       → CarryLeft u (take words plan) rule progress result after progress′
       → (progress .done < count → result ≡ wroteResult) × (progress .done ≡ count → result ≡ finishedResult)
 
+-- the rule that a caller gives as seven numbers: value and mask as two words each, high word first
+abbrev pub Gives : ℕ → ℕ → ℕ → ℕ → ℕ → ℕ → ℕ → Rule → Type 0
+Gives id priority value-high value-low mask-high mask-low action rule =
+    (rule .id ≡ id) × (rule .priority ≡ priority) × (rule .value ≡ value-high ∷ value-low ∷ []) × (rule .mask ≡ mask-high ∷ mask-low ∷ [])
+    × (rule .action ≡ action)
+
 pub record SecondDemand : Type 0 where
+  -- the contracts of tcam_plan_insert and tcam_carry_out speak of the rule that they are given
+  pub given : (id priority value-high value-low mask-high mask-low action : ℕ)
+      → Gives id priority value-high value-low mask-high mask-low action (ruleFrom id priority value-high value-low mask-high mask-low action)
   -- each key is answered by the highest-priority match of the table's rules, or by a miss
   pub answered : (rules : List Rule) (t : List ℕ) → RulesOf rules t → AllReplied t rules
   -- within the plan of an insert, and of a delete, which is carried out with any rule

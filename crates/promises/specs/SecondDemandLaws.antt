@@ -11,9 +11,8 @@ use lib.ListN.{getD, drop}
 use borrow.Author.Tests.{eq-eqb}
 use Rattle.ternary.specs.Pattern.{Words}
 use Rattle.ternary.specs.PatternLaws.{matches-law}
-use Rattle.records.specs.Record.{word, ident}
+use Rattle.records.specs.Record.{word, recordOf}
 use Rattle.records.specs.Checks.{Told}
-use Rattle.records.specs.RulesLaws.{record-ident}
 use Rattle.records.specs.declared.Rule.{Rule}
 use Rattle.neighbours.specs.Neighbours.{insertChecks}
 use Rattle.delete_plans.specs.Deletes.{deleteChecks, deletePlan, deleteWords}
@@ -60,16 +59,15 @@ module _ (rules : List Rule) (v : List ℕ) (h : Holding 2 rules v) (high low : 
   highest : (rule : Rule) → IsHighest 2 (keyWords high low) rules (some rule) → Highest rules high low rule
   highest rule is = (is .0, matches-law 2 (keyWords high low) (word (rule .value)) (word (rule .mask)) .0 (is .1), lower)
     where
-      lower : (other : Rule) → Member other rules → KeyMatches high low other → (other .id ≡ rule .id) ⊎ (other .priority < rule .priority)
+      lower : (other : Rule) → Member other rules → KeyMatches high low other → (recordOf 2 other ≡ recordOf 2 rule) ⊎ (other .priority < rule .priority)
       lower other member m = pick (decLt (other .priority) (rule .priority))
         where
-          pick : Dec (other .priority < rule .priority) → (other .id ≡ rule .id) ⊎ (other .priority < rule .priority)
+          pick : Dec (other .priority < rule .priority) → (recordOf 2 other ≡ recordOf 2 rule) ⊎ (other .priority < rule .priority)
           pick (yes l) = inr l
           pick (no l) =
               let same : other .priority ≡ rule .priority = omega (arith, is .2 other member (matched other m)) in
               let one = holding-untied 2 rules v h (keyWords high low) other rule member (is .0) (matched other m) (is .1) same in
-              inl (sym (record-ident 2 other (h .actions other member))
-              ∙ (ap (λ (x : List ℕ). ident 2 (word x)) one ∙ record-ident 2 rule (h .actions rule (is .0))))
+              inl one
 
   replied : (told : Told) (result id id′ action action′ : ℕ) → told .number ≡ 0 → drop 1 (told .values) ≡ setReply 2 rules (keyWords high low)
       → result ≡ told .number → id′ ≡ dataCell told 1 id → action′ ≡ dataCell told 2 action → KeyReplied rules high low result id′ action′
@@ -154,6 +152,7 @@ told rules t (RulesOf.stand u sound) key = holding-lookup 2 (tableRules 2 u) u (
 -- document 01's demand 2
 pub second-demand : SecondDemand
 second-demand = record {
+  given = λ id priority vh vl mh ml action. (refl, refl, refl, refl, refl);
   answered = λ rules t of. answers rules t t (held rules t of) (told rules t of);
   insert = λ rules t of rule small plan after count count′ spot spot′ left.
       within t after rule _ count′ (λ rs. rule ∷ rs) (inserting t rule small plan after count count′ spot spot′ left) rules (held rules t of);
