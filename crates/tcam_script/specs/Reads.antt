@@ -57,7 +57,7 @@ Stopped blocks went =
 
 -- What is left after the whole script, the last answer at the output's start: the blocks read, one for each read, all answers before the last,
 -- and where the program then stood. The bytes of all reads have the checksum of these blocks, the bytes handed to the output that of what the
--- input prints, and their number; and all of them were written.
+-- input prints, and their number.
 pub record Ended (start : Kept) (went : Went) (memory′ out′ : List ℕ) : Type 0 where
   pub blocks : List (List ℕ)
   pub answers : List ℕ
@@ -69,15 +69,29 @@ pub record Ended (start : Kept) (went : Went) (memory′ out′ : List ℕ) : Ty
   pub printed : answers ++ take last out′ ≡ scriptOutcome (whole blocks) .printed
   pub table : tableIn memory′ (went .place .slots) ≡ scriptOutcome (whole blocks) .table
   pub handed : HandedOver unsent (scriptOutcome (whole blocks) .printed) (went .sent)
-  pub written : went .sent .well ≡ true
+
+-- Where reading breaks off: the blocks read, the last of them taken in part, all answers until then, and these handed to the output.
+pub record BrokenOff (start : Kept) (went : Went) : Type 0 where
+  pub blocks : List (List ℕ)
+  pub answers : List ℕ
+  pub before : Kept
+  pub read : Read start blocks answers before
+  pub last : List ℕ
+  pub more : List ℕ
+  pub end : Kept
+  pub from : ℕ
+  pub called : Called last before more end from
+  pub received : Received (blocks ++ last ∷ []) (went .got)
+  pub handed : HandedOver unsent (answers ++ more) (went .sent)
 
 -- the blocks read one after the other, one for each read, and their answers handed to the output
 pub record ReadAll (start : Kept) (went : Went) (end : Kept) : Type 0 where
-  pub failed : went .well ≡ false → Failed went
+  pub failed : went .well ≡ false → Failed went × BrokenOff start went
   pub read : went .well ≡ true
       → (blocks : List (List ℕ)) × (bytes : List ℕ) × Stopped blocks went × Received blocks (went .got) × HandedOver unsent bytes (went .sent)
       × Read start blocks bytes end
 
+-- the whole run: where it fails, all was handed to the output until then, to the end or not; where it does not, to the end, and all was written
 pub record RanAll (start : Kept) (went : Went) (memory′ out′ : List ℕ) : Type 0 where
-  pub failed : went .well ≡ false → Failed went
-  pub ended : went .well ≡ true → Ended start went memory′ out′
+  pub failed : went .well ≡ false → Failed went × (BrokenOff start went ⊎ Ended start went memory′ out′)
+  pub ended : went .well ≡ true → (went .sent .well ≡ true) × Ended start went memory′ out′

@@ -26,12 +26,12 @@ use Rattle.tcam_script.specs.declared.console.Sent.{Sent}
 use Rattle.tcam_script.specs.declared.Went.{Went}
 use Rattle.tcam_script.specs.Checksum.{checksumOn, checksumOf, blockOf}
 use Rattle.tcam_script.specs.ChecksumLaws.{checksum-append}
-use Rattle.tcam_script.specs.Reads.{unsent, HandedOver, Received, TookBlock, Stopped, capped, TookRead, Failed, ReadAll, RanAll}
+use Rattle.tcam_script.specs.Reads.{unsent, HandedOver, Received, TookBlock, Stopped, capped, TookRead, Failed, BrokenOff, Ended, ReadAll, RanAll}
 
 -- while blocks are read: so many more may be
 pub record ReadSome (start : Kept) (turns : ℕ) (went : Went) (end : Kept) : Type 0 where
   pub goes : went .more ≡ true → went .well ≡ true
-  pub failed : went .well ≡ false → Failed went
+  pub failed : went .well ≡ false → Failed went × BrokenOff start went
   pub read : went .well ≡ true
       → (blocks : List (List ℕ)) × (bytes : List ℕ)
       × (went .more ≡ false → (before : List (List ℕ)) × (blocks ≡ before ++ [] ∷ []) × (went .got .number ≡ pos 0))
@@ -81,12 +81,32 @@ module _ (start : Kept) (blocks : List (List ℕ)) (bytes : List ℕ) (kept : Ke
         ∙ (sym (checksum-append 1 (whole blocks) block) ∙ ap checksumOf (sym (whole-append blocks block))));
   }
 
+  nothing-handed : (sent : Sent) → sent ≡ before → HandedOver unsent (bytes ++ []) sent
+  nothing-handed sent s =
+      subst (HandedOver unsent (bytes ++ [])) (sym s) (handed-on handed (nothing-more before (let h = handed .count in omega (arith, h))))
+
+  broken : (block more : List ℕ) (end : Kept) (from : ℕ) → Called block kept more end from → (went : Went) → went .got .reads ≡ capped (got .reads + 1)
+      → went .got .checksum ≡ checksumOn (got .checksum) block → HandedOver unsent (bytes ++ more) (went .sent) → BrokenOff start went
+  broken block more end from called went count sum handed′ = record {
+    blocks = blocks;
+    answers = bytes;
+    before = kept;
+    read = read;
+    last = block;
+    more = more;
+    end = end;
+    from = from;
+    called = called;
+    received = each block (went .got) count sum;
+    handed = handed′;
+  }
+
   by-answer : (number : ℤ) (buffer : List ℕ) (went : Went) (end : Kept) → number ≡ went .got .number → went .got .reads ≡ capped (got .reads + 1)
       → went .got .checksum ≡ checksumOn (got .checksum) (blockOf number buffer) → TookRead number buffer kept before went end → ReadSome start (turns - 1) went end
   unfolding TookRead
   by-answer (negsuc k) buffer went end same counted sum (m, w, s, e) = record {
     goes = λ t. absurd (false≢true (sym m ∙ t));
-    failed = λ f. inr (ap (leZ (pos 0)) (sym same));
+    failed = λ f. (inr (ap (leZ (pos 0)) (sym same)), broken [] [] kept 0 Called.begin went counted sum (nothing-handed (went .sent) s));
     read = λ t. absurd (false≢true (sym w ∙ t));
   }
   by-answer (pos zero) buffer went end same counted sum (m, w, s, e) = record {
@@ -98,13 +118,13 @@ module _ (start : Kept) (blocks : List (List ℕ)) (bytes : List ℕ) (kept : Ke
       λ f. (blocks, refl, sym same),
       fewer [],
       each [] (went .got) counted sum,
-      subst (HandedOver unsent (bytes ++ [])) (sym s) (handed-on handed (nothing-more before (let h = handed .count in omega (arith, h)))),
+      nothing-handed (went .sent) s,
       Read.oneMore blocks bytes kept read [] [] end (subst (Through [] kept []) (sym e) (0, omega arith, Called.begin)),
     );
   }
   by-answer (pos (suc k)) buffer went end same counted sum (m, w, t) = record {
     goes = λ g. sym m ∙ g;
-    failed = λ f. inl (sym w ∙ f);
+    failed = λ f. let o = t .stopped (sym w ∙ f) in (inl (sym w ∙ f), broken (take (suc k) buffer) (o .0) end (o .2) (o .3) went counted sum (handed-on handed (o .1)));
     read = λ g.
         let o = t .through (sym w ∙ g) in (
           blocks ++ take (suc k) buffer ∷ [],
@@ -181,19 +201,17 @@ pub all-ran : (memory line : List ℕ) → length line ≡ 257 → (kept : Kept)
 all-ran memory line h kept went all w turn memory′ out out′ t sent count sum well same =
     let (blocks, bytes, stopped, received, handed, read) = all .read w in
     let told = script-printed memory line h blocks bytes kept read turn memory′ out out′ t in
-    record {
-      failed = λ f. inl (sym same ∙ f);
-      ended = λ g. record {
-        blocks = blocks;
-        answers = bytes;
-        before = kept;
-        stopped = stopped;
-        received = received;
-        read = read;
-        last = turn .length;
-        printed = told .0;
-        table = told .1;
-        handed = subst (λ (x : List ℕ). HandedOver unsent x sent) (told .0) (handed-on handed (answer-handed (t .shown) (went .sent) sent count sum));
-        written = sym same ∙ g;
-      };
-    }
+    let went′ : Went = record { place = turn .place; sent = sent; got = went .got; more = false; well = well } in
+    let ended : Ended (opening memory line) went′ memory′ out′ = record {
+      blocks = blocks;
+      answers = bytes;
+      before = kept;
+      stopped = stopped;
+      received = received;
+      read = read;
+      last = turn .length;
+      printed = told .0;
+      table = told .1;
+      handed = subst (λ (x : List ℕ). HandedOver unsent x sent) (told .0) (handed-on handed (answer-handed (t .shown) (went .sent) sent count sum));
+    } in
+    record { failed = λ f. (inl (sym same ∙ f), inr ended); ended = λ g. (sym same ∙ g, ended) }

@@ -2,6 +2,7 @@
 -- After all blocks comes the last turn.
 use mathlib.Core.Path.{sym, _∙_}
 use mathlib.Core.Bool.{true≢false}
+use mathlib.Core.Logic._⊎_.{inl}
 use Prim.Native.Nat.{ℕ}
 use lib.ListN.{replicate, length-replicate}
 use denote.Ref.{now}
@@ -36,7 +37,7 @@ returns c =
 
 returns-2 : tie.Need-returns-2
 returns-2 c = record {
-  failed = c .before .read-blocks .ensures .failed;
+  failed = λ f. let r = c .before .read-blocks .ensures .failed f in (r .0, inl (r .1));
   ended = λ w. absurd (true≢false (sym w ∙ c .if1 .left));
 }
 
