@@ -2,9 +2,12 @@
 use mathlib.Core.Path.{_≡_, refl, sym, ap, _∙_, subst}
 use mathlib.Core.List.{List}
 use Prim.Native.Nat.{ℕ, suc, _≤_, _<_}
+use native.Mathlib.Numerals.{add-one}
 use native.Mathlib.Omega.{arith}
 use native.Mathlib.Decide.{decLt}
-use lib.ListN.{take}
+use lib.ListN.{getD, take, drop, length-take, take-append-drop, List·getD-append}
+use Rattle.records.specs.Writes.{applyWord, applyWords}
+use Rattle.records.specs.WritesLaws.{apply-words-next}
 use Rattle.records.specs.declared.Rule.{Rule}
 use Rattle.carrying.specs.Calls.{afterCalls, callAnswer, Lent}
 use Rattle.carrying.specs.CallsLaws.{lent-part}
@@ -14,7 +17,26 @@ use Rattle.marshalling.specs.Carried.{carryResult}
 use Rattle.tcam.specs.declared.carry.Progress.{Progress}
 use Rattle.tcam.specs.Carried.{CarryLeft}
 use Rattle.tcam.specs.CarriedLaws.{carry-call, carry-lent}
+use Rattle.promises.specs.FirstDemandLaws.{carry-made, carry-within}
 use Rattle.promises.specs.Calls.{wroteResult, finishedResult, Carrying, CarriedOut}
+
+-- the writes done so far are made, in their order
+pub made-so-far : (t plan : List ℕ) (rule : Rule) (count : ℕ) (u : List ℕ) (progress : Progress) → Carrying t plan rule count u progress
+    → u ≡ applyWords 2 t rule (take (progress .done) plan)
+made-so-far t plan rule count u progress Carrying.drawn = refl
+made-so-far t plan rule count u progress (Carrying.wrote v before under n long within after progress′ left) =
+    let k = before .done in
+    let told = sym (left .told) in
+    let made = carry-made v (take n plan) rule k (before .total) told in
+    let less = carry-within v (take n plan) rule k (before .total) told in
+    let same : getD (take n plan) k 0 ≡ getD plan k 0 =
+    sym (List·getD-append (take n plan) (drop n plan) 0 k less) ∙ ap (λ (l : List ℕ). getD l k 0) (take-append-drop n plan) in
+    let next : progress .done ≡ suc k = left .advanced ∙ (made .1 ∙ add-one k) in
+    left .table ∙ (made .0
+    ∙ (ap (applyWord 2 v rule) same
+    ∙ (ap (λ (w : List ℕ). applyWord 2 w rule (getD plan k 0)) (made-so-far t plan rule count v before under)
+    ∙ (sym (apply-words-next 2 t rule plan k (omega (arith, less, length-take n plan)))
+    ∙ ap (λ (d : ℕ). applyWords 2 t rule (take d plan)) (sym next)))))
 
 -- the state after k calls
 pub record At (t plan : List ℕ) (rule : Rule) (count : ℕ) (u : List ℕ) (progress : Progress) (k : ℕ) : Type 0 where

@@ -2,7 +2,7 @@
 -- That no call indexes outside its buffers, wraps a sum or runs on is what the checker proves of every function.
 use mathlib.Core.Path.{_≡_}
 use mathlib.Core.Logic.{_↔_, _⊎_}
-use mathlib.Core.List.{List, [], _∷_}
+use mathlib.Core.List.{List, [], _∷_, map}
 use Prim.Native.Nat.{ℕ, _+_, _%_, _/_}
 use lib.ListN.{length, getD}
 use Rattle.records.specs.Writes.{applyWord}
@@ -11,6 +11,7 @@ use Rattle.script_printing.specs.PrintedLines.{printed}
 use Rattle.records.specs.Checks.{causeNumber}
 use Rattle.records.specs.declared.Rule.{Rule}
 use Rattle.records.specs.declared.Cause.{Cause}
+use Rattle.records.specs.declared.Cause.the-variants.{Shape, Record, Twice, Order, Rule as RuleCause, Known, Unknown, Tie, Full, Crossed, Short, Write, Line, Image}
 use Rattle.refusals.specs.Rows.{Row, Declines, Accepts}
 use Rattle.refusals.specs.Calls.{lookupRows, insertRows, deleteRows, saveRows, stepRows, loadRows}
 use Rattle.refusals.specs.Lines.{lineRows}
@@ -27,8 +28,9 @@ use Rattle.tcam.specs.Images.{SaveLeft, LoadLeft}
 use Rattle.promises.specs.Calls.{wroteResult, finishedResult}
 
 -- A call declines by its list of rows: it returns a cause's number and names a spot exactly when the rows before do not hold and the cause's own does,
--- with that spot; it returns 0 exactly when none holds.
+-- with that spot; it returns 0 exactly when none holds; and it returns nothing else.
 pub record DeclinesBy (rows : List Row) (number spot : ℕ) : Type 0 where
+  pub either : (number ≡ 0) ⊎ ((cause : Cause) × (number ≡ causeNumber cause))
   pub refused : (cause : Cause) (place : ℕ) → ((number ≡ causeNumber cause) × (spot ≡ place)) ↔ Declines rows cause place
   pub accepted : (number ≡ 0) ↔ Accepts rows
 
@@ -44,8 +46,10 @@ abbrev pub IsRefusal : ℕ → Type 0
 IsRefusal result = result ≡ 0 → ⊥
 
 pub record FirstDemand : Type 0 where
-  -- each refusal has one number
-  pub numbers : (cause other : Cause) → causeNumber cause ≡ causeNumber other → cause ≡ other
+  -- each refusal has one number: document 01's, 1 to 14, and no two causes have the same
+  pub numbers : map causeNumber (Shape ∷ Record ∷ Twice ∷ Order ∷ RuleCause ∷ Known ∷ Unknown ∷ Tie ∷ Full ∷ Crossed ∷ Short ∷ Write ∷ Line ∷ Image ∷ [])
+      ≡ 1 ∷ 2 ∷ 3 ∷ 4 ∷ 5 ∷ 6 ∷ 7 ∷ 8 ∷ 9 ∷ 10 ∷ 11 ∷ 12 ∷ 13 ∷ 14 ∷ []
+  pub once : (cause other : Cause) → causeNumber cause ≡ causeNumber other → cause ≡ other
   -- the calls that only read a table decline by their rows, and a refusal leaves what they are lent
   pub lookup : (t : List ℕ) (high low result slot slot′ id id′ action action′ spot spot′ : ℕ)
       → LookupLeft t high low result slot slot′ id id′ action action′ spot spot′
@@ -63,12 +67,14 @@ pub record FirstDemand : Type 0 where
   pub load : (b : List ℕ) (result : ℕ) (t after : List ℕ) (spot spot′ : ℕ) → LoadLeft b result t after spot spot′
       → DeclinesBy (loadRows 2 b t) result spot′ × (IsRefusal result → after ≡ t)
   -- carrying out: number and spot are the halves of its result. Where it does not write, a refusal or "finished", the table and the record are as they
-  -- were; "finished" it returns exactly where nothing is refused and all writes are done
+  -- were; "finished" it returns exactly where nothing is refused and all writes are done. Where it writes, it makes the next write of the plan and no other,
+  -- and one write more is done
   pub carry : (t plan : List ℕ) (rule : Rule) (progress : Progress) (result : ℕ) (after : List ℕ) (progress′ : Progress)
       → CarryLeft t plan rule progress result after progress′ → CarriesBy (stepRows 2 t plan rule (progress .done) (progress .total)) progress result
       × ((result ≡ wroteResult → ⊥) → (after ≡ t) × (progress′ .done ≡ progress .done) × (progress′ .total ≡ progress .total))
-      × (result ≡ wroteResult → (after ≡ applyWord 2 t rule (getD plan (progress .done) 0)) × (progress′ .done ≡ progress .done + 1) × (progress′ .total ≡ progress .total))
-  -- a script line, on the table that the memory holds: a refused one leaves the memory
+      × (result ≡ wroteResult
+      → (after ≡ applyWord 2 t rule (getD plan (progress .done) 0)) × (progress′ .done ≡ progress .done + 1) × (progress′ .total ≡ progress .total))
+  -- a script line, on the table that the memory holds: a refused one leaves the memory and its table, and prints `R number spot`
   pub line : (memory memory′ : List ℕ) (slots number : ℕ) (line out out′ : List ℕ) (ran : Ran)
       → Left (lineOutcome (tableIn memory slots) number line) ran memory memory′ out out′
       → lineTold (ran .answer) ≡ commandTold (tableIn memory slots) number (commandOf line)

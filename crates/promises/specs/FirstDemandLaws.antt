@@ -3,14 +3,13 @@ use mathlib.Core.Path.{_≡_, refl, sym, ap, ap₂, _∙_, subst}
 use mathlib.Core.Bool.{Bool, true, false, not, cond, _&&_, true≢false}
 use mathlib.Core.Logic.{inl, inr, ⊎-elim}
 use mathlib.Core.List.{List, [], _∷_, _++_}
-use Prim.Native.Nat.{ℕ, zero, suc, _+_, _*_}
+use Prim.Native.Nat.{ℕ, zero, suc, _+_, _*_, _<_}
 use native.Mathlib.Omega.{arith}
-use lib.Dec.{eqb, ltb, leb}
+use lib.Dec.{eqb, leb}
 use lib.ListN.{length, getD, take, drop}
 use borrow.Author.Tests.{eqb-true, eqb-false, ne-eqb}
-use Rattle.ternary.specs.Pattern.{Words}
 use Rattle.records.specs.Record.{word}
-use Rattle.records.specs.Checks.{Told, success, refusal, unless, orElse, passes, slotChecks, tableChecks, firstMatch, causeNumber}
+use Rattle.records.specs.Checks.{Told, success, refusal, unless, orElse, passes, tableChecks, causeNumber}
 use Rattle.records.specs.Order.{slots}
 use Rattle.records.specs.Laws.{cause-number-once, cause-not-zero}
 use Rattle.records.specs.declared.Rule.{Rule}
@@ -19,8 +18,8 @@ use Rattle.records.specs.declared.Cause.the-variants.{Shape}
 use Rattle.records.specs.declared.Check.{Check}
 use Rattle.records.specs.declared.Check.the-variants.{Pass, Fail}
 use Rattle.buffers.specs.Buffers.{bufferAnswer, bufferAfter, checkRoom}
-use Rattle.lookups.specs.Lookup.{lookupTold, hitAt, matchTold, lookupAnswer}
-use Rattle.lookups.specs.declared.LookupAnswer.the-variants.{Found, Miss as LookupMiss}
+use Rattle.lookups.specs.Lookup.{lookupAnswer}
+use Rattle.carrying.specs.StepsLaws.{progress-within}
 use Rattle.carrying.specs.Carrying.{progressChecks, writeChecks, stepAnswer, stepWrites, stepTable, stepDone}
 use Rattle.image.specs.Answers.{loadAnswer, loadTable}
 use Rattle.image.specs.Checks.{loadChecks, meant}
@@ -48,6 +47,7 @@ use Rattle.script_operations.specs.Outcomes.{outcomeOf, refused, lookupBytes, c
 use Rattle.script.specs.Script.{tableIn, tableOutcome, commandOutcome}
 use Rattle.script.specs.Told.{tableTold, commandTold}
 use Rattle.refusals.specs.Rows.{Row, AnsweredBy}
+use Rattle.refusals.specs.RowsLaws.{no-refusal, refusal-once}
 use Rattle.refusals.specs.CallsLaws.{lookup-by-rows, insert-by-rows, delete-by-rows, save-by-rows, load-by-rows, step-by-rows}
 use Rattle.refusals.specs.LinesLaws.{line-by-rows}
 use Rattle.refusals.specs.CarryingLaws.{stepChecks, step-told}
@@ -55,56 +55,40 @@ use Rattle.tcam.specs.declared.carry.Progress.{Progress}
 use Rattle.tcam.specs.Cells.{keyAnswer, PlanLeft}
 use Rattle.promises.specs.FirstDemand.{DeclinesBy, CarriesBy, IsRefusal, FirstDemand}
 
--- an answer: a success, or a refusal that holds its cause and spot
-pub data Kind : Told → Type 0 where
-  went : (values : List ℕ) → Kind (success values)
-  declined : (cause : Cause) (spot : ℕ) → Kind (refusal cause spot)
-
 -- the number and the cell for the spot tell an answer's rows
-told-declines : (rows : List Row) (told : Told) (result spot spot′ : ℕ) → AnsweredBy rows told → Kind told
-    → result ≡ told .number → spot′ ≡ spotCell told spot → DeclinesBy rows result spot′
-told-declines rows told result spot spot′ answer (went values) e f = record {
-  refused = λ cause place. (
-    λ p. absurd (true≢false (ap (λ (n : ℕ). eqb n 0) (sym e ∙ p .0) ∙ cause-not-zero cause)),
-    λ d. absurd (true≢false (ap (λ (t : Told). eqb (t .number) 0) (answer .declined cause place .1 d) ∙ cause-not-zero cause)),
-  );
-  accepted = (λ z. answer .accepted .0 refl, λ a. e);
-}
-told-declines rows told result spot spot′ answer (declined c s) e f =
-    let put : spotCell (refusal c s) spot ≡ s = ap (λ (zero-number : Bool). cond zero-number spot s) (cause-not-zero c) in
-    record {
-      refused = λ cause place. (
-        λ p. let same : c ≡ cause = cause-number-once c cause (sym e ∙ p .0) in
-            let at : s ≡ place = sym put ∙ (sym f ∙ p .1) in
-            answer .declined cause place .0 (ap (λ (x : Cause). refusal x s) same ∙ ap (refusal cause) at),
-        λ d. let same = answer .declined cause place .1 d in
-            (e ∙ ap (λ (t : Told). t .number) same, f ∙ (put ∙ ap (λ (t : Told). getD (t .values) 0 0) same)),
-      );
-      accepted = (λ z. answer .accepted .0 (sym e ∙ z), λ a. e ∙ answer .accepted .1 a);
-    }
+told-declines : (rows : List Row) (told : Told) (result spot spot′ : ℕ) → AnsweredBy rows told → result ≡ told .number → spot′ ≡ spotCell told spot
+    → DeclinesBy rows result spot′
+told-declines rows told result spot spot′ answer e f = ⊎-elim went declined (answer .either)
+  where
+    went : (values : List ℕ) × (told ≡ success values) → DeclinesBy rows result spot′
+    went w =
+        let zero-result : result ≡ 0 = e ∙ ap (λ (t : Told). t .number) (w .1) in
+        record {
+          either = inl zero-result;
+          refused = λ cause place. (
+            λ p. absurd (true≢false (ap (λ (n : ℕ). eqb n 0) (sym zero-result ∙ p .0) ∙ cause-not-zero cause)),
+            λ d. absurd (no-refusal (w .0) cause place (sym (w .1) ∙ answer .declined cause place .1 d)),
+          );
+          accepted = (λ z. answer .accepted .0 (sym e ∙ z), λ a. zero-result);
+        }
 
--- the answers of the calls are successes or refusals
-unless-kind : (checks : Check) (answer : Told) → Kind answer → Kind (unless checks answer)
-unless-kind Pass answer kind = kind
-unless-kind (Fail cause spot) answer kind = declined cause spot
-
-cond-kind : (b : Bool) (x y : Told) → Kind x → Kind y → Kind (cond b x y)
-cond-kind true x y a b = a
-cond-kind false x y a b = b
-
-lookup-kind : (t : List ℕ) (key : Words) → Kind (lookupAnswer 2 t key)
-unfolding lookupAnswer matchTold
-lookup-kind t key =
-    unless-kind (slotChecks 2 t) (matchTold 2 t (firstMatch 2 t key))
-    (cond-kind (ltb (firstMatch 2 t key) (slots 2 t)) (lookupTold (Found (hitAt 2 t (firstMatch 2 t key)))) (lookupTold LookupMiss) (went _) (went _))
-
-buffer-kind : (checks : Check) (needed room : ℕ) → Kind (bufferAnswer checks needed room)
-unfolding bufferAnswer
-buffer-kind checks needed room = unless-kind (orElse checks (checkRoom needed room)) (success (needed ∷ [])) (went _)
-
-load-kind : (b t : List ℕ) → Kind (loadAnswer 2 b t)
-unfolding loadAnswer
-load-kind b t = unless-kind (loadChecks 2 b t) (success []) (went _)
+    declined : (cause : Cause) × (place : ℕ) × (told ≡ refusal cause place) → DeclinesBy rows result spot′
+    declined w =
+        let c = w .0 in
+        let s = w .1 in
+        let number : result ≡ causeNumber c = e ∙ ap (λ (t : Told). t .number) (w .2) in
+        let put : spot′ ≡ s = f ∙ (ap (λ (t : Told). spotCell t spot) (w .2) ∙ ap (λ (zero-number : Bool). cond zero-number spot s) (cause-not-zero c)) in
+        record {
+          either = inr (c, number);
+          refused = λ cause place. (
+            λ p. let same : c ≡ cause = cause-number-once c cause (sym number ∙ p .0) in
+                let at : s ≡ place = sym put ∙ p .1 in
+                answer .declined cause place .0 (w .2 ∙ ap₂ refusal same at),
+            λ d. let same = refusal-once c cause s place (sym (w .2) ∙ answer .declined cause place .1 d) in
+                (number ∙ ap causeNumber (same .0), put ∙ same .1),
+          );
+          accepted = (λ z. answer .accepted .0 (sym e ∙ z), λ a. e ∙ answer .accepted .1 a);
+        }
 
 -- a refusal leaves a data cell, and the lent buffer or table
 cell-kept : (told : Told) (k before : ℕ) → IsRefusal (told .number) → dataCell told k before ≡ before
@@ -134,7 +118,7 @@ buffer-call : (rows : List Row) (checks : Check) (contents plan after : List ℕ
     → PlanLeft (bufferAnswer checks needed (length plan)) (bufferAfter checks contents plan) result after count count′ spot spot′
     → DeclinesBy rows result spot′ × (IsRefusal result → (after ≡ plan) × (count′ ≡ count))
 buffer-call rows checks contents plan after needed result count count′ spot spot′ size answer left = (
-  told-declines rows _ result spot spot′ answer (buffer-kind checks needed (length plan)) (left .number) (left .spotted),
+  told-declines rows _ result spot spot′ answer (left .number) (left .spotted),
   λ refused.
       let declines : IsRefusal (bufferAnswer checks needed (length plan) .number) = λ z. refused (left .number ∙ z) in (
         left .plan ∙ buffer-kept checks contents plan (subst (λ (n : ℕ). IsRefusal (bufferAnswer checks n (length plan) .number)) size declines),
@@ -173,10 +157,6 @@ step-case t plan rule progress =
     pick (Fail cause spot) b e = stopped cause spot
     pick Pass true e = ended (eqb-true _ _ e)
     pick Pass false e = wrote (progress .done + 1) (eqb-false _ _ e)
-
--- no success is a refusal
-no-refusal : (values : List ℕ) (cause : Cause) (spot : ℕ) → success values ≡ refusal cause spot → ⊥
-no-refusal values cause spot e = true≢false (ap (λ (t : Told). eqb (t .number) 0) e ∙ cause-not-zero cause)
 
 carries-by : (rows : List Row) (progress : Progress) (told : Told) (result : ℕ) → AnsweredBy rows told → StepCase progress told → result ≡ carryResult told
     → CarriesBy rows progress result
@@ -233,7 +213,7 @@ refused-line (Planned info) cause place e = absurd (no-refusal _ cause place e)
 refused-line (LineFound hit) cause place e = absurd (no-refusal _ cause place e)
 refused-line Miss cause place e = absurd (no-refusal _ cause place e)
 refused-line (Refused c s) cause place e =
-    ap₂ Refused (cause-number-once c cause (ap (λ (t : Told). t .number) e)) (ap (λ (t : Told). getD (t .values) 0 0) e)
+    let same = refusal-once c cause s place e in ap₂ Refused (same .0) (same .1)
 
 -- a line that is refused keeps the table and prints its number and spot
 toldBytes : Told → List ℕ
@@ -290,7 +270,7 @@ unfolding toldBytes
 shown-as {out} {out′} {text} {count} cause place e s = subst (λ (x : List ℕ). Shown out x count out′) e s
 
 -- where it writes, it makes the next write of the plan
-carry-made : (t plan : List ℕ) (rule : Rule) (done total : ℕ) → carryResult (stepAnswer 2 t plan rule done total) ≡ 0
+pub carry-made : (t plan : List ℕ) (rule : Rule) (done total : ℕ) → carryResult (stepAnswer 2 t plan rule done total) ≡ 0
     → (stepTable 2 t plan rule done total ≡ applyWord 2 t rule (getD plan done 0)) × (stepDone 2 t plan rule done total ≡ done + 1)
 unfolding stepAnswer stepTable stepDone stepWrites
 carry-made t plan rule done total zero-result =
@@ -307,12 +287,26 @@ carry-made t plan rule done total zero-result =
     pick Pass false Pass e = refl
     pick Pass false (Fail cause spot) e = absurd (never cause spot e)
 
+-- and that word is one of the plan's
+pub carry-within : (t plan : List ℕ) (rule : Rule) (done total : ℕ) → carryResult (stepAnswer 2 t plan rule done total) ≡ 0 → done < length plan
+unfolding stepAnswer
+carry-within t plan rule done total zero-result =
+    pick (progressChecks 2 t (length plan) done total) refl (eqb done total) refl (writeChecks 2 t rule (getD plan done 0) done) zero-result
+  where
+    pick : (p : Check) → progressChecks 2 t (length plan) done total ≡ p → (b : Bool) → eqb done total ≡ b → (c : Check)
+        → carryResult (unless p (cond b (success []) (unless c (success ((done + 1) ∷ []))))) ≡ 0 → done < length plan
+    pick (Fail cause spot) e b f c zero-here = absurd (omega (arith, sym (carry-refused cause spot) ∙ zero-here, cause-some cause))
+    pick Pass e true f c zero-here = absurd (omega (arith, zero-here))
+    pick Pass e false f c zero-here =
+        let bounds = progress-within 2 t (length plan) done total e in omega (arith, bounds .0, bounds .1, eqb-false done total f)
+
 -- document 01's demand 1
 pub first-demand : FirstDemand
 first-demand = record {
-  numbers = cause-number-once;
+  numbers = refl;
+  once = cause-number-once;
   lookup = λ t high low result slot slot′ id id′ action action′ spot spot′ left. (
-    told-declines _ (keyAnswer t high low) result spot spot′ (lookup-by-rows 2 t (word (high ∷ low ∷ []))) (lookup-kind t (word (high ∷ low ∷ []))) (left .number) (left .spotted),
+    told-declines _ (keyAnswer t high low) result spot spot′ (lookup-by-rows 2 t (word (high ∷ low ∷ []))) (left .number) (left .spotted),
     λ refused. let declines : IsRefusal (keyAnswer t high low .number) = λ z. refused (left .number ∙ z) in (
       left .slotted ∙ cell-kept (keyAnswer t high low) 0 slot declines,
       left .named ∙ cell-kept (keyAnswer t high low) 1 id declines,
@@ -326,7 +320,7 @@ first-demand = record {
   save = λ t result image after bytes bytes′ spot spot′ left.
       buffer-call _ (tableChecks 2 t) (imageOf 2 t) image after _ result bytes bytes′ spot spot′ (sym (image-length 2 t)) (save-by-rows 2 t (length image)) left;
   load = λ b result t after spot spot′ left. (
-    told-declines _ (loadAnswer 2 b t) result spot spot′ (load-by-rows 2 b t) (load-kind b t) (left .number) (left .spotted),
+    told-declines _ (loadAnswer 2 b t) result spot spot′ (load-by-rows 2 b t) (left .number) (left .spotted),
     λ refused. left .loaded ∙ load-kept b t (λ z. refused (left .number ∙ z)),
   );
   carry = λ t plan rule progress result after progress′ left. (

@@ -8,6 +8,7 @@ use Prim.Native.Nat.{ℕ, _≤_, _<_}
 use lib.ListN.{length, take}
 use Rattle.ternary.specs.Pattern.{Matches}
 use Rattle.records.specs.Record.{word, recordOf}
+use Rattle.records.specs.Writes.{applyWords}
 use Rattle.records.specs.declared.Rule.{Rule}
 use Rattle.histories.specs.RuleSet.{Change, ruleSet, without, Member}
 use Rattle.histories.specs.TableRules.{tableRules}
@@ -55,6 +56,8 @@ pub data RulesOf : List Rule → List ℕ → Type 0 where
 
 -- Within a plan, from the table it was drawn for, with its rule and count: old are the rules before it, new those after it.
 pub record DuringPlan (t plan : List ℕ) (rule : Rule) (count : ℕ) (old new : List Rule) : Type 0 where
+  -- as many writes of the plan are made as are done, one by each call
+  pub made : (u : List ℕ) (progress : Progress) → Carrying t plan rule count u progress → u ≡ applyWords 2 t rule (take (progress .done) plan)
   -- until the last write every key has its old reply, and from then on that of the changed rules
   pub kept : (u : List ℕ) (progress : Progress) → Carrying t plan rule count u progress → progress .done < count → AllReplied u old
   pub changed : (u : List ℕ) (progress : Progress) → Carrying t plan rule count u progress → progress .done ≡ count → AllReplied u new

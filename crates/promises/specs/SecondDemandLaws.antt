@@ -34,7 +34,7 @@ use Rattle.refusals.specs.TableLaws.{table-rows}
 use Rattle.tcam.specs.Cells.{keyAnswer, InsertLeft, DeleteLeft}
 use Rattle.tcam.specs.ImagesLaws.{save-load-call}
 use Rattle.promises.specs.Calls.{CameTo}
-use Rattle.promises.specs.CallsLaws.{carrying-at, carried-at, goes-on-at}
+use Rattle.promises.specs.CallsLaws.{made-so-far, carrying-at, carried-at, goes-on-at}
 use Rattle.promises.specs.FirstDemandLaws.{counted-answer}
 use Rattle.promises.specs.SecondDemand.{KeyMatches, Highest, NoneMatches, KeyReplied, AllReplied, RulesOf, DuringPlan, SecondDemand}
 
@@ -92,6 +92,7 @@ answers rules u v h replies high low result slot slot′ id id′ action action�
 module _ (t plan : List ℕ) (rule : Rule) (words : List ℕ) (count : ℕ) (change : List Rule → List Rule) (d : Demand2 2 t plan rule words count change) where
   within : (rules : List Rule) → Holding 2 rules t → DuringPlan t plan rule count rules (change rules)
   within rules h = record {
+    made = λ u progress under. made-so-far t plan rule count u progress under;
     kept = λ u progress under less.
         let state = carrying-at t plan rule words count change d u progress under in
         let k = state .0 in

@@ -1,5 +1,5 @@
 -- End theorems on refusals: each call declines exactly by its list of rows, and succeeds exactly when no condition of the list holds.
-use mathlib.Core.Path.{_≡_, refl, subst}
+use mathlib.Core.Path.{subst}
 use mathlib.Core.Bool.{Bool, true, false, cond}
 use mathlib.Core.List.{List, [], _∷_, _++_}
 use Prim.Native.Nat.{ℕ, _+_}
@@ -7,7 +7,7 @@ use lib.Dec.{eqb, ltb}
 use lib.ListN.{length}
 use Rattle.ternary.specs.Pattern.{Words}
 use Rattle.records.specs.Order.{slots}
-use Rattle.records.specs.Checks.{Told, success, slotChecks, firstMatch}
+use Rattle.records.specs.Checks.{success, unless, slotChecks, firstMatch}
 use Rattle.records.specs.declared.Rule.{Rule}
 use Rattle.records.specs.declared.Check.{Check}
 use Rattle.buffers.specs.Buffers.{checkRoom, bufferAnswer}
@@ -22,24 +22,23 @@ use Rattle.refusals.specs.RowsLaws.{Agrees, rows-then, answered}
 use Rattle.refusals.specs.Calls.{shortRow, lookupRows, insertRows, deleteRows, saveRows, stepRows, loadRows}
 use Rattle.refusals.specs.TableLaws.{slot-rows, table-rows}
 use Rattle.refusals.specs.PlanningLaws.{short-row, insert-rows, delete-rows}
-use Rattle.refusals.specs.CarryingLaws.{stepChecks, stepSuccess, step-told, step-rows}
+use Rattle.refusals.specs.CarryingLaws.{stepChecks, step-told, step-rows}
 use Rattle.refusals.specs.ImageLaws.{load-rows}
 
 pub lookup-by-rows : (w : ℕ) (t : List ℕ) (key : Words) → AnsweredBy (lookupRows w t) (lookupAnswer w t key)
 unfolding lookupAnswer matchTold
-lookup-by-rows w t key =
-    answered (slotChecks w t) (lookupRows w t) _ (slot-rows w t) (either (ltb (firstMatch w t key) (slots w t)) _)
+lookup-by-rows w t key = pick (ltb (firstMatch w t key) (slots w t)) _
   where
-    either : (found : Bool) (values : List ℕ) → cond found (success values) (success []) .number ≡ 0
-    either true values = refl
-    either false values = refl
+    pick : (found : Bool) (values : List ℕ) → AnsweredBy (lookupRows w t) (unless (slotChecks w t) (cond found (success values) (success [])))
+    pick true values = answered (slotChecks w t) (lookupRows w t) values (slot-rows w t)
+    pick false values = answered (slotChecks w t) (lookupRows w t) [] (slot-rows w t)
 
 -- a call that writes into a lent buffer: its checks, then 11
 buffer-answered : (checks : Check) (rows : List Row) (needed room : ℕ) → Agrees checks rows
     → AnsweredBy (rows ++ (shortRow needed room ∷ [])) (bufferAnswer checks needed room)
 unfolding bufferAnswer
 buffer-answered checks rows needed room agree =
-    answered _ _ _ (rows-then checks (checkRoom needed room) rows (shortRow needed room ∷ []) agree (λ e. short-row needed room)) refl
+    answered _ _ (needed ∷ []) (rows-then checks (checkRoom needed room) rows (shortRow needed room ∷ []) agree (λ e. short-row needed room))
 
 pub insert-by-rows : (w : ℕ) (t : List ℕ) (rule : Rule) (room : ℕ) → AnsweredBy (insertRows w t rule room) (insertAnswer w t rule room)
 insert-by-rows w t rule room = buffer-answered _ _ (length (insertWords w t rule)) room (insert-rows w t rule)
@@ -52,14 +51,14 @@ save-by-rows w t room = buffer-answered _ _ (imageBytes w (ruleCount w t)) room 
 
 pub load-by-rows : (w : ℕ) (b t : List ℕ) → AnsweredBy (loadRows w b t) (loadAnswer w b t)
 unfolding loadAnswer
-load-by-rows w b t = answered _ _ (success []) (load-rows w b t) refl
+load-by-rows w b t = answered _ _ [] (load-rows w b t)
 
 pub step-by-rows : (w : ℕ) (t plan : List ℕ) (rule : Rule) (done total : ℕ)
     → AnsweredBy (stepRows w t plan rule done total) (stepAnswer w t plan rule done total)
 step-by-rows w t plan rule done total =
-    subst (λ (told : Told). AnsweredBy (stepRows w t plan rule done total) told) (step-told w t plan rule done total)
-    (answered (stepChecks w t plan rule done total) _ (stepSuccess done total) (step-rows w t plan rule done total) (either (eqb done total)))
+    subst (AnsweredBy (stepRows w t plan rule done total)) (step-told w t plan rule done total) (pick (eqb done total))
   where
-    either : (finished : Bool) → cond finished (success []) (success ((done + 1) ∷ [])) .number ≡ 0
-    either true = refl
-    either false = refl
+    pick : (finished : Bool) → AnsweredBy (stepRows w t plan rule done total)
+        (unless (stepChecks w t plan rule done total) (cond finished (success []) (success ((done + 1) ∷ []))))
+    pick true = answered (stepChecks w t plan rule done total) _ [] (step-rows w t plan rule done total)
+    pick false = answered (stepChecks w t plan rule done total) _ ((done + 1) ∷ []) (step-rows w t plan rule done total)

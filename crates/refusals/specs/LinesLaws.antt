@@ -36,6 +36,7 @@ use Rattle.refusals.specs.Lines.{commandRows, lineRows}
 -- a row whose condition does not hold, before the others
 passed-first : (row : Row) (rows : List Row) (told : Told) → (row .condition → ⊥) → AnsweredBy rows told → AnsweredBy (row ∷ rows) told
 passed-first row rows told passed rest = record {
+  either = rest .either;
   declined = λ cause spot. (
     λ e. inr (passed, rest .declined cause spot .0 e),
     λ d. ⊎-elim (λ own. absurd (passed (own .1))) (λ later. rest .declined cause spot .1 (later .1)) d,
@@ -50,7 +51,7 @@ change-told (Fail cause spot) words = refl
 
 -- an insert and a delete
 change-answered : (checks : Check) (rows : List Row) (words : List ℕ) → Agrees checks rows → AnsweredBy rows (changeTold checks words .told)
-change-answered checks rows words agree = subst (AnsweredBy rows) (change-told checks words) (answered checks rows (success (length words ∷ [])) agree refl)
+change-answered checks rows words agree = subst (AnsweredBy rows) (change-told checks words) (answered checks rows (length words ∷ []) agree)
 
 insert-line-answered : (t : List ℕ) (rule : Rule) → AnsweredBy (newRuleRows 2 t rule) (insertTold t rule .told)
 unfolding insertTold
@@ -73,7 +74,7 @@ table-answered : (slots : ℕ) → AnsweredBy (rowAt Shape ((slots ≡ 0) ⊎ (1
 unfolding tableTold
 table-answered slots =
     subst (AnsweredBy (rowAt Shape ((slots ≡ 0) ⊎ (1024 < slots)) 0 ∷ [])) (pick (leb 1 slots && leb slots 1024))
-    (answered _ _ (success (slots ∷ [])) (test-row Shape _ 0 (leb 1 slots && leb slots 1024) right (wrong (decLt slots 1) (decLt 1024 slots))) refl)
+    (answered _ _ (slots ∷ []) (test-row Shape _ 0 (leb 1 slots && leb slots 1024) right (wrong (decLt slots 1) (decLt 1024 slots))))
   where
     both : (leb 1 slots && leb slots 1024 ≡ true) → (1 ≤ slots) × (slots ≤ 1024)
     both e = let p = and-law (leb 1 slots) (leb slots 1024) .0 e in (leb-true 1 slots (p .0), leb-true slots 1024 (p .1))
@@ -111,4 +112,4 @@ line-by-rows t number line = pick (commandOf line) refl
         first (Lookup query) e (λ f. let z : _≡_ {A = ℕ} 0 1 = cc in omega arith)
         (subst (AnsweredBy (commandRows t (Lookup query))) (sym (looked-told _)) (lookup-by-rows 2 t (word (keyOf query))))
     pick Malformed e =
-        answered (Fail Line number) _ (success []) (test-row Line (WellFormed line → ⊥) number false (λ f. absurd (true≢false (sym f))) (λ f. malformed-law line .0 e)) refl
+        answered (Fail Line number) _ [] (test-row Line (WellFormed line → ⊥) number false (λ f. absurd (true≢false (sym f))) (λ f. malformed-law line .0 e))

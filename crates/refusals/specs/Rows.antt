@@ -5,7 +5,7 @@ use mathlib.Core.Logic.{_↔_, _⊎_}
 use mathlib.Core.List.{List, [], _∷_}
 use Prim.{Unit}
 use Prim.Native.Nat.{ℕ, _<_}
-use Rattle.records.specs.Checks.{Told, refusal}
+use Rattle.records.specs.Checks.{Told, success, refusal}
 use Rattle.records.specs.declared.Cause.{Cause}
 
 -- A row: the cause, whose number is causeNumber; the condition on which the call declines; and which numbers are the spot then.
@@ -37,8 +37,9 @@ abbrev pub Accepts : List Row → Type 0
 Accepts [] = Unit {0}
 Accepts (row ∷ rows) = (row .condition → ⊥) × Accepts rows
 
--- What a list of rows says of a call's answer: it is a refusal with a cause, its number and a spot exactly when the rows decline so, and a success
+-- What a list of rows says of a call's answer: it is a success or a refusal; it is a refusal with a cause, its number and a spot exactly when the rows decline so, and a success
 -- exactly when no condition holds.
 pub record AnsweredBy (rows : List Row) (told : Told) : Type 0 where
+  pub either : ((values : List ℕ) × (told ≡ success values)) ⊎ ((cause : Cause) × (spot : ℕ) × (told ≡ refusal cause spot))
   pub declined : (cause : Cause) (spot : ℕ) → (told ≡ refusal cause spot) ↔ Declines rows cause spot
   pub accepted : (told .number ≡ 0) ↔ Accepts rows

@@ -1,5 +1,5 @@
 -- Laws on lists of rows: a check and its rows agree, one after the other as the call makes them.
-use mathlib.Core.Path.{_≡_, refl, sym, ap, _∙_}
+use mathlib.Core.Path.{_≡_, refl, sym, ap, ap₂, _∙_}
 use mathlib.Core.Bool.{true≢false}
 use mathlib.Core.Logic.{_↔_, _⊎_, inl, inr, ⊎-elim}
 use mathlib.Core.List.{List, [], _∷_, _++_}
@@ -9,7 +9,7 @@ use native.Mathlib.Omega.{arith}
 use native.Mathlib.Decide.{decLt}
 use lib.Dec.{eqb}
 use lib.ListN.{getD}
-use Rattle.records.specs.Checks.{Told, unless, orElse}
+use Rattle.records.specs.Checks.{Told, success, refusal, unless, orElse}
 use Rattle.records.specs.Laws.{cause-number-once, cause-not-zero}
 use Rattle.records.specs.declared.Cause.{Cause}
 use Rattle.records.specs.declared.Check.{Check}
@@ -102,29 +102,32 @@ rows-then (Fail c s) y rows more first next = record {
   );
 }
 
+-- no success is a refusal
+pub no-refusal : (values : List ℕ) (cause : Cause) (spot : ℕ) → success values ≡ refusal cause spot → ⊥
+no-refusal values cause spot e = true≢false (ap (λ (t : Told). eqb (t .number) 0) e ∙ cause-not-zero cause)
+
+-- one refusal has one cause and one spot
+pub refusal-once : (c d : Cause) (s u : ℕ) → refusal c s ≡ refusal d u → (c ≡ d) × (s ≡ u)
+refusal-once c d s u e = (cause-number-once c d (ap (λ (t : Told). t .number) e), ap (λ (t : Told). getD (t .values) 0 0) e)
+
 -- an answer behind checks that agree with their rows
-pub answered : (checks : Check) (rows : List Row) (answer : Told) → Agrees checks rows → answer .number ≡ 0 → AnsweredBy rows (unless checks answer)
-answered Pass rows answer agree zero-number = record {
-  declined = λ cause spot. (
-    λ e. absurd (true≢false (ap (λ (n : ℕ). eqb n 0) (sym zero-number ∙ ap (λ (t : Told). t .number) e) ∙ cause-not-zero cause)),
-    λ d. absurd (pass-not-fail (agree .fails cause spot .1 d)),
-  );
-  accepted = (λ e. agree .passes .0 refl, λ a. zero-number);
+pub answered : (checks : Check) (rows : List Row) (values : List ℕ) → Agrees checks rows → AnsweredBy rows (unless checks (success values))
+answered Pass rows values agree = record {
+  either = inl (values, refl);
+  declined = λ cause spot. (λ e. absurd (no-refusal values cause spot e), λ d. absurd (pass-not-fail (agree .fails cause spot .1 d)));
+  accepted = (λ e. agree .passes .0 refl, λ a. refl);
 }
-answered (Fail c s) rows answer agree zero-number = record {
+answered (Fail c s) rows values agree = record {
+  either = inr (c, s, refl);
   declined = λ cause spot. (
-    λ e. agree .fails cause spot .0
-        (ap (λ (x : Cause). Fail x s) (cause-number-once c cause (ap (λ (t : Told). t .number) e)) ∙ ap (Fail cause) (ap (λ (t : Told). getD (t .values) 0 0) e)),
-    λ d. ap (unless-of answer) (agree .fails cause spot .1 d),
+    λ e. let same = refusal-once c cause s spot e in agree .fails cause spot .0 (ap₂ Fail (same .0) (same .1)),
+    λ d. ap (λ (check : Check). unless check (success values)) (agree .fails cause spot .1 d),
   );
   accepted = (
     λ e. absurd (true≢false (sym (ap (λ (n : ℕ). eqb n 0) e) ∙ cause-not-zero c)),
     λ a. absurd (pass-not-fail (sym (agree .passes .1 a))),
   );
 }
-  where
-    unless-of : Told → Check → Told
-    unless-of told check = unless check told
 
 -- no two slots are the lowest that something is wrong with
 pub lowest-once : (n : ℕ) (Wrong : ℕ → Type 0) (x y : ℕ) → Lowest n Wrong x → Lowest n Wrong y → x ≡ y
