@@ -1,5 +1,6 @@
 -- Document 01's table "Why a call declines", call by call: the rows of each call's checks, in the order in which they are made.
--- A condition is worded by slots, bits and numbers, not by the tests that the code makes. new is the new rule's record.
+-- A condition is worded by slots, bits and numbers, not by the tests that the code makes; an image by its fields as they are read and the table that it
+-- means, a plan by its words. new is the new rule's record.
 use mathlib.Core.Path.{_≡_}
 use mathlib.Core.Bool.{true}
 use mathlib.Core.Logic.{_⊎_}
@@ -40,7 +41,7 @@ OneId w a b = (occupied w a ≡ true) × (occupied w b ≡ true) × (ident w a �
 abbrev pub Precedes : ℕ → Words → Words → Type 0
 Precedes w a b = Overlapping w a b × (rank w b < rank w a)
 
--- two rules overlap, and the first has no higher priority; they have the same
+-- the first of an overlapping pair has no higher priority; the two have the same
 abbrev pub NotHigher : ℕ → Words → Words → Type 0
 NotHigher w a b = Overlapping w a b × (rank w a ≤ rank w b)
 
