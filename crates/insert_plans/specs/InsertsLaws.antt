@@ -51,7 +51,7 @@ module _ (w : ℕ) (t : List ℕ) (rule : Rule) (p : Insertable w t rule) where
       ap (λ (x : Words). least (λ (i : ℕ). precedes w x (slotWords w t i)) (slots w t) 0) (rule-words w rule)
       ∙ first-dependant-precedes w t rule (p .untied) (p .new)
 
-  apart : afterLast (newMisordered w rule t) (slots w t) ≤ least (misorderedNew w rule t) (slots w t) 0
+  pub apart : afterLast (newMisordered w rule t) (slots w t) ≤ least (misorderedNew w rule t) (slots w t) 0
   apart =
       uncrossed-apart w t rule (p .untied) (p .new)
       (let a = after-is in

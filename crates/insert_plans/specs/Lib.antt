@@ -1,5 +1,6 @@
 -- Planning an insert: its words, its answer and the buffer afterwards; demand 3.
--- Insertable: when its checks pass, in plain terms. Nearest: costs in the paper's words. Demand3: what is promised of its plan. Tables: document 01's marked tables.
+-- Insertable: when its checks pass, in plain terms. Nearest: costs in the paper's words. PlanFound: the choice in its words.
+-- Demand3: what is promised of its plan. Tables: document 01's marked tables.
 pub mod Joined
 pub mod JoinedLaws
 pub mod Inserts
@@ -8,6 +9,8 @@ pub mod Insertable
 pub mod InsertableLaws
 pub mod Nearest
 pub mod NearestLaws
+pub mod PlanFound
+pub mod PlanFoundLaws
 pub mod Demand3
 pub mod Demand3Laws
 pub mod Tables

@@ -20,7 +20,7 @@ use Rattle.records.specs.Laws.{table-checks-law}
 use Rattle.records.specs.Entries.{vacant, entries, entryOccupied, entryMisordered}
 use Rattle.records.specs.declared.Check.the-variants.{Pass}
 use Rattle.records.specs.EntriesLaws.{entries-length, occupied-at, misordered-at}
-use Rattle.insert_plans.specs.Nearest.{dependsAt, precedesAt, Nearest, InReach, CostOfReach}
+use Rattle.insert_plans.specs.Nearest.{dependsAt, precedesAt, InReach, CostOfReach}
 use Rattle.insert_plans.specs.InsertableLaws.{dependant-after}
 
 -- along a direction in which the rules that are misplaced are those that bound
@@ -30,11 +30,10 @@ module _ (w : ℕ) (t : List ℕ) (toward : ℕ → ℕ → Type 0) (misplaced :
   n : length (entries w t) ≡ slots w t
   n = entries-length w t
 
-  Window : ℕ → ℕ → Type 0
+  abbrev Window : ℕ → ℕ → Type 0
   Window = InWindow (vacant w) toward misplaced (entries w t)
 
-  window-reach : (i j : ℕ) → i < slots w t → Window i j → InReach toward bounds (slots w t) i j
-  unfolding Window
+  pub window-reach : (i j : ℕ) → i < slots w t → Window i j → InReach toward bounds (slots w t) i j
   window-reach i j h v = record {
     within = omega (arith, n, v .inside);
     after = v .after;
@@ -44,7 +43,6 @@ module _ (w : ℕ) (t : List ℕ) (toward : ℕ → ℕ → Type 0) (misplaced :
 
   module _ (past : WindowOrPast (vacant w) toward misplaced (entries w t)) where
     reach-window : (i j : ℕ) → i < slots w t → InReach toward bounds (slots w t) i j → Window i j
-    unfolding Window
     reach-window i j h r = pick (past i j (omega (arith, n)) (omega (arith, n, r .within)) (r .after))
       where
         pick : Window i j
@@ -62,7 +60,6 @@ module _ (w : ℕ) (t : List ℕ) (toward : ℕ → ℕ → Type 0) (misplaced :
     -- with costs that are below N unless they are above it
     cost-of-reach : (c : ℕ → ℕ) → Costs (vacant w) (entryOccupied w) toward misplaced (entries w t) (length (entries w t)) c
         → ((i : ℕ) → i < length (entries w t) → c i ≤ length (entries w t) → c i < length (entries w t)) → CostOfReach w t toward bounds c
-    unfolding Window
     cost-of-reach c law apart = record {
       vacant = λ i h e. law .vacant i (omega (arith, n)) (occupied-at w t i h ∙ ap not e);
       least = least;
@@ -89,6 +86,14 @@ module _ (w : ℕ) (t : List ℕ) (toward : ℕ → ℕ → Type 0) (misplaced :
         one i h e none (yes l) = let r = attained i h e l in absurd (omega (arith, none (r .0) (r .1), r .2))
         one i h e none (no l) = omega arith
 
+-- in a table in order the rules that are misplaced after a rule are those that depend on it, and before it those that precede it
+module _ (w : ℕ) (t : List ℕ) (order : checkOrder w t ≡ Pass) (i y : ℕ) (h : i < slots w t) (l : y < slots w t) where
+  pub down-bounds : Higher i y → entryMisordered w (getD (entries w t) y (vacant w)) (getD (entries w t) i (vacant w)) ≡ dependsAt w t i y
+  down-bounds a = misordered-at w t y i l h ∙ dependant-after w t order i y a l
+
+  pub up-bounds : Lower i y → swapped (entryMisordered w) (getD (entries w t) y (vacant w)) (getD (entries w t) i (vacant w)) ≡ precedesAt w t i y
+  up-bounds a = misordered-at w t i y h l ∙ dependant-after w t order y i a h
+
 -- Document 01: the down and up costs by which a plan is found are, in every sound table, 0 if the slot is empty, else 1 + the least of the slots after it,
 -- up to and including the nearest dependant of its rule, or up to N − 1 if there is none; and of the slots before it, back to and including the
 -- nearest rule that precedes it, or to 0.
@@ -97,11 +102,11 @@ pub costs-of-reach : (w : ℕ) (t : List ℕ) → tableChecks w t ≡ Pass
     × CostOfReach w t Lower (precedesAt w t) (upCost (vacant w) (entryOccupied w) (entryMisordered w) (entries w t))
 costs-of-reach w t checks = (
   cost-of-reach w t Higher (entryMisordered w) (dependsAt w t)
-      (λ i y h l a. misordered-at w t y i l h ∙ dependant-after w t order i y a l)
+      (down-bounds w t order)
       (down-past (vacant w) (entryMisordered w) (entries w t)) _ (down-costs (vacant w) (entryOccupied w) (entryMisordered w) (entries w t))
       (λ i h e. omega (arith, down-below (vacant w) (entryOccupied w) (entryMisordered w) (entries w t) i h e)),
   cost-of-reach w t Lower (swapped (entryMisordered w)) (precedesAt w t)
-      (λ i y h l a. misordered-at w t i y h l ∙ dependant-after w t order y i a h)
+      (up-bounds w t order)
       (up-past (vacant w) (entryMisordered w) (entries w t)) _ (up-costs (vacant w) (entryOccupied w) (entryMisordered w) (entries w t))
       (λ i h e. omega (arith, up-below (vacant w) (entryOccupied w) (entryMisordered w) (entries w t) i h e)),
 )
