@@ -10,7 +10,6 @@ use lib.ListN.{length, getD, take, drop}
 use borrow.Author.Tests.{eqb-true, eqb-false, ne-eqb}
 use Rattle.records.specs.Record.{word}
 use Rattle.records.specs.Checks.{Told, success, refusal, unless, orElse, passes, tableChecks, causeNumber}
-use Rattle.records.specs.Order.{slots}
 use Rattle.records.specs.Laws.{cause-number-once, cause-not-zero}
 use Rattle.records.specs.declared.Rule.{Rule}
 use Rattle.records.specs.declared.Cause.{Cause}

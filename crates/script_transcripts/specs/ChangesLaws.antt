@@ -5,7 +5,7 @@ use mathlib.Core.Bool.{Bool, true, false, cond, _&&_, true≢false}
 use mathlib.Core.Logic.{_⊎_}
 use mathlib.Core.Logic._⊎_.{inl, inr}
 use mathlib.Core.Option.{Option, none, some}
-use mathlib.Core.List.{List, [], _∷_, _++_}
+use mathlib.Core.List.{List, [], _∷_}
 use Prim.Native.Nat.{ℕ, _<_}
 use native.Mathlib.Omega.{arith}
 use lib.Dec.{eqb, leb}
@@ -34,7 +34,6 @@ use Rattle.script_text.specs.Parts.{parts}
 use Rattle.script_text.specs.Decimal.{decimal}
 use Rattle.script_lines.specs.Lines.{nextNumber}
 use Rattle.script_lines.specs.Blocks.{Outcome, answered}
-use Rattle.script_printing.specs.PrintedLines.{printed}
 use Rattle.script_fields.specs.Fields.{isNumber, isPattern, isKey, symbolWords, valueBit, maskBit}
 use Rattle.script_fields.specs.FieldsLaws.{number-is}
 use Rattle.script_commands.specs.Commands.{commandOf, insertedRule, keyOf, tableCommand, insertCommand, deleteCommand, lookupCommand, shortCommand}
@@ -42,7 +41,7 @@ use Rattle.script_commands.specs.Commands.{longCommand, letterOf, ofFields}
 use Rattle.script_commands.specs.declared.Query.{Query}
 use Rattle.script_commands.specs.declared.Command.{Command}
 use Rattle.script_commands.specs.declared.Command.the-variants.{Table, Insert, Delete, Lookup, Malformed}
-use Rattle.script_answers.specs.Answers.{tableBytes, printedWrites, planBytes, hitBytes, missBytes, refusalBytes}
+use Rattle.script_answers.specs.Answers.{tableBytes, planBytes, hitBytes, missBytes, refusalBytes}
 use Rattle.script_operations.specs.Outcomes.{refused, changeOutcome, lookupBytes, insertOutcome, deleteOutcome, noRule}
 use Rattle.script.specs.Script.{tableOutcome, commandOutcome, lineOutcome}
 use Rattle.script_transcripts.specs.Changes.{historyOf, historyAfter, Since, AnswerOf}

@@ -5,7 +5,7 @@ pub mod images;
 
 ghost use mathlib.Core.Path.{_≡_};
 ghost use Rattle.lookups.specs.Lookup.{partStart, partLength};
-ghost use Rattle.marshalling.specs.Cells.{dataCell, spotCell, ruleFrom};
+ghost use Rattle.marshalling.specs.Cells.{ruleFrom};
 ghost use Rattle.tcam.specs.Cells.{LookupLeft, InsertLeft, DeleteLeft};
 use delete_plans::plan_delete;
 use insert_plans::plan_insert;
