@@ -1,5 +1,5 @@
 -- End theorems on refused script lines: a line is declined exactly by its list of rows.
-use mathlib.Core.Path.{_≡_, refl, sym, _∙_, subst}
+use mathlib.Core.Path.{_≡_, refl, sym, ap, _∙_, subst}
 use mathlib.Core.Bool.{Bool, true, false, cond, _&&_, true≢false}
 use mathlib.Core.Logic.{_⊎_, inl, inr, ⊎-elim}
 use mathlib.Core.List.{List, [], _∷_}
@@ -22,7 +22,7 @@ use Rattle.script_commands.specs.declared.Command.{Command}
 use Rattle.script_commands.specs.declared.Command.the-variants.{Table, Insert, Delete, Lookup, Malformed}
 use Rattle.script_commands.specs.Commands.{insertedRule, keyOf, commandOf}
 use Rattle.script_commands.specs.Forms.{WellFormed}
-use Rattle.script_commands.specs.FormsLaws.{malformed-law}
+use Rattle.script_commands.specs.FormsLaws.{says, malformed-law, said-formed}
 use Rattle.script_operations.specs.Told.{lettered, changeTold, insertTold, deleteTold, lookedTold}
 use Rattle.script.specs.Told.{tableTold, commandTold}
 use Rattle.refusals.specs.Rows.{Row, rowAt, AnsweredBy}
@@ -96,20 +96,18 @@ table-answered slots =
 pub line-by-rows : (t : List ℕ) (number : ℕ) (line : List ℕ) → AnsweredBy (lineRows t number line) (commandTold t number (commandOf line) .told)
 line-by-rows t number line = pick (commandOf line) refl
   where
-    formed : (c : Command) → commandOf line ≡ c → (c ≡ Malformed → ⊥) → (WellFormed line → ⊥) → ⊥
-    formed c e other none = other (sym e ∙ malformed-law line .1 none)
-
-    first : (c : Command) → commandOf line ≡ c → (c ≡ Malformed → ⊥) → AnsweredBy (commandRows t c) (commandTold t number c .told)
+    first : (c : Command) → commandOf line ≡ c → says c ≡ true → AnsweredBy (commandRows t c) (commandTold t number c .told)
         → AnsweredBy (rowAt Line (WellFormed line → ⊥) number ∷ commandRows t c) (commandTold t number c .told)
-    first c e other rest = passed-first (rowAt Line (WellFormed line → ⊥) number) (commandRows t c) (commandTold t number c .told) (formed c e other) rest
+    first c e said rest =
+        passed-first (rowAt Line (WellFormed line → ⊥) number) (commandRows t c) (commandTold t number c .told) (said-formed line (ap says e ∙ said)) rest
 
     pick : (c : Command) → commandOf line ≡ c → AnsweredBy (rowAt Line (WellFormed line → ⊥) number ∷ commandRows t c) (commandTold t number c .told)
-    pick (Table new) e = first (Table new) e (λ f. let z : _≡_ {A = ℕ} 0 1 = cc in omega arith) (table-answered (new .slots))
+    pick (Table new) e = first (Table new) e refl (table-answered (new .slots))
     pick (Insert insertion) e =
-        first (Insert insertion) e (λ f. let z : _≡_ {A = ℕ} 0 1 = cc in omega arith) (insert-line-answered t (insertedRule insertion))
-    pick (Delete deletion) e = first (Delete deletion) e (λ f. let z : _≡_ {A = ℕ} 0 1 = cc in omega arith) (delete-line-answered t (deletion .id))
+        first (Insert insertion) e refl (insert-line-answered t (insertedRule insertion))
+    pick (Delete deletion) e = first (Delete deletion) e refl (delete-line-answered t (deletion .id))
     pick (Lookup query) e =
-        first (Lookup query) e (λ f. let z : _≡_ {A = ℕ} 0 1 = cc in omega arith)
+        first (Lookup query) e refl
         (subst (AnsweredBy (commandRows t (Lookup query))) (sym (looked-told _)) (lookup-by-rows 2 t (word (keyOf query))))
     pick Malformed e =
         answered (Fail Line number) _ [] (test-row Line (WellFormed line → ⊥) number false (λ f. absurd (true≢false (sym f))) (λ f. malformed-law line .0 e))

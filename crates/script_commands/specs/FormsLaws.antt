@@ -85,7 +85,7 @@ pattern-law field = field-law 128 (symbol 49 true) _ field (λ b. star (eqb b 42
         )
 
 -- a command that a line says
-says : Command → Bool
+abbrev pub says : Command → Bool
 says (Table new) = true
 says (Insert insertion) = true
 says (Delete deletion) = true
@@ -94,26 +94,25 @@ says Malformed = false
 
 -- a choice between a command and a malformed line, where the test holds
 taken : (test : Bool) (command : Command) → cond test command Malformed ≡ Malformed → test ≡ true → says command ≡ true → ⊥
-unfolding says
 taken test command e holds said = true≢false (sym said ∙ ap says (sym (ap (λ (b : Bool). cond b command Malformed) holds) ∙ e))
 
 -- a form is no malformed line
 table-said : (fields : List (List ℕ)) → TableForm fields → ofFields fields ≡ Malformed → ⊥
-unfolding says shortCommand tableCommand letterOf
+unfolding shortCommand tableCommand letterOf
 table-said fields f e = taken (isNumber (f .0)) _ (sym (ap ofFields (f .1)) ∙ e) (number-law (f .0) .1 (f .2)) refl
 
 insert-said : (fields : List (List ℕ)) → InsertForm fields → ofFields fields ≡ Malformed → ⊥
-unfolding says longCommand insertCommand letterOf
+unfolding longCommand insertCommand letterOf
 insert-said fields f e =
     taken (isNumber (f .0) && (isNumber (f .1) && (isPattern (f .2) && isNumber (f .3)))) _ (sym (ap ofFields (f .4)) ∙ e)
     (and-law _ _ .1 (number-law (f .0) .1 (f .5), and-law _ _ .1 (number-law (f .1) .1 (f .6), and-law _ _ .1 (pattern-law (f .2) .1 (f .7), number-law (f .3) .1 (f .8))))) refl
 
 delete-said : (fields : List (List ℕ)) → DeleteForm fields → ofFields fields ≡ Malformed → ⊥
-unfolding says shortCommand deleteCommand letterOf
+unfolding shortCommand deleteCommand letterOf
 delete-said fields f e = taken (isNumber (f .0)) _ (sym (ap ofFields (f .1)) ∙ e) (number-law (f .0) .1 (f .2)) refl
 
 lookup-said : (fields : List (List ℕ)) → LookupForm fields → ofFields fields ≡ Malformed → ⊥
-unfolding says shortCommand lookupCommand letterOf
+unfolding shortCommand lookupCommand letterOf
 lookup-said fields f e = taken (isKey (f .0)) _ (sym (ap ofFields (f .1)) ∙ e) (key-law (f .0) .1 (f .2)) refl
 
 -- and where it cannot hold
@@ -182,3 +181,7 @@ malformed-law line = (
     pick : (WellFormed line → ⊥) → Dec (length line ≤ 256) → cond (leb (length line) 256) (ofFields (parts 32 line)) Malformed ≡ Malformed
     pick none (yes h) = rw (le-leb (length line) 256 h) (fields-none (parts 32 line) (λ f. none (h, f)))
     pick none (no h) = let long : leb (length line) 256 ≡ false = lt-leb (length line) 256 (omega arith) in rw long
+
+-- so a line that says a command has one of them
+pub said-formed : (line : List ℕ) → says (commandOf line) ≡ true → (WellFormed line → ⊥) → ⊥
+said-formed line said none = true≢false (sym said ∙ ap says (malformed-law line .1 none))
