@@ -1,12 +1,12 @@
 -- End theorems: demand 2 from an empty table on: each reached table is sound and holds the rules of its history, and each key is answered by them.
-use mathlib.Core.Path.{_≡_, refl, sym, ap, _∙_, subst}
+use mathlib.Core.Path.{_≡_, sym, ap, _∙_, subst}
 use mathlib.Core.Bool.{true, false, not, true≢false}
 use mathlib.Core.Logic._⊎_.{inl}
 use mathlib.Core.List.{List, [], _∷_}
-use Prim.Native.Nat.{ℕ, zero, suc, _+_, _*_, _≤_, _<_}
+use Prim.Native.Nat.{ℕ, _+_, _*_, _≤_, _<_}
 use native.Mathlib.Decide.{decLe}
 use native.Mathlib.Omega.{arith}
-use lib.ListN.{length, getD, replicate, length-replicate}
+use lib.ListN.{length, getD, length-replicate}
 use lib.Seq.{ext-getD}
 use Rattle.ternary.specs.Pattern.{Words}
 use Rattle.records.specs.Record.{recordWords, slotWords, empty}
@@ -21,16 +21,12 @@ use Rattle.insert_plans.specs.Inserts.{insertAnswer, insertPlan}
 use Rattle.carrying.specs.Calls.{State, afterCalls, callAnswer}
 use Rattle.carrying.specs.CallsLaws.{lent-whole}
 use Rattle.histories.specs.RuleSet.{Change, insert, delete, ruleSet, setReply}
+use Rattle.records.specs.RulesLaws.{zero-word}
 use Rattle.histories.specs.Holding.{Replies, Holding}
 use Rattle.histories.specs.Demand2.{Demand2}
 use Rattle.histories.specs.HoldingLaws.{holding-reply, holding-lookup}
 use Rattle.histories.specs.Demand2Laws.{demand-2-insert, demand-2-delete, demand-2-lent, demand-2-room}
 use Rattle.histories.specs.Histories.{emptyTable, Reached}
-
-zero-word : (n k : ℕ) → _≡_ {A = ℕ} (getD (replicate n 0) k 0) 0
-zero-word zero k = refl
-zero-word (suc n) zero = refl
-zero-word (suc n) (suc k) = zero-word n k
 
 -- an empty table holds no rules
 module _ (w n : ℕ) (some : 1 ≤ n) (few : n ≤ 1024) where

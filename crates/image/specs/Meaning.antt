@@ -23,7 +23,7 @@ use Rattle.records.specs.Order.{slots}
 use Rattle.records.specs.Laws.{empty-law, sound-law}
 use Rattle.records.specs.declared.Check.the-variants.{Pass}
 use Rattle.records.specs.Entries.{SameRecord}
-use Rattle.records.specs.RulesLaws.{length-listed, word-listed}
+use Rattle.records.specs.RulesLaws.{length-listed, word-listed, zero-word}
 use Rattle.records.specs.EntriesLaws.{occupied-cong, ident-occupied}
 use Rattle.records.specs.PutSlotLaws.{put-length, put-here, put-other}
 use Rattle.image.specs.Bytes.{numberAt, Bytes}
@@ -147,11 +147,6 @@ module _ (w : ℕ) (b : List ℕ) (e : ℕ) (t : List ℕ) (below : (k : ℕ) �
           (λ g. let a = rises j k (omega arith) h in omega arith) i r
           ∙ back (omega arith) (omega arith) i r
 
-zero-at : (m i : ℕ) → getD {A = ℕ} (replicate m 0) i 0 ≡ 0
-zero-at zero i = refl
-zero-at (suc m) zero = refl
-zero-at (suc m) (suc i) = zero-at m i
-
 -- two tables of the same number of slots are equal where every slot has the same record
 pub same-table : (w n : ℕ) (t u : List ℕ) → length t ≡ n * recordWords w → length u ≡ n * recordWords w
     → ((i : ℕ) → i < n → SameRecord w (slotWords w t i) (slotWords w u i)) → t ≡ u
@@ -192,7 +187,7 @@ module _ (w : ℕ) (b : List ℕ) (n : ℕ) (s : Sound w b n) where
   unfolding meant
   meant-other slot d j h =
       filled-other w b (rulesIn b) (replicate (n * recordWords w) 0) inside-zeros (rulesIn b) slot (omega arith) d j h
-      ∙ zero-at (n * recordWords w) (slot * recordWords w + j)
+      ∙ zero-word (n * recordWords w) (slot * recordWords w + j)
 
   -- so the slots that hold a rule are the image's
   pub meant-holds : (k : ℕ) → k < rulesIn b → holds w (meant w b (n * recordWords w)) (entrySlot b k) ≡ true

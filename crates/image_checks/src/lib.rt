@@ -85,19 +85,19 @@ fn check_body(image: &[u8], rules: usize, entry: usize) -> Check
     requires { ⌜ (rules ≤ 1024) × (entry < rules) × (imageBytes 2 rules ≤ length (now image)) ⌝ }
     ensures { λ r. ⌜ r ≡ checkBody 2 (now (image .entry)) rules entry ⌝ }
 {
-    let words = record_at(image, rules, entry);
+    let at = 4 + rules * 10 + entry * 40;
     let sound = parts_sound(
-        words[4] / 4294967296,
-        words[5],
-        words[0],
-        words[1],
-        words[2],
-        words[3],
+        number_at(image, 4 + entry * 10, 4),
+        number_at(image, at + 32, 4),
+        word_at(image, at),
+        word_at(image, at + 8),
+        word_at(image, at + 16),
+        word_at(image, at + 24),
     );
     if sound {
         return Check::Pass;
     }
-    Check::Fail(Cause::Image, (4 + rules * 10 + entry * 40) as u32)
+    Check::Fail(Cause::Image, at as u32)
 }
 
 // Each contents entry in turn.

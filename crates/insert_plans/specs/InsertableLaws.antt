@@ -1,6 +1,5 @@
 -- End theorems on the checks of an insert: they pass exactly when it is insertable, and what 10 says when it fails.
--- And in a table in order the rules that may not stand before a rule, of those after it, are the rules that depend on it.
-use mathlib.Core.Path.{_≡_, refl, sym, ap, _∙_, fun-ext, subst}
+use mathlib.Core.Path.{_≡_, sym, ap, _∙_, fun-ext, subst}
 use mathlib.Core.Bool.{true, true≢false}
 use mathlib.Core.Logic.{_↔_}
 use mathlib.Core.List.{List}
@@ -14,14 +13,12 @@ use Rattle.search.specs.Search.{any, Least, AfterLast}
 use Rattle.search.specs.SearchLaws.{any-yes, least-law, after-last-law, after-last-unique}
 use Rattle.ternary.specs.Pattern.{Words}
 use Rattle.records.specs.Record.{word, recordWords, slotWords, empty, soundRule, recordOf}
-use Rattle.records.specs.Order.{slots, sameId, tied, precedes, misordered}
-use Rattle.records.specs.Checks.{orElse, tableChecks, checkOrder}
-use Rattle.records.specs.Laws.{or-else-pass, lowest-pass, pass-law, cond-pass, precedes-law, tied-law, order-law}
+use Rattle.records.specs.Order.{slots, sameId, tied, precedes}
+use Rattle.records.specs.Checks.{orElse, tableChecks}
+use Rattle.records.specs.Laws.{or-else-pass, lowest-pass, pass-law, cond-pass, precedes-law}
 use Rattle.records.specs.declared.Rule.{Rule}
 use Rattle.records.specs.declared.Cause.the-variants.{Rule as RuleCause, Known, Tie, Full, Crossed}
 use Rattle.records.specs.declared.Check.the-variants.{Pass, Fail}
-use Rattle.records.specs.EntriesLaws.{refuted}
-use Rattle.records.specs.InsertsLaws.{precedes-untied}
 use Rattle.neighbours.specs.Neighbours.{checkRule, checkKnown, checkTie, checkFull, checkCrossed, afterA, slotB, newChecks, ruleWords, insertChecks}
 use Rattle.neighbours.specs.NeighboursLaws.{room-at, crossed-yes, crossed-no}
 use Rattle.insert_plans.specs.Insertable.{CrossedAt, Insertable, Uncrossed}
@@ -63,7 +60,7 @@ pub crossed-pass : (w : ℕ) (t : List ℕ) (new : Words) → (checkCrossed w t 
 unfolding checkCrossed
 crossed-pass w t new = (
   λ e i k h l p d. before i k h l p d (ltb-false (suc (slotB w t new)) (afterA w t new) (cond-pass _ _ _ e)) (decLt i k),
-  λ u. sym (crossed-no w t new (afterA w t new) (slotB w t new) refl refl (apart u (decLt (suc (slotB w t new)) (afterA w t new)))),
+  λ u. sym (crossed-no (afterA w t new) (slotB w t new) (apart u (decLt (suc (slotB w t new)) (afterA w t new)))),
 )
   where
     before : (i k : ℕ) → i < slots w t → k < slots w t → precedes w (slotWords w t i) new ≡ true → precedes w new (slotWords w t k) ≡ true
@@ -125,20 +122,9 @@ uncrossed-numbers w t rule p =
     ltb-false (suc (slotB w t new)) (afterA w t new)
     (cond-pass Crossed (afterA w t new - 1) _ (crossed-pass w t new .1 (subst (λ (x : Words). Uncrossed w t x) (sym (rule-words w rule)) (p .uncrossed))))
 
--- document 01: in a table in order no two rules tie, so the rule in y may not stand before that in i exactly when it depends on it
-pub dependant-after : (w : ℕ) (t : List ℕ) → checkOrder w t ≡ Pass → (i y : ℕ) → i < y → y < slots w t
-    → misordered w (slotWords w t y) (slotWords w t i) ≡ precedes w (slotWords w t i) (slotWords w t y)
-dependant-after w t order i y l h =
-    let a = slotWords w t i in
-    let b = slotWords w t y in
-    sym (precedes-untied w a b (refuted (λ e.
-    let s = tied-law w a b .0 e in
-    let o = s .0 in
-    let higher = order-law w t .0 order i y l h (o .0) (o .1) (o .2) (o .3) in
-    omega (arith, s .1))))
-
 -- document 01, check 10: A > B, spot A
 pub crossed-fail : (w : ℕ) (t : List ℕ) (new : Words) (a : ℕ) → (checkCrossed w t new ≡ Fail Crossed a) ↔ CrossedAt w t new a
+unfolding checkCrossed
 crossed-fail w t new a = (λ e. to (decLt (suc (slotB w t new)) (afterA w t new)) e, from)
   where
     first : AfterLast (λ (i : ℕ). precedes w (slotWords w t i) new) (slots w t) (afterA w t new)
@@ -150,7 +136,7 @@ crossed-fail w t new a = (λ e. to (decLt (suc (slotB w t new)) (afterA w t new)
     to : Dec (suc (slotB w t new) < afterA w t new) → checkCrossed w t new ≡ Fail Crossed a → CrossedAt w t new a
     to (yes l) e =
         let f : Fail Crossed (afterA w t new - 1) ≡ Fail Crossed a =
-        crossed-yes w t new (afterA w t new) (slotB w t new) refl refl (omega arith) ∙ e in
+        crossed-yes (afterA w t new) (slotB w t new) (omega arith) ∙ e in
         let at : afterA w t new - 1 ≡ a = cc in
         record {
           within = omega (arith, first .high);
@@ -159,7 +145,7 @@ crossed-fail w t new a = (λ e. to (decLt (suc (slotB w t new)) (afterA w t new)
           dependant = (slotB w t new, omega arith, second .hit (omega (arith, first .high)));
         }
     to (no l) e =
-        absurd (true≢false (cond-pass Crossed a true (sym (crossed-no w t new (afterA w t new) (slotB w t new) refl refl (omega arith) ∙ e))))
+        absurd (true≢false (cond-pass Crossed a true (sym (crossed-no (afterA w t new) (slotB w t new) (omega arith) ∙ e))))
 
     from : CrossedAt w t new a → checkCrossed w t new ≡ Fail Crossed a
     from p =
@@ -171,4 +157,4 @@ crossed-fail w t new a = (λ e. to (decLt (suc (slotB w t new)) (afterA w t new)
         }) in
         let low = stands-by-b w t new (p .dependant .0) (p .dependant .2) in
         let back : afterA w t new - 1 ≡ a = omega arith in
-        sym (crossed-yes w t new (afterA w t new) (slotB w t new) refl refl (omega (arith, p .dependant .1))) ∙ ap (Fail Crossed) back
+        sym (crossed-yes (afterA w t new) (slotB w t new) (omega (arith, p .dependant .1))) ∙ ap (Fail Crossed) back

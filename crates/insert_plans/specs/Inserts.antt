@@ -1,12 +1,15 @@
--- Planning an insert: the words of its plan, its answer and the buffer afterwards; and when a choice in numbers is the layout's.
+-- Planning an insert: the words of its plan, its answer and the buffer afterwards; the choice between A and B, and when a choice in numbers is it.
 -- Document 01, "How a plan is found", on the table's words.
 use mathlib.Core.Path.{_≡_}
 use mathlib.Core.Bool.{cond}
 use mathlib.Core.List.{List}
-use Prim.Native.Nat.{ℕ, _<_}
+use Prim.Native.Nat.{ℕ, _+_, _-_, _<_}
 use lib.ListN.{length}
+use Rattle.ternary.specs.Pattern.{Words}
+use Rattle.layout.specs.Plan.{Choice, choose}
 use Rattle.records.specs.Order.{slots}
 use Rattle.records.specs.Checks.{Told}
+use Rattle.records.specs.Entries.{vacant, entries, entryOccupied, entryMisordered}
 use Rattle.records.specs.Inserts.{insertChoiceOf, planWords}
 use Rattle.records.specs.declared.Rule.{Rule}
 use Rattle.buffers.specs.Buffers.{bufferAnswer, bufferAfter}
@@ -14,7 +17,7 @@ use Rattle.costs.specs.Costs.{costOf}
 use Rattle.planner.specs.Emit.{Stays}
 use Rattle.planner.specs.Choice.{choiceWords}
 use Rattle.planner.specs.declared.PositionChoice.{PositionChoice}
-use Rattle.neighbours.specs.Neighbours.{insertChecks}
+use Rattle.neighbours.specs.Neighbours.{afterA, slotB, insertChecks}
 
 -- the plan's words: the far end of the chain first, the new rule last
 abbrev pub insertWords : ℕ → List ℕ → Rule → List ℕ
@@ -27,8 +30,18 @@ insertAnswer w t rule room = bufferAnswer (insertChecks w t rule) (length (inser
 abbrev pub insertPlan : ℕ → List ℕ → Rule → List ℕ → List ℕ
 insertPlan w t rule plan = bufferAfter (insertChecks w t rule) (insertWords w t rule) plan
 
--- a choice in numbers that is the layout's: its cost is finite, its walk stays among the slots, and its words are the insert's
-pub record Joined (w : ℕ) (t : List ℕ) (rule : Rule) (down up : List ℕ) (choice : PositionChoice) : Type 0 where
+-- the layout's choice between A and B, by A + 1 and B
+unfoldable pub choiceBetween : ℕ → List ℕ → ℕ → ℕ → Choice
+choiceBetween w t after dependant =
+    choose (vacant w) (entryOccupied w) (entryMisordered w) (entries w t) (record { from = after; to = dependant + 1 })
+    (record { from = after - 1; to = dependant })
+
+-- and of a new rule, by its record's words
+abbrev pub recordChoice : ℕ → List ℕ → Words → Choice
+recordChoice w t new = choiceBetween w t (afterA w t new) (slotB w t new)
+
+-- a choice in numbers that is a layout's: its cost is finite, its walk stays among the slots, and its words are the plan's
+pub record Joined (w : ℕ) (t : List ℕ) (planned : Choice) (down up : List ℕ) (choice : PositionChoice) : Type 0 where
   pub finite : choice .cost < slots w t
   pub stays : Stays (costOf (cond (choice .up) up down)) (slots w t) (choice .position) (choice .cost)
-  pub words : choiceWords (costOf (cond (choice .up) up down)) (slots w t) choice ≡ insertWords w t rule
+  pub words : choiceWords (costOf (cond (choice .up) up down)) (slots w t) choice ≡ planWords planned

@@ -2,40 +2,42 @@
 use mathlib.Core.Path.{_≡_, refl, sym, ap, ap₂, _∙_, subst}
 use mathlib.Core.Bool.{Bool, true, false, cond}
 use mathlib.Core.List.{List, [], _∷_, _++_}
-use Prim.Native.Nat.{ℕ, suc, _+_, _-_, _*_, _≤_, _<_}
+use Prim.Native.Nat.{ℕ, suc, _+_, _-_, _≤_, _<_}
 use native.Mathlib.Omega.{arith}
-use lib.ListN.{length, getD, drop}
+use lib.ListN.{length, drop}
 use Rattle.search.specs.Search.{least, afterLast}
 use Rattle.ternary.specs.Pattern.{Words}
 use Rattle.layout.specs.Plan.{Choice, Range, afterPreceding, firstDependant, rangeDown, rangeUp, choose, insertChoice}
 use Rattle.layout.specs.Insert.{LeastPlan}
-use Rattle.records.specs.Record.{slotWords, recordOf, recordWords, listed}
+use Rattle.records.specs.Record.{slotWords, soundRule, recordOf, listed}
 use Rattle.records.specs.Order.{slots, precedes}
-use Rattle.records.specs.Checks.{success, refusal, checkRecords}
-use Rattle.records.specs.Laws.{sound-law, slot-checks-law, table-checks-law, table-checks-length}
+use Rattle.records.specs.Checks.{success, refusal, tableChecks}
+use Rattle.records.specs.Laws.{passed, sound-law, table-checks-law}
 use Rattle.records.specs.Entries.{vacant, entries, entryOccupied, entrySame, entryMisordered}
-use Rattle.records.specs.Inserts.{insertChoiceOf}
+use Rattle.records.specs.Inserts.{insertChoiceOf, planWords}
 use Rattle.records.specs.declared.Rule.{Rule}
 use Rattle.records.specs.declared.Cause.the-variants.{Short}
-use Rattle.records.specs.declared.Check.the-variants.{Pass}
+use Rattle.records.specs.declared.Check.{Check}
+use Rattle.records.specs.declared.Check.the-variants.{Pass, Fail}
 use Rattle.records.specs.EntriesLaws.{entries-length}
 use Rattle.records.specs.InsertsLaws.{newMisordered, misorderedNew, uncrossed-apart, insert-words, after-preceding-precedes, first-dependant-precedes}
 use Rattle.records.specs.InsertsLaws.{after-preceding-slots, first-dependant-slots}
 use Rattle.buffers.specs.Buffers.{bufferAnswer, bufferAfter}
 use Rattle.buffers.specs.BuffersLaws.{buffer-short, buffer-written}
-use Rattle.costs.specs.Costs.{costOf, SolvedFrom}
+use Rattle.costs.specs.Costs.{costOf}
 use Rattle.planner.specs.Choice.{choiceOf, choiceWords}
 use Rattle.planner.specs.declared.PositionChoice.{PositionChoice}
 use Rattle.planner.specs.Agree.{Agrees, Emits}
 use Rattle.planner.specs.ChoiceLaws.{choice-words-length}
 use Rattle.planner.specs.AgreeLaws.{plan-law, numbers-law}
-use Rattle.neighbours.specs.Neighbours.{afterA, slotB, ruleWords, insertChecks}
+use Rattle.neighbours.specs.Neighbours.{afterA, slotB, newChecks, ruleWords, insertChecks}
+use Rattle.neighbours.specs.NeighboursLaws.{rule-accepted}
 use Rattle.windows.specs.Windows.{endAt}
 use Rattle.insert_plans.specs.Insertable.{Insertable}
 use Rattle.insert_plans.specs.Joined.{Costed}
 use Rattle.insert_plans.specs.InsertableLaws.{insertable-law, rule-words, uncrossed-numbers}
 use Rattle.insert_plans.specs.JoinedLaws.{ends-listed, ends-down as ends-down-law, ends-up as ends-up-law}
-use Rattle.insert_plans.specs.Inserts.{Joined}
+use Rattle.insert_plans.specs.Inserts.{insertWords, choiceBetween, recordChoice, Joined}
 
 module _ (w : ℕ) (t : List ℕ) (rule : Rule) (p : Insertable w t rule) where
   -- A + 1 and B of the table are those of its layout
@@ -66,28 +68,20 @@ module _ (w : ℕ) (t : List ℕ) (rule : Rule) (p : Insertable w t rule) where
       let checks = table-checks-law w t .0 (p .table) in
       insert-words w t rule (checks .1) (checks .2) (p .new) (sound-law w _ _ _ _ .0 (p .sound) .0) small (e .0) (e .1) (e .2) apart
 
-  -- the planner's choice, from costs that solve the equations of the table's window ends, is the layout's
-  pub numbers-agree : (ends-down ends-up down up : List ℕ)
-      → ((i : ℕ) → i < slots w t → getD ends-down i 0 ≡ endAt w t false i) → ((i : ℕ) → i < slots w t → getD ends-up i 0 ≡ endAt w t true i)
-      → SolvedFrom ends-down (slots w t) 0 (costOf down) → SolvedFrom ends-up (slots w t) 0 (costOf up)
-      → (a b : ℕ) → a ≡ afterA w t (ruleWords w rule) → b ≡ slotB w t (ruleWords w rule)
-      → Agrees (slots w t) (costOf down) (costOf up)
-      (choiceOf (costOf down) (costOf up) (slots w t) (record { from = a; to = b + 1 }) (record { from = a - 1; to = b })) (insertChoiceOf w t rule)
-  unfolding insertChoice
-  numbers-agree ends-down ends-up down up e f g h a b ea eb =
-      let x = ea ∙ after-is in
-      let y = eb ∙ dependant-is in
+  -- the choice between A and B is the layout's
+  pub between-is : recordChoice w t (ruleWords w rule) ≡ insertChoiceOf w t rule
+  unfolding insertChoice choiceBetween
+  between-is =
+      let x = after-is in
+      let y = dependant-is in
+      let a = afterA w t (ruleWords w rule) in
+      let b = slotB w t (ruleWords w rule) in
       let z : b + 1 ≡ suc (firstDependant (vacant w) (entryMisordered w) (entries w t) (recordOf w rule)) = omega arith in
       let below : _≡_ {A = Range} (record { from = a; to = b + 1 }) (rangeDown (vacant w) (entryMisordered w) (entries w t) (recordOf w rule)) =
       λ k. record { from = x k; to = z k } in
       let above : _≡_ {A = Range} (record { from = a - 1; to = b }) (rangeUp (vacant w) (entryMisordered w) (entries w t) (recordOf w rule)) =
       λ k. record { from = x k - 1; to = y k } in
-      subst
-      (λ (c : Choice). Agrees (slots w t) (costOf down) (costOf up)
-      (choiceOf (costOf down) (costOf up) (slots w t) (record { from = a; to = b + 1 }) (record { from = a - 1; to = b })) c)
-      (ap₂ (choose (vacant w) (entryOccupied w) (entryMisordered w) (entries w t)) below above)
-      (numbers-law (vacant w) (entryOccupied w) (entryMisordered w) (entries w t) (slots w t) (entries-length w t) ends-down ends-up (costOf down)
-      (costOf up) (ends-down-law w t ends-down e) (ends-up-law w t ends-up f) g h (record { from = a; to = b + 1 }) (record { from = a - 1; to = b }))
+      ap₂ (choose (vacant w) (entryOccupied w) (entryMisordered w) (entries w t)) below above
 
 -- what the planner writes of a choice: nothing where the buffer is too short, ..
 pub write-short : (c : ℕ → ℕ) (n : ℕ) (choice : PositionChoice) (plan : List ℕ) → length plan < choice .cost + 1
@@ -115,36 +109,61 @@ cond-costs : (b : Bool) (u d : List ℕ) → cond b (costOf u) (costOf d) ≡ co
 cond-costs true u d = refl
 cond-costs false u d = refl
 
-pub joined-words : (w : ℕ) (t : List ℕ) (rule : Rule) → Insertable w t rule → rule .action < 4294967296 → (down up : List ℕ) (choice : PositionChoice)
-    → Agrees (slots w t) (costOf down) (costOf up) choice (insertChoiceOf w t rule) → Joined w t rule down up choice
-joined-words w t rule p small down up choice agrees =
-    let plan = insert-least w t rule p small in
-    let n = entries-length w t in
-    let low : insertChoiceOf w t rule .cost < slots w t = omega (arith, plan .short, plan .valid .count) in
-    let emits : Emits (costOf (cond (choice .up) up down)) (slots w t) choice (insertChoiceOf w t rule) =
-    subst (λ (c : ℕ → ℕ). Emits c (slots w t) choice (insertChoiceOf w t rule)) (cond-costs (choice .up) up down) (agrees .finite low) in
-    record {
-      finite = omega (arith, agrees .cost);
-      stays = emits .stays;
-      words = plan-law emits;
-    }
-
--- costs of both directions and the neighbours of the rule are all that a choice needs
-pub choice-joined : (w : ℕ) (t : List ℕ) (rule : Rule) → insertChecks w t rule ≡ Pass → rule .action < 4294967296 → (down up : List ℕ)
+-- where the choice between two numbers has a finite cost, costs of both directions are all that the planner needs to find it
+pub choice-joined : (w : ℕ) (t : List ℕ) (after dependant : ℕ) → choiceBetween w t after dependant .cost < slots w t → (down up : List ℕ)
     → Costed w t false down → Costed w t true up → (choice : PositionChoice)
-    → choice ≡ choiceOf (costOf down) (costOf up) (slots w t)
-    (record { from = afterA w t (ruleWords w rule); to = slotB w t (ruleWords w rule) + 1 })
-    (record { from = afterA w t (ruleWords w rule) - 1; to = slotB w t (ruleWords w rule) })
-    → Joined w t rule down up choice
-choice-joined w t rule e small down up g h choice f =
-    let p = insertable-law w t rule .0 e in
-    joined-words w t rule p small down up choice
-    (subst (λ (c : PositionChoice). Agrees (slots w t) (costOf down) (costOf up) c (insertChoiceOf w t rule)) (sym f)
-    (numbers-agree w t rule p (listed (slots w t) (endAt w t false)) (listed (slots w t) (endAt w t true)) down up (ends-listed w t false)
-    (ends-listed w t true) g h (afterA w t (ruleWords w rule)) (slotB w t (ruleWords w rule)) refl refl))
+    → choice ≡ choiceOf (costOf down) (costOf up) (slots w t) (record { from = after; to = dependant + 1 }) (record { from = after - 1; to = dependant })
+    → Joined w t (choiceBetween w t after dependant) down up choice
+unfolding choiceBetween
+choice-joined w t after dependant low down up g h choice f = record {
+  finite = omega (arith, agrees .cost);
+  stays = emits .stays;
+  words = plan-law emits;
+}
+  where
+    agrees : Agrees (slots w t) (costOf down) (costOf up) choice (choiceBetween w t after dependant)
+    agrees =
+        subst (λ (c : PositionChoice). Agrees (slots w t) (costOf down) (costOf up) c (choiceBetween w t after dependant)) (sym f)
+        (numbers-law (vacant w) (entryOccupied w) (entryMisordered w) (entries w t) (slots w t) (entries-length w t) (listed (slots w t) (endAt w t false))
+        (listed (slots w t) (endAt w t true)) (costOf down) (costOf up) (ends-down-law w t (listed (slots w t) (endAt w t false)) (ends-listed w t false))
+        (ends-up-law w t (listed (slots w t) (endAt w t true)) (ends-listed w t true)) g h (record { from = after; to = dependant + 1 })
+        (record { from = after - 1; to = dependant }))
 
-pub insert-length : (w : ℕ) (t : List ℕ) (rule : Rule) → insertChecks w t rule ≡ Pass → length t ≤ 1024 * recordWords w
-insert-length w t rule e = table-checks-length w t (insertable-law w t rule .0 e .table)
+    emits : Emits (costOf (cond (choice .up) up down)) (slots w t) choice (choiceBetween w t after dependant)
+    emits =
+        subst (λ (c : ℕ → ℕ). Emits c (slots w t) choice (choiceBetween w t after dependant)) (cond-costs (choice .up) up down) (agrees .finite low)
 
-pub insert-records : (w : ℕ) (t : List ℕ) (rule : Rule) → insertChecks w t rule ≡ Pass → checkRecords w t ≡ Pass
-insert-records w t rule e = slot-checks-law w t .0 (table-checks-law w t .0 (insertable-law w t rule .0 e .table) .0) .1
+-- where a check fails the contents do not matter
+buffer-same : (check : Check) (x y buffer : List ℕ) → (check ≡ Pass → x ≡ y)
+    → (bufferAnswer check (length x) (length buffer) ≡ bufferAnswer check (length y) (length buffer))
+    × (bufferAfter check x buffer ≡ bufferAfter check y buffer)
+unfolding bufferAnswer bufferAfter
+buffer-same Pass x y buffer e =
+    (ap (λ (l : List ℕ). bufferAnswer Pass (length l) (length buffer)) (e refl), ap (λ (l : List ℕ). bufferAfter Pass l buffer) (e refl))
+buffer-same (Fail cause spot) x y buffer e = (refl, refl)
+
+-- a table that passes checks 1 to 4 and a sound rule: what is left of an insert's checks, its cost where they pass, and its answer and buffer
+module _ (w : ℕ) (t : List ℕ) (rule : Rule) (checks : tableChecks w t ≡ Pass) (sound : soundRule w rule ≡ true) where
+  left-checks : newChecks w t (ruleWords w rule) ≡ insertChecks w t rule
+  unfolding insertChecks
+  left-checks = passed refl checks (rule-accepted w rule sound refl)
+
+  insertable : newChecks w t (ruleWords w rule) ≡ Pass → Insertable w t rule
+  insertable e = insertable-law w t rule .0 (sym left-checks ∙ e)
+
+  pub insert-finite : rule .action < 4294967296 → newChecks w t (ruleWords w rule) ≡ Pass → recordChoice w t (ruleWords w rule) .cost < slots w t
+  insert-finite small e =
+      let plan = insert-least w t rule (insertable e) small in
+      omega (arith, plan .short, plan .valid .count, entries-length w t, ap (λ (c : Choice). c .cost) (between-is w t rule (insertable e)))
+
+  pub insert-answered : (plan : List ℕ)
+      → (bufferAnswer (newChecks w t (ruleWords w rule)) (length (planWords (recordChoice w t (ruleWords w rule)))) (length plan)
+      ≡ bufferAnswer (insertChecks w t rule) (length (insertWords w t rule)) (length plan))
+      × (bufferAfter (newChecks w t (ruleWords w rule)) (planWords (recordChoice w t (ruleWords w rule))) plan
+      ≡ bufferAfter (insertChecks w t rule) (insertWords w t rule) plan)
+  insert-answered plan =
+      let same = buffer-same (newChecks w t (ruleWords w rule)) (planWords (recordChoice w t (ruleWords w rule))) (insertWords w t rule) plan
+      (λ e. ap planWords (between-is w t rule (insertable e))) in (
+        same .0 ∙ ap (λ (k : Check). bufferAnswer k (length (insertWords w t rule)) (length plan)) left-checks,
+        same .1 ∙ ap (λ (k : Check). bufferAfter k (insertWords w t rule) plan) left-checks,
+      )

@@ -9,6 +9,7 @@ pub mod Insertable
 pub mod InsertableLaws
 pub mod Nearest
 pub mod NearestLaws
+pub mod ListedLaws
 pub mod PlanFound
 pub mod PlanFoundLaws
 pub mod Demand3

@@ -20,8 +20,8 @@ use Rattle.records.specs.Laws.{table-checks-law}
 use Rattle.records.specs.Entries.{vacant, entries, entryOccupied, entryMisordered}
 use Rattle.records.specs.declared.Check.the-variants.{Pass}
 use Rattle.records.specs.EntriesLaws.{entries-length, occupied-at, misordered-at}
+use Rattle.windows.specs.ListedLaws.{dependant-after}
 use Rattle.insert_plans.specs.Nearest.{dependsAt, precedesAt, InReach, CostOfReach}
-use Rattle.insert_plans.specs.InsertableLaws.{dependant-after}
 
 -- along a direction in which the rules that are misplaced are those that bound
 module _ (w : ℕ) (t : List ℕ) (toward : ℕ → ℕ → Type 0) (misplaced : List ℕ → List ℕ → Bool) (bounds : ℕ → ℕ → Bool)

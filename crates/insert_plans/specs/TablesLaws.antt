@@ -28,7 +28,7 @@ use Rattle.records.specs.RulesLaws.{listed-cong}
 use Rattle.records.specs.EntriesLaws.{entry-laws, refuted, occupied-cong, misordered-cong, listed-same}
 use Rattle.records.specs.InsertsLaws.{overlapping-turned, rule-same, rule-tied}
 use Rattle.buffers.specs.BuffersLaws.{buffer-refused, buffer-short, buffer-written}
-use Rattle.neighbours.specs.Neighbours.{checkKnown, checkTie, checkFull, afterA, slotB, newChecks, ruleWords, insertChecks}
+use Rattle.neighbours.specs.Neighbours.{checkKnown, checkTie, checkFull, checkCrossed, afterA, slotB, newChecks, ruleWords, insertChecks}
 use Rattle.neighbours.specs.NeighboursLaws.{after-a-high, crossed-no, rule-accepted, room-none}
 use Rattle.delete_plans.specs.Deletes.{hasId, slotOfId, deleteChecks, deleteWords}
 use Rattle.delete_plans.specs.DeletesLaws.{id-accepted, id-absent}
@@ -100,11 +100,11 @@ unfolding checkTie
 vacant-tie x = sym (lowest-none Tie _ 1 (λ i h. refuted (λ e. true≢false (sym (tied-law 2 _ x .0 e .0 .0) ∙ vacant-slot i h))))
 
 vacant-checks : (rule : Rule) → soundRule 2 rule ≡ true → Pass ≡ insertChecks 2 vacancy rule
-unfolding insertChecks newChecks
+unfolding insertChecks newChecks checkCrossed
 vacant-checks rule sound =
     let x = ruleWords 2 rule in
     passed refl vacant-table (rule-accepted 2 rule sound (passed refl (vacant-known x) (passed refl (vacant-tie x) (passed refl vacant-room
-    (crossed-no 2 vacancy x (afterA 2 vacancy x) (slotB 2 vacancy x) refl refl (omega (arith, after-a-high 2 vacancy x)))))))
+    (crossed-no (afterA 2 vacancy x) (slotB 2 vacancy x) (omega (arith, after-a-high 2 vacancy x)))))))
 
 -- no rule precedes the new one, and none depends on it
 vacant-words : (rule : Rule) → insertWords 2 vacancy rule ≡ new 0 ∷ []

@@ -4,7 +4,8 @@ use buffers::PlanAnswer;
 use buffers::PlanInfo;
 use costs::fill_costs;
 use neighbours::checks::after_a;
-use neighbours::checks::check_insert;
+use neighbours::checks::check_crossed;
+use neighbours::checks::check_new;
 use neighbours::checks::slot_b;
 use planner::PositionChoice;
 use planner::SlotRange;
@@ -14,32 +15,36 @@ use records::Cause;
 use records::Check;
 use records::Rule;
 use slots::rules::record_of;
+use slots::rules::rule_sound;
+use table_checks::check_listed;
 use windows::fill_ends;
 ghost use mathlib.Core.Path.{_≡_};
-ghost use mathlib.Core.Bool.{true, false, cond};
-ghost use Prim.Native.Nat.{_+_, _-_, _≤_, _<_, _/_};
+ghost use mathlib.Core.Bool.{cond};
+ghost use Prim.Native.Nat.{_+_, _-_, _*_, _≤_, _<_, _/_};
 ghost use lib.ListN.{length};
 ghost use Rattle.records.specs.Record.{slotWords};
-ghost use Rattle.records.specs.Checks.{checkRecords};
+ghost use Rattle.records.specs.Checks.{tableChecks};
+ghost use Rattle.records.specs.Inserts.{planWords};
 ghost use Rattle.records.specs.declared.Check.the-variants.{Pass};
 ghost use Rattle.buffers.specs.Buffers.{planTold, bufferAnswer, bufferAfter};
+ghost use Rattle.neighbour_lists.specs.Lists.{Listed};
 ghost use Rattle.costs.specs.Costs.{costOf};
 ghost use Rattle.planner.specs.Emit.{Stays};
 ghost use Rattle.planner.specs.Choice.{choiceOf, choiceWords};
-ghost use Rattle.neighbours.specs.Neighbours.{afterA, slotB, insertChecks};
+ghost use Rattle.neighbours.specs.Neighbours.{newChecks};
 ghost use Rattle.insert_plans.specs.Joined.{Costed};
 ghost use Rattle.insert_plans.specs.Insertable.{Insertable};
 ghost use Rattle.insert_plans.specs.Demand3.{Demand3};
-ghost use Rattle.insert_plans.specs.Inserts.{insertWords, insertAnswer, insertPlan};
+ghost use Rattle.insert_plans.specs.Inserts.{choiceBetween, recordChoice, insertAnswer, insertPlan};
 
 // The costs of all positions along one direction, with the ends of their windows.
-fn costs_along(table: &[u64], up: bool, ends: &mut [u16], costs: &mut [u16])
-    requires { ⌜ (length (now table) ≤ 6144) × (length (now table) / 6 ≤ length (now ends)) × (length (now table) / 6 ≤ length (now costs)) ⌝ }
-    requires { ⌜ checkRecords 2 (now table) ≡ Pass ⌝ }
+fn costs_along(table: &[u64], near: &[u16], up: bool, ends: &mut [u16], costs: &mut [u16])
+    requires { ⌜ (length (now table) ≤ 6144) × (length (now table) / 6 ≤ length (now ends)) × (length (now table) / 6 ≤ length (now costs)) × (2 * (length (now table) / 6) ≤ length (now near)) ⌝ }
+    requires { ⌜ (tableChecks 2 (now table) ≡ Pass) × Listed 2 (now table) (now near) ⌝ }
     ensures { λ _. ⌜ Costed 2 (now (table .entry)) up (now (costs .exit)) ⌝ }
 {
     let slots = table.len() / 6;
-    fill_ends(table, up, ends);
+    fill_ends(table, near, up, ends);
     fill_costs(ends, costs, slots);
 }
 
@@ -50,16 +55,18 @@ fn slot_before(after: usize) -> usize
     if 0 < after { after - 1 } else { 0 }
 }
 
-// The choice within the ranges A + 1 to B going down and A to B − 1 going up.
-fn choose_insert(table: &[u64], new: &[u64], down: &[u16], up: &[u16]) -> PositionChoice
-    requires { ⌜ (length (now table) ≤ 6144) × (length (now new) ≡ 6) ⌝ }
-    requires { ⌜ (length (now table) / 6 ≤ length (now down)) × (length (now table) / 6 ≤ length (now up)) ⌝ }
-    ensures { λ r. ⌜ r ≡ choiceOf (costOf (now (down .entry))) (costOf (now (up .entry))) (length (now (table .entry)) / 6)
-        (record { from = afterA 2 (now (table .entry)) (slotWords 2 (now (new .entry)) 0); to = slotB 2 (now (table .entry)) (slotWords 2 (now (new .entry)) 0) + 1 })
-        (record { from = afterA 2 (now (table .entry)) (slotWords 2 (now (new .entry)) 0) - 1; to = slotB 2 (now (table .entry)) (slotWords 2 (now (new .entry)) 0) }) ⌝ }
+// The choice within the ranges A + 1 to B going down and A to B − 1 going up, by A + 1 and B.
+fn choose_insert(
+    slots: usize,
+    after: usize,
+    dependant: usize,
+    down: &[u16],
+    up: &[u16],
+) -> PositionChoice
+    requires { ⌜ (slots ≤ 1024) × (dependant ≤ slots) × (slots ≤ length (now down)) × (slots ≤ length (now up)) ⌝ }
+    ensures { λ r. ⌜ r ≡ choiceOf (costOf (now (down .entry))) (costOf (now (up .entry))) slots
+        (record { from = after; to = dependant + 1 }) (record { from = after - 1; to = dependant }) ⌝ }
 {
-    let after = after_a(table, new);
-    let dependant = slot_b(table, new);
     let below = SlotRange {
         from: after,
         to: dependant + 1,
@@ -68,7 +75,7 @@ fn choose_insert(table: &[u64], new: &[u64], down: &[u16], up: &[u16]) -> Positi
         from: slot_before(after),
         to: dependant,
     };
-    choose(down, up, table.len() / 6, below, above)
+    choose(down, up, slots, below, above)
 }
 
 // The words of a choice, where the buffer has room for them.
@@ -100,47 +107,93 @@ fn write_choice(
     })
 }
 
-// The plan of an insert that passes checks 1 to 10, from the costs of both directions.
-fn plan_priced(table: &[u64], rule: Rule, down: &[u16], up: &[u16], plan: &mut [u32]) -> PlanAnswer
-    requires { ⌜ insertChecks 2 (now table) rule ≡ Pass ⌝ }
-    requires { ⌜ (Costed 2 (now table) false (now down)) × (1024 ≤ length (now down)) × (Costed 2 (now table) true (now up)) × (1024 ≤ length (now up)) ⌝ }
-    ensures { λ r. ⌜ planTold r ≡ bufferAnswer Pass (length (insertWords 2 (now (table .entry)) rule)) (length (now (plan .entry))) ⌝ }
-    ensures { λ _. ⌜ now (plan .exit) ≡ bufferAfter Pass (insertWords 2 (now (table .entry)) rule) (now (plan .entry)) ⌝ }
-{
-    let new = record_of(rule);
-    let choice = choose_insert(table, &new, down, up);
-    write_choice(down, up, table.len() / 6, choice, plan)
-}
-
-// The costs of both directions into lent working arrays, and the plan from them.
+// The costs of both directions into lent working arrays, the choice between them, and its words.
 fn plan_with(
     table: &[u64],
-    rule: Rule,
+    near: &[u16],
+    after: usize,
+    dependant: usize,
     ends: &mut [u16],
     down: &mut [u16],
     up: &mut [u16],
     plan: &mut [u32],
 ) -> PlanAnswer
-    requires { ⌜ insertChecks 2 (now table) rule ≡ Pass ⌝ }
+    requires { ⌜ (tableChecks 2 (now table) ≡ Pass) × (2048 ≤ length (now near)) × Listed 2 (now table) (now near) ⌝ }
+    requires { ⌜ (dependant ≤ length (now table) / 6) × (choiceBetween 2 (now table) after dependant .cost < length (now table) / 6) ⌝ }
     requires { ⌜ (1024 ≤ length (now ends)) × (1024 ≤ length (now down)) × (1024 ≤ length (now up)) ⌝ }
-    ensures { λ r. ⌜ planTold r ≡ bufferAnswer Pass (length (insertWords 2 (now (table .entry)) rule)) (length (now (plan .entry))) ⌝ }
-    ensures { λ _. ⌜ now (plan .exit) ≡ bufferAfter Pass (insertWords 2 (now (table .entry)) rule) (now (plan .entry)) ⌝ }
+    ensures { λ r. ⌜ planTold r ≡ bufferAnswer Pass (length (planWords (choiceBetween 2 (now (table .entry)) after dependant))) (length (now (plan .entry))) ⌝ }
+    ensures { λ _. ⌜ now (plan .exit) ≡ bufferAfter Pass (planWords (choiceBetween 2 (now (table .entry)) after dependant)) (now (plan .entry)) ⌝ }
 {
-    costs_along(table, false, ends, down);
-    costs_along(table, true, ends, up);
-    plan_priced(table, rule, down, up, plan)
+    let slots = table.len() / 6;
+    costs_along(table, near, false, ends, down);
+    costs_along(table, near, true, ends, up);
+    let choice = choose_insert(slots, after, dependant, down, up);
+    write_choice(down, up, slots, choice, plan)
 }
 
-// The plan of an insert that passes checks 1 to 10, with working arrays of its own.
-fn plan_checked(table: &[u64], rule: Rule, plan: &mut [u32]) -> PlanAnswer
-    requires { ⌜ insertChecks 2 (now table) rule ≡ Pass ⌝ }
-    ensures { λ r. ⌜ planTold r ≡ bufferAnswer Pass (length (insertWords 2 (now (table .entry)) rule)) (length (now (plan .entry))) ⌝ }
-    ensures { λ _. ⌜ now (plan .exit) ≡ bufferAfter Pass (insertWords 2 (now (table .entry)) rule) (now (plan .entry)) ⌝ }
+// The plan of an insert between A and B that passes checks 1 to 10, with working arrays of its own.
+fn plan_between(
+    table: &[u64],
+    near: &[u16],
+    after: usize,
+    dependant: usize,
+    plan: &mut [u32],
+) -> PlanAnswer
+    requires { ⌜ (tableChecks 2 (now table) ≡ Pass) × (2048 ≤ length (now near)) × Listed 2 (now table) (now near) ⌝ }
+    requires { ⌜ (dependant ≤ length (now table) / 6) × (choiceBetween 2 (now table) after dependant .cost < length (now table) / 6) ⌝ }
+    ensures { λ r. ⌜ planTold r ≡ bufferAnswer Pass (length (planWords (choiceBetween 2 (now (table .entry)) after dependant))) (length (now (plan .entry))) ⌝ }
+    ensures { λ _. ⌜ now (plan .exit) ≡ bufferAfter Pass (planWords (choiceBetween 2 (now (table .entry)) after dependant)) (now (plan .entry)) ⌝ }
 {
     let mut ends = [0u16; 1024];
     let mut down = [0u16; 1024];
     let mut up = [0u16; 1024];
-    plan_with(table, rule, &mut ends, &mut down, &mut up, plan)
+    plan_with(
+        table,
+        near,
+        after,
+        dependant,
+        &mut ends,
+        &mut down,
+        &mut up,
+        plan,
+    )
+}
+
+// The plan of a sound rule's insert into a table that passes checks 1 to 4, by its neighbour list.
+fn plan_record(table: &[u64], near: &[u16], new: &[u64], plan: &mut [u32]) -> PlanAnswer
+    requires { ⌜ (tableChecks 2 (now table) ≡ Pass) × (2048 ≤ length (now near)) × Listed 2 (now table) (now near) ⌝ }
+    requires { ⌜ length (now new) ≡ 6 ⌝ }
+    requires { ⌜ (newChecks 2 (now table) (slotWords 2 (now new) 0) ≡ Pass
+        → recordChoice 2 (now table) (slotWords 2 (now new) 0) .cost < length (now table) / 6) ⌝ }
+    ensures { λ r. ⌜ planTold r ≡ bufferAnswer (newChecks 2 (now (table .entry)) (slotWords 2 (now (new .entry)) 0))
+        (length (planWords (recordChoice 2 (now (table .entry)) (slotWords 2 (now (new .entry)) 0)))) (length (now (plan .entry))) ⌝ }
+    ensures { λ _. ⌜ now (plan .exit) ≡ bufferAfter (newChecks 2 (now (table .entry)) (slotWords 2 (now (new .entry)) 0))
+        (planWords (recordChoice 2 (now (table .entry)) (slotWords 2 (now (new .entry)) 0))) (now (plan .entry)) ⌝ }
+{
+    let check = check_new(table, new);
+    if let Check::Fail(cause, spot) = check {
+        return PlanAnswer::Refused(cause, spot);
+    }
+    let after = after_a(table, new);
+    let dependant = slot_b(table, new);
+    let crossed = check_crossed(after, dependant);
+    if let Check::Fail(cause, spot) = crossed {
+        return PlanAnswer::Refused(cause, spot);
+    }
+    plan_between(table, near, after, dependant, plan)
+}
+
+// The plan of an insert into a table that passes checks 1 to 4, by its neighbour list.
+fn plan_listed(table: &[u64], near: &[u16], rule: Rule, plan: &mut [u32]) -> PlanAnswer
+    requires { ⌜ (tableChecks 2 (now table) ≡ Pass) × (2048 ≤ length (now near)) × Listed 2 (now table) (now near) ⌝ }
+    ensures { λ r. ⌜ planTold r ≡ insertAnswer 2 (now (table .entry)) rule (length (now (plan .entry))) ⌝ }
+    ensures { λ _. ⌜ now (plan .exit) ≡ insertPlan 2 (now (table .entry)) rule (now (plan .entry)) ⌝ }
+{
+    if !rule_sound(rule) {
+        return PlanAnswer::Refused(Cause::Rule, 0);
+    }
+    let new = record_of(rule);
+    plan_record(table, near, &new, plan)
 }
 
 // The shortest plan of an insert, or a refusal that leaves the buffer as it was.
@@ -150,9 +203,10 @@ pub fn plan_insert(table: &[u64], rule: Rule, plan: &mut [u32]) -> PlanAnswer
     ensures shortest { λ r. ⌜ (Insertable 2 (now (table .entry)) rule
         → Demand3 2 (now (table .entry)) rule (planTold r) (now (plan .entry)) (now (plan .exit))) ⌝ }
 {
-    let check = check_insert(table, rule);
+    let mut near = [0u16; 2048];
+    let check = check_listed(table, &mut near);
     if let Check::Fail(cause, spot) = check {
         return PlanAnswer::Refused(cause, spot);
     }
-    plan_checked(table, rule, plan)
+    plan_listed(table, &near, rule, plan)
 }

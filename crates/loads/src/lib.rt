@@ -6,8 +6,7 @@ use image_checks::check_fields;
 use image_checks::record_at;
 use records::Check;
 use slots::put_record;
-use table_checks::check_order;
-use table_checks::check_twice;
+use table_checks::check_pairs;
 ghost use mathlib.Core.Path.{_≡_};
 ghost use Prim.Native.Nat.{ℕ, _/_, _≤_, _<_};
 ghost use lib.ListN.{length, replicate};
@@ -37,11 +36,8 @@ fn check_meant(table: &[u64]) -> Check
     requires { ⌜ checkRecords 2 (now table) ≡ Pass ⌝ }
     ensures { λ r. ⌜ r ≡ orElse (checkTwice 2 (now (table .entry))) (checkOrder 2 (now (table .entry))) ⌝ }
 {
-    let twice = check_twice(table);
-    if let Check::Fail(cause, spot) = twice {
-        return Check::Fail(cause, spot);
-    }
-    check_order(table)
+    let mut near = [0u16; 2048];
+    check_pairs(table, &mut near)
 }
 
 // Writes a table's words over another's.

@@ -38,9 +38,12 @@ afterA w t new = afterLast (λ (i : ℕ). precedes w (slotWords w t i) new) (slo
 unfoldable pub slotB : ℕ → List ℕ → Words → ℕ
 slotB w t new = least (λ (i : ℕ). precedes w new (slotWords w t i)) (slots w t) 0
 
--- 10: A > B, spot A
+-- 10: A > B, spot A; by A + 1 and B, and of a rule
+abbrev pub crossedBy : ℕ → ℕ → Check
+crossedBy after dependant = cond (ltb (suc dependant) after) (Fail Crossed (after - 1)) Pass
+
 unfoldable pub checkCrossed : ℕ → List ℕ → Words → Check
-checkCrossed w t new = cond (ltb (suc (slotB w t new)) (afterA w t new)) (Fail Crossed (afterA w t new - 1)) Pass
+checkCrossed w t new = crossedBy (afterA w t new) (slotB w t new)
 
 -- checks 6 and 8 to 10, in number order
 unfoldable pub newChecks : ℕ → List ℕ → Words → Check

@@ -1,5 +1,5 @@
 -- Laws on a new rule's checks and neighbours: the searches of the code, and how each check ends.
-use mathlib.Core.Path.{_≡_, ap}
+use mathlib.Core.Path.{_≡_, refl}
 use mathlib.Core.Bool.{true, false}
 use mathlib.Core.List.{List}
 use Prim.Native.Nat.{ℕ, suc, _+_, _-_, _≤_, _<_}
@@ -14,7 +14,7 @@ use Rattle.records.specs.declared.Rule.{Rule}
 use Rattle.records.specs.declared.Cause.the-variants.{Rule as RuleCause, Full, Crossed}
 use Rattle.records.specs.declared.Check.{Check}
 use Rattle.records.specs.declared.Check.the-variants.{Pass, Fail}
-use Rattle.neighbours.specs.Neighbours.{checkRule, checkCrossed, afterA, slotB, checkFull}
+use Rattle.neighbours.specs.Neighbours.{checkRule, checkKnown, checkTie, checkFull, afterA, slotB, crossedBy, checkCrossed, newChecks}
 
 -- a loop over the slots ends in one of two ways
 pub room-at : (w : ℕ) (t : List ℕ) (i : ℕ) → i < slots w t → empty w (slotWords w t i) ≡ true → Pass ≡ checkFull w t
@@ -35,16 +35,22 @@ unfolding slotB
 slot-b-high w t new = let l = least-law (λ (i : ℕ). precedes w new (slotWords w t i)) (slots w t) 0 in omega (arith, l .high)
 
 -- the code's comparison of the two
-pub crossed-yes : (w : ℕ) (t : List ℕ) (new : Words) (a b : ℕ) → a ≡ afterA w t new → b ≡ slotB w t new → b + 1 < a
-    → Fail Crossed (a - 1) ≡ checkCrossed w t new
-unfolding checkCrossed
-crossed-yes w t new a b e f h =
-    let l : suc (slotB w t new) < afterA w t new = omega arith in
-    rw (lt-ltb _ _ l) (ap (λ (x : ℕ). Fail Crossed (x - 1)) e)
+pub crossed-yes : (a b : ℕ) → b + 1 < a → Fail Crossed (a - 1) ≡ crossedBy a b
+crossed-yes a b h = rw (lt-ltb (suc b) a (omega arith))
 
-pub crossed-no : (w : ℕ) (t : List ℕ) (new : Words) (a b : ℕ) → a ≡ afterA w t new → b ≡ slotB w t new → a ≤ b + 1 → Pass ≡ checkCrossed w t new
-unfolding checkCrossed
-crossed-no w t new a b e f h = let l : afterA w t new ≤ suc (slotB w t new) = omega arith in rw (le-ltb _ _ l)
+pub crossed-no : (a b : ℕ) → a ≤ b + 1 → Pass ≡ crossedBy a b
+crossed-no a b h = rw (le-ltb (suc b) a (omega arith))
+
+-- checks 6 and 8 to 10, as the code makes them: 10 once A and B are found
+pub new-row : (w : ℕ) (t : List ℕ) (new : Words)
+    → newChecks w t new ≡ orElse (orElse (checkKnown w t new) (orElse (checkTie w t new) (checkFull w t))) (checkCrossed w t new)
+unfolding newChecks
+new-row w t new = four (checkKnown w t new) (checkTie w t new) (checkFull w t) (checkCrossed w t new)
+  where
+    four : (a b c d : Check) → orElse a (orElse b (orElse c d)) ≡ orElse (orElse a (orElse b c)) d
+    four Pass Pass c d = refl
+    four Pass (Fail cause spot) c d = refl
+    four (Fail cause spot) b c d = refl
 
 -- a row that begins with check 5
 pub rule-refused : (w : ℕ) (rule : Rule) (next : Check) → soundRule w rule ≡ false → Fail RuleCause 0 ≡ orElse (checkRule w rule) next

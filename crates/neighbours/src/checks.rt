@@ -1,20 +1,17 @@
-// A new rule against a table: known id, tie, room, and its neighbours A and B. Checks 1 to 10 of an insert.
+// A new rule against a table: known id, tie, room, and its neighbours A and B. Checks 6 and 8 to 10 of an insert.
 // The new rule is lent as a table of one slot that holds its record.
 use pairs::precedes_pair;
 use pairs::same_id;
 use pairs::tied_pair;
 use records::Cause;
 use records::Check;
-use records::Rule;
-use slots::rules::record_of;
-use slots::rules::rule_sound;
 use slots::slot_empty;
-use table_checks::check_table;
 ghost use mathlib.Core.Path.{_≡_};
 ghost use Prim.Native.Nat.{_≤_};
 ghost use lib.ListN.{length};
 ghost use Rattle.records.specs.Record.{slotWords};
-ghost use Rattle.neighbours.specs.Neighbours.{checkKnown, checkTie, checkFull, afterA, slotB, checkCrossed, newChecks, insertChecks};
+ghost use Rattle.records.specs.Checks.{orElse};
+ghost use Rattle.neighbours.specs.Neighbours.{checkKnown, checkTie, checkFull, afterA, slotB, crossedBy};
 
 // Check 6: the id is not in the table.
 pub fn check_known(table: &[u64], new: &[u64]) -> Check
@@ -94,23 +91,22 @@ pub fn slot_b(table: &[u64], new: &[u64]) -> usize
     slots
 }
 
-// Check 10: A is not after B.
-pub fn check_crossed(table: &[u64], new: &[u64]) -> Check
-    requires { ⌜ (length (now table) ≤ 6144) × (length (now new) ≡ 6) ⌝ }
-    ensures { λ r. ⌜ r ≡ checkCrossed 2 (now (table .entry)) (slotWords 2 (now (new .entry)) 0) ⌝ }
+// Check 10, of A + 1 and B: A is not after B.
+pub fn check_crossed(after: usize, dependant: usize) -> Check
+    requires { ⌜ (after ≤ 1024) × (dependant ≤ 1024) ⌝ }
+    ensures { λ r. ⌜ r ≡ crossedBy after dependant ⌝ }
 {
-    let after = after_a(table, new);
-    let dependant = slot_b(table, new);
     if dependant + 1 < after {
         return Check::Fail(Cause::Crossed, (after - 1) as u32);
     }
     Check::Pass
 }
 
-// Checks 6 and 8 to 10.
+// Checks 6, 8 and 9.
 pub fn check_new(table: &[u64], new: &[u64]) -> Check
     requires { ⌜ (length (now table) ≤ 6144) × (length (now new) ≡ 6) ⌝ }
-    ensures { λ r. ⌜ r ≡ newChecks 2 (now (table .entry)) (slotWords 2 (now (new .entry)) 0) ⌝ }
+    ensures { λ r. ⌜ r ≡ orElse (checkKnown 2 (now (table .entry)) (slotWords 2 (now (new .entry)) 0))
+        (orElse (checkTie 2 (now (table .entry)) (slotWords 2 (now (new .entry)) 0)) (checkFull 2 (now (table .entry)))) ⌝ }
 {
     let known = check_known(table, new);
     if let Check::Fail(cause, spot) = known {
@@ -120,24 +116,5 @@ pub fn check_new(table: &[u64], new: &[u64]) -> Check
     if let Check::Fail(cause, spot) = tie {
         return Check::Fail(cause, spot);
     }
-    let full = check_full(table);
-    if let Check::Fail(cause, spot) = full {
-        return Check::Fail(cause, spot);
-    }
-    check_crossed(table, new)
-}
-
-// Checks 1 to 10 of an insert.
-pub fn check_insert(table: &[u64], rule: Rule) -> Check
-    ensures { λ r. ⌜ r ≡ insertChecks 2 (now (table .entry)) rule ⌝ }
-{
-    let sound = check_table(table);
-    if let Check::Fail(cause, spot) = sound {
-        return Check::Fail(cause, spot);
-    }
-    if !rule_sound(rule) {
-        return Check::Fail(Cause::Rule, 0);
-    }
-    let new = record_of(rule);
-    check_new(table, &new)
+    check_full(table)
 }

@@ -1,7 +1,9 @@
-// Two slots side by side: overlap, one id in both, out of order, tied, one before the other. Each slot is read in its own table.
+// Two slots side by side: overlap, one id in both, tied, one before the other. Each slot is read in its own table.
 // A slot of one table and a slot of another, or of the same; a rule to be inserted is a table of one slot.
 use slots::slot_empty;
 use slots::slot_id;
+use slots::slot_rank;
+use slots::slot_vacant;
 use slots::slot_word;
 ghost use mathlib.Core.Path.{_≡_};
 ghost use mathlib.Core.List.{[], _∷_};
@@ -12,7 +14,7 @@ ghost use Rattle.ternary.specs.Pattern.{overlaps};
 ghost use Rattle.records.specs.Record.{word, slotWords, value, mask, occupied};
 ghost use Rattle.records.specs.Checks.{checkRecords};
 ghost use Rattle.records.specs.declared.Check.the-variants.{Pass};
-ghost use Rattle.records.specs.Order.{sameId, distinct, tied, precedes, misordered, overlapping};
+ghost use Rattle.records.specs.Order.{sameId, distinct, tied, precedes, overlapping};
 
 // Whether a slot's pattern overlaps one whose words are at hand.
 pub fn pattern_overlaps(
@@ -93,43 +95,31 @@ pub fn distinct_rules(table: &[u64], slot: usize, others: &[u64], other: usize) 
     false
 }
 
-// Whether both slots are occupied, told by their words of id and action: that is all it takes where check 2 passes.
+// Whether both slots are occupied, where check 2 passes.
 fn both_hold_rules(table: &[u64], slot: usize, others: &[u64], other: usize) -> bool
     requires { ⌜ (slot < length (now table) / 6) × (other < length (now others) / 6) ⌝ }
     requires { ⌜ (checkRecords 2 (now table) ≡ Pass) × (checkRecords 2 (now others) ≡ Pass) ⌝ }
     ensures { λ r. ⌜ r ≡ (occupied 2 (slotWords 2 (now (table .entry)) slot) && occupied 2 (slotWords 2 (now (others .entry)) other)) ⌝ }
 {
-    if slot_word(table, slot, 4) == 0 {
+    if slot_vacant(table, slot) {
         return false;
     }
-    slot_word(others, other, 4) != 0
+    !slot_vacant(others, other)
 }
 
-// Whether the slots hold two rules of different ids that overlap.
-fn rules_overlap(table: &[u64], slot: usize, others: &[u64], other: usize) -> bool
+// Whether the slots hold two rules of different ids that overlap. Patterns first: they tell most pairs apart.
+pub fn rules_overlap(table: &[u64], slot: usize, others: &[u64], other: usize) -> bool
     requires { ⌜ (slot < length (now table) / 6) × (other < length (now others) / 6) ⌝ }
     requires { ⌜ (checkRecords 2 (now table) ≡ Pass) × (checkRecords 2 (now others) ≡ Pass) ⌝ }
-    ensures { λ r. ⌜ r ≡ (distinct 2 (slotWords 2 (now (table .entry)) slot) (slotWords 2 (now (others .entry)) other) && overlapping 2 (slotWords 2 (now (table .entry)) slot) (slotWords 2 (now (others .entry)) other)) ⌝ }
+    ensures { λ r. ⌜ r ≡ (overlapping 2 (slotWords 2 (now (table .entry)) slot) (slotWords 2 (now (others .entry)) other) && distinct 2 (slotWords 2 (now (table .entry)) slot) (slotWords 2 (now (others .entry)) other)) ⌝ }
 {
+    if !slots_overlap(table, slot, others, other) {
+        return false;
+    }
     if !both_hold_rules(table, slot, others, other) {
         return false;
     }
-    if slot_id(others, other) == slot_id(table, slot) {
-        return false;
-    }
-    slots_overlap(table, slot, others, other)
-}
-
-// Whether a slot's standing before another is out of order. Priorities first: in a table in order most pairs that overlap are told by them.
-pub fn misordered_pair(table: &[u64], slot: usize, others: &[u64], other: usize) -> bool
-    requires { ⌜ (slot < length (now table) / 6) × (other < length (now others) / 6) ⌝ }
-    requires { ⌜ (checkRecords 2 (now table) ≡ Pass) × (checkRecords 2 (now others) ≡ Pass) ⌝ }
-    ensures { λ r. ⌜ r ≡ misordered 2 (slotWords 2 (now (table .entry)) slot) (slotWords 2 (now (others .entry)) other) ⌝ }
-{
-    if slot_word(table, slot, 5) <= slot_word(others, other, 5) {
-        return rules_overlap(table, slot, others, other);
-    }
-    false
+    slot_id(table, slot) != slot_id(others, other)
 }
 
 // Whether two rules overlap at equal priority.
@@ -138,7 +128,7 @@ pub fn tied_pair(table: &[u64], slot: usize, others: &[u64], other: usize) -> bo
     ensures { λ r. ⌜ r ≡ tied 2 (slotWords 2 (now (table .entry)) slot) (slotWords 2 (now (others .entry)) other) ⌝ }
 {
     let overlap = slots_overlap(table, slot, others, other);
-    let equal = slot_word(table, slot, 5) == slot_word(others, other, 5);
+    let equal = slot_rank(table, slot) == slot_rank(others, other);
     if overlap & equal {
         return distinct_rules(table, slot, others, other);
     }
@@ -151,7 +141,7 @@ pub fn precedes_pair(table: &[u64], slot: usize, others: &[u64], other: usize) -
     ensures { λ r. ⌜ r ≡ precedes 2 (slotWords 2 (now (table .entry)) slot) (slotWords 2 (now (others .entry)) other) ⌝ }
 {
     let overlap = slots_overlap(table, slot, others, other);
-    let higher = slot_word(others, other, 5) < slot_word(table, slot, 5);
+    let higher = slot_rank(others, other) < slot_rank(table, slot);
     if overlap & higher {
         return distinct_rules(table, slot, others, other);
     }

@@ -10,7 +10,7 @@ use native.Mathlib.Omega.{arith}
 use lib.Arith.{digits-div, digits-mod}
 use lib.Dec.{eqb, leb}
 use borrow.Author.Tests.{le-leb, lt-leb}
-use lib.ListN.{length, getD, set, length-append, List·getD-append}
+use lib.ListN.{length, getD, set, replicate, length-append, List·getD-append}
 use native.Mathlib.Numerals.{add-one, add-two, add-three, add-four, add-five}
 use lib.Seq.{getD-append-add, getD-at, ext-getD, sets-eq}
 use Rattle.ternary.specs.Pattern.{Words}
@@ -19,6 +19,12 @@ use Rattle.records.specs.Record.{word, listed, recordWords, value, mask,
 use Rattle.records.specs.Record.{putSlot}
 use Rattle.records.specs.declared.Rule.{Rule}
 use Rattle.records.specs.Rules.{Fields}
+
+-- a word of zeros is zero
+pub zero-word : (n k : ℕ) → getD {A = ℕ} (replicate n 0) k 0 ≡ 0
+zero-word zero k = refl
+zero-word (suc n) zero = refl
+zero-word (suc n) (suc k) = zero-word n k
 
 pub length-listed : (n : ℕ) (f : Words) → length (listed n f) ≡ n
 unfolding listed

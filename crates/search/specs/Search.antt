@@ -2,7 +2,7 @@
 -- "Lowest such slot" and "highest such slot" of document 01 are least and afterLast.
 use mathlib.Core.Path.{_≡_}
 use mathlib.Core.Bool.{Bool, true, false, cond, _&&_, _||_}
-use Prim.Native.Nat.{ℕ, zero, suc, _≤_, _<_, _-_}
+use Prim.Native.Nat.{ℕ, zero, suc, _≤_, _<_}
 
 -- the test holds at each index below n
 unfoldable pub all : (ℕ → Bool) → ℕ → Bool
@@ -44,8 +44,3 @@ NoneFrom p from n i = (from ≤ i) × (i ≤ n) × ((k : ℕ) → from ≤ k →
 -- the invariant of a search loop that counts down: the test has held nowhere from i on
 abbrev pub NoneAbove : (ℕ → Bool) → ℕ → ℕ → Type 0
 NoneAbove p n i = (i ≤ n) × ((k : ℕ) → i ≤ k → k < n → p k ≡ false)
-
--- of the k indices below n, one past the last at which the test holds; n − k where there is none
-unfoldable pub lastOf : (ℕ → Bool) → ℕ → ℕ → ℕ
-lastOf p zero n = n
-lastOf p (suc k) n = cond (p (n - 1)) n (lastOf p k (n - 1))

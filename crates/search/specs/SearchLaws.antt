@@ -37,14 +37,6 @@ pub and-stop : {a x : Bool} (y : Bool) → a ≡ x → a ≡ false → false ≡
 and-stop {x = true} y p t = absurd (false≢true (sym t ∙ p))
 and-stop {x = false} y p t = refl
 
--- three tests, the middle one asked first
-pub and-turned : (a b c : Bool) {r : Bool} → b ≡ true → r ≡ c && a → r ≡ a && b && c
-and-turned true true true p q = q
-and-turned true true false p q = q
-and-turned true false c p q = absurd (false≢true p)
-and-turned false b true p q = q
-and-turned false b false p q = q
-
 pub and-middle : (a : Bool) {b : Bool} (c : Bool) → b ≡ false → false ≡ a && b && c
 and-middle true {b} c e = rw e
 and-middle false c e = refl

@@ -1,5 +1,5 @@
 // One slot of a table, read in the table itself: empty, sound, matching a key; and a rule's record.
-// A function on a slot asks that it exists, and `slot_matches` that check 2 passes; else the table may hold anything.
+// A function on a slot asks that it exists, `slot_vacant` and `slot_matches` that check 2 passes; else the table may hold anything.
 pub mod rules;
 
 ghost use mathlib.Core.Path.{_≡_};
@@ -72,6 +72,38 @@ pub fn slot_id(table: &[u64], slot: usize) -> u64
     ensures { λ r. ⌜ r ≡ ident 2 (slotWords 2 (now (table .entry)) slot) ⌝ }
 {
     slot_word(table, slot, 4) / 4294967296
+}
+
+// Word `index` of a slot's value, and of its mask.
+pub fn value_word(table: &[u64], slot: usize, index: usize) -> u64
+    requires { ⌜ (slot < length (now table) / 6) × (index < 2) ⌝ }
+    ensures { λ r. ⌜ r ≡ value (slotWords 2 (now (table .entry)) slot) index ⌝ }
+{
+    slot_word(table, slot, index)
+}
+
+pub fn mask_word(table: &[u64], slot: usize, index: usize) -> u64
+    requires { ⌜ (slot < length (now table) / 6) × (index < 2) ⌝ }
+    ensures { λ r. ⌜ r ≡ mask 2 (slotWords 2 (now (table .entry)) slot) index ⌝ }
+{
+    slot_word(table, slot, 2 + index)
+}
+
+// A slot's priority.
+pub fn slot_rank(table: &[u64], slot: usize) -> u64
+    requires { ⌜ slot < length (now table) / 6 ⌝ }
+    ensures { λ r. ⌜ r ≡ rank 2 (slotWords 2 (now (table .entry)) slot) ⌝ }
+{
+    slot_word(table, slot, 5)
+}
+
+// Whether a slot is empty, told by its word of id and action: that is all it takes where check 2 passes.
+pub fn slot_vacant(table: &[u64], slot: usize) -> bool
+    requires { ⌜ slot < length (now table) / 6 ⌝ }
+    requires { ⌜ checkRecords 2 (now table) ≡ Pass ⌝ }
+    ensures { λ r. ⌜ r ≡ empty 2 (slotWords 2 (now (table .entry)) slot) ⌝ }
+{
+    slot_word(table, slot, 4) == 0
 }
 
 // Whether a word of a slot's value lies within that word of its mask.
@@ -159,14 +191,14 @@ fn pattern_matches(table: &[u64], slot: usize, key_high: u64, key_low: u64) -> b
     false
 }
 
-// Exactly which keys a slot matches: an empty one none. Where check 2 passes, its word of id and action tells.
+// Exactly which keys a slot matches: an empty one none.
 pub fn slot_matches(table: &[u64], slot: usize, key_high: u64, key_low: u64) -> bool
     requires { ⌜ slot < length (now table) / 6 ⌝ }
     requires { ⌜ checkRecords 2 (now table) ≡ Pass ⌝ }
     ensures { λ r. ⌜ r ≡ slotMatches 2 (word («key_high» ∷ «key_low» ∷ [])) (slotWords 2 (now (table .entry)) slot) ⌝ }
 {
     if pattern_matches(table, slot, key_high, key_low) {
-        return slot_word(table, slot, 4) != 0;
+        return !slot_vacant(table, slot);
     }
     false
 }

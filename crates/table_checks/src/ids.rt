@@ -1,5 +1,8 @@
 // Check 3 over a column of ids: earlier slots' records are read only where the column finds the slot's id among theirs.
 // A column of 32-bit words is compared several slots at a time; the records, six words apart, are not.
+// The column is read only where a map of the ids seen has the bit of this one: most ids stand once, and have a bit of their own.
+use bitmaps::bits::has_bit;
+use bitmaps::bits::mark;
 use pairs::same_id;
 use records::Cause;
 use records::Check;
@@ -7,11 +10,11 @@ use slots::rules::upper_half;
 use slots::slot_empty;
 use slots::slot_word;
 ghost use mathlib.Core.Path.{_≡_};
-ghost use Prim.Native.Nat.{_≤_, _<_, _/_};
+ghost use Prim.Native.Nat.{_≤_, _<_, _/_, _%_};
 ghost use lib.ListN.{length};
 ghost use Rattle.records.specs.Record.{slotWords, ident};
 ghost use Rattle.records.specs.Checks.{checkTwice, twiceAt};
-ghost use Rattle.table_checks.specs.Ids.{IdColumn, listedTwice};
+ghost use Rattle.table_checks.specs.Ids.{IdColumn, listedTwice, withSeen, SeenTo};
 
 // The id of a slot's record, as a number of 32 bits.
 fn short_id(table: &[u64], slot: usize) -> u32
@@ -81,18 +84,47 @@ fn id_twice(table: &[u64], ids: &[u32], slot: usize) -> bool
     false
 }
 
-// The lowest slot whose id stands in an earlier one too.
-pub fn lowest_twice(table: &[u64], ids: &[u32]) -> Check
-    requires { ⌜ (length (now table) ≤ 6144) × (length (now table) / 6 ≤ length (now ids)) ⌝ }
+// The place of an id among 8,192: its last 13 bits.
+fn seen_place(id: u32) -> usize
+    ensures { λ r. ⌜ r ≡ id % 8192 ⌝ }
+{
+    (id % 8192) as usize
+}
+
+// The same, asked only where an earlier id has this one's place.
+fn seen_twice(table: &[u64], ids: &[u32], seen: &[u64], slot: usize) -> bool
+    requires { ⌜ (slot < length (now table) / 6) × (length (now table) / 6 ≤ length (now ids)) × (128 ≤ length (now seen)) ⌝ }
+    requires { ⌜ IdColumn 2 (now table) (now ids) (length (now table) / 6) × SeenTo (now ids) (now seen) slot ⌝ }
+    ensures { λ r. ⌜ r ≡ twiceAt 2 (now (table .entry)) slot ⌝ }
+{
+    let place = seen_place(ids[slot]);
+    if has_bit(seen[place / 64], place % 64) {
+        return id_twice(table, ids, slot);
+    }
+    false
+}
+
+// An id's place noted.
+fn note_seen(seen: &mut [u64], id: u32)
+    requires { ⌜ 128 ≤ length (now seen) ⌝ }
+    ensures { λ _. ⌜ now (seen .exit) ≡ withSeen (now (seen .entry)) id ⌝ }
+{
+    mark(seen, seen_place(id));
+}
+
+// The lowest slot whose id stands in an earlier one too. What the map has at first does not count: a set bit costs a look, no more.
+pub fn lowest_twice(table: &[u64], ids: &[u32], seen: &mut [u64]) -> Check
+    requires { ⌜ (length (now table) ≤ 6144) × (length (now table) / 6 ≤ length (now ids)) × (128 ≤ length (now seen)) ⌝ }
     requires { ⌜ IdColumn 2 (now table) (now ids) (length (now table) / 6) ⌝ }
     ensures { λ r. ⌜ r ≡ checkTwice 2 (now (table .entry)) ⌝ }
 {
     let slots = table.len() / 6;
     let mut slot = 0;
     while slot < slots {
-        if id_twice(table, ids, slot) {
+        if seen_twice(table, ids, seen, slot) {
             return Check::Fail(Cause::Twice, slot as u32);
         }
+        note_seen(seen, ids[slot]);
         slot += 1;
     }
     Check::Pass

@@ -4,21 +4,21 @@ pub mod ids;
 
 use crate::ids::fill_ids;
 use crate::ids::lowest_twice;
+use neighbour_lists::passing::fill_near;
 use records::Cause;
 use records::Check;
-use scans::first_not_before;
-use slots::slot_empty;
 use slots::slot_matches;
 use slots::slot_unsound;
 ghost use mathlib.Core.Path.{_≡_};
 ghost use mathlib.Core.Bool.{_||_};
 ghost use mathlib.Core.List.{[], _∷_};
-ghost use Prim.Native.Nat.{_+_, _≤_, _<_, _/_};
+ghost use Prim.Native.Nat.{_+_, _*_, _≤_, _/_};
 ghost use lib.ListN.{length};
 ghost use Rattle.search.specs.Search.{NoneFrom};
 ghost use Rattle.records.specs.Record.{word};
 ghost use Rattle.records.specs.declared.Check.the-variants.{Pass};
-ghost use Rattle.records.specs.Checks.{checkShape, checkRecords, checkTwice, checkOrder, slotChecks, tableChecks, disorderAt, matchesAt, firstMatch};
+ghost use Rattle.neighbour_lists.specs.Lists.{Listed};
+ghost use Rattle.records.specs.Checks.{orElse, checkShape, checkRecords, checkTwice, checkOrder, slotChecks, tableChecks, matchesAt, firstMatch};
 
 // Check 1: the table's words are six for each of 1 to 1,024 slots.
 pub fn check_shape(table: &[u64]) -> Check
@@ -33,7 +33,7 @@ pub fn check_shape(table: &[u64]) -> Check
 }
 
 // Check 2: each slot is empty or a sound rule.
-pub fn check_records(table: &[u64]) -> Check
+fn check_records(table: &[u64]) -> Check
     requires { ⌜ length (now table) ≤ 6144 ⌝ }
     ensures { λ r. ⌜ r ≡ checkRecords 2 (now (table .entry)) ⌝ }
 {
@@ -49,40 +49,27 @@ pub fn check_records(table: &[u64]) -> Check
 }
 
 // Check 3: no id stands in an earlier slot too.
-pub fn check_twice(table: &[u64]) -> Check
+fn check_twice(table: &[u64]) -> Check
     requires { ⌜ length (now table) ≤ 6144 ⌝ }
     ensures { λ r. ⌜ r ≡ checkTwice 2 (now (table .entry)) ⌝ }
 {
     let mut ids = [0u32; 1024];
+    let mut seen = [0u64; 128];
     fill_ids(table, &mut ids);
-    lowest_twice(table, &ids)
+    lowest_twice(table, &ids, &mut seen)
 }
 
-// Whether an earlier overlapping rule has no higher priority than this slot's.
-fn disorder_before(table: &[u64], slot: usize) -> bool
-    requires { ⌜ slot < length (now table) / 6 ⌝ }
-    requires { ⌜ checkRecords 2 (now table) ≡ Pass ⌝ }
-    ensures { λ r. ⌜ r ≡ disorderAt 2 (now (table .entry)) slot ⌝ }
-{
-    if slot_empty(table, slot) {
-        return false;
-    }
-    first_not_before(table, slot, 0, slot) < slot
-}
-
-// Check 4: of two overlapping rules the earlier one has the strictly higher priority. Made where check 2 passes.
-pub fn check_order(table: &[u64]) -> Check
-    requires { ⌜ length (now table) ≤ 6144 ⌝ }
+// Check 4: of two overlapping rules the earlier one has the strictly higher priority. Made where check 2 passes. The neighbour list
+// comes with it.
+fn check_order(table: &[u64], near: &mut [u16]) -> Check
+    requires { ⌜ (length (now table) ≤ 6144) × (2 * (length (now table) / 6) ≤ length (now near)) ⌝ }
     requires { ⌜ checkRecords 2 (now table) ≡ Pass ⌝ }
     ensures { λ r. ⌜ r ≡ checkOrder 2 (now (table .entry)) ⌝ }
+    ensures { λ _. ⌜ Listed 2 (now (table .entry)) (now (near .exit)) ⌝ }
 {
-    let slots = table.len() / 6;
-    let mut slot = 0;
-    while slot < slots {
-        if disorder_before(table, slot) {
-            return Check::Fail(Cause::Order, slot as u32);
-        }
-        slot += 1;
+    let first = fill_near(table, near);
+    if first < table.len() / 6 {
+        return Check::Fail(Cause::Order, first as u32);
     }
     Check::Pass
 }
@@ -152,17 +139,37 @@ pub fn check_slots(table: &[u64]) -> Check
     check_records(table)
 }
 
-// Checks 1 to 4.
-pub fn check_table(table: &[u64]) -> Check
+// Checks 3 and 4, which compare slots in pairs; where they pass, the table's neighbour list is in the front of the lent one.
+pub fn check_pairs(table: &[u64], near: &mut [u16]) -> Check
+    requires { ⌜ (length (now table) ≤ 6144) × (2 * (length (now table) / 6) ≤ length (now near)) ⌝ }
+    requires { ⌜ checkRecords 2 (now table) ≡ Pass ⌝ }
+    ensures { λ r. ⌜ r ≡ orElse (checkTwice 2 (now (table .entry))) (checkOrder 2 (now (table .entry))) ⌝ }
+    ensures { λ r. ⌜ (r ≡ Pass → Listed 2 (now (table .entry)) (now (near .exit))) ⌝ }
+{
+    let twice = check_twice(table);
+    if let Check::Fail(cause, spot) = twice {
+        return Check::Fail(cause, spot);
+    }
+    check_order(table, near)
+}
+
+// Checks 1 to 4, with the list.
+pub fn check_listed(table: &[u64], near: &mut [u16]) -> Check
+    requires { ⌜ 2048 ≤ length (now near) ⌝ }
     ensures { λ r. ⌜ r ≡ tableChecks 2 (now (table .entry)) ⌝ }
+    ensures { λ r. ⌜ (r ≡ Pass → Listed 2 (now (table .entry)) (now (near .exit))) ⌝ }
 {
     let slots = check_slots(table);
     if let Check::Fail(cause, spot) = slots {
         return Check::Fail(cause, spot);
     }
-    let twice = check_twice(table);
-    if let Check::Fail(cause, spot) = twice {
-        return Check::Fail(cause, spot);
-    }
-    check_order(table)
+    check_pairs(table, near)
+}
+
+// Checks 1 to 4.
+pub fn check_table(table: &[u64]) -> Check
+    ensures { λ r. ⌜ r ≡ tableChecks 2 (now (table .entry)) ⌝ }
+{
+    let mut near = [0u16; 2048];
+    check_listed(table, &mut near)
 }

@@ -1,11 +1,11 @@
 -- End theorems on patterns of any number of words: the tests of match, overlap and value within mask decide document 01's sentences.
 use mathlib.Core.Path.{_≡_, sym, _∙_}
-use mathlib.Core.Bool.{Bool, true, false, true≢false}
-use mathlib.Core.Logic.{_↔_, ⊎-elim}
+use mathlib.Core.Bool.{Bool, true}
+use mathlib.Core.Logic.{_↔_}
 use Prim.Native.Nat.{ℕ, _^_, _<_}
 use native.Mathlib.Decide.{ℕ-discrete}
 use Rattle.search.specs.Search.{all}
-use Rattle.search.specs.SearchLaws.{all-law, all-cong, decided}
+use Rattle.search.specs.SearchLaws.{all-law, all-cong}
 use Rattle.ternary.specs.Bit.{bit}
 use Rattle.ternary.specs.Word.{agree, inside, both, common}
 use Rattle.ternary.specs.WordLaws.{agree-law, inside-law, both-law, common-left, common-right, common-fits}
@@ -65,13 +65,6 @@ unfolding overlaps
 overlaps-law w value mask value′ mask′ =
     each (λ (j : ℕ). agree (value j) (value′ j) (both (mask j) (mask′ j))) (λ (j : ℕ). (i : ℕ) → Clash value mask value′ mask′ j i → ⊥)
     (no-clash value mask value′ mask′) w
-
--- the first pattern does not overlap the second where the second does not overlap the first
-pub overlaps-turned : (w : ℕ) (value mask value′ mask′ : Words) → overlaps w value mask value′ mask′ ≡ false → overlaps w value′ mask′ value mask ≡ false
-overlaps-turned w value mask value′ mask′ e =
-    ⊎-elim
-    (λ t. absurd (true≢false (sym (overlaps-law w value mask value′ mask′ .1 (λ j h i c. overlaps-law w value′ mask′ value mask .0 t j h i (c .1, c .0, λ f. c .2 (sym f)))) ∙ e)))
-    (λ f. f) (decided (overlaps w value′ mask′ value mask))
 
 pub common-matches : (w : ℕ) (value mask value′ mask′ : Words) → overlaps w value mask value′ mask′ ≡ true
     → (matches w (commonKey value mask value′ mask′) value mask ≡ true) × (matches w (commonKey value mask value′ mask′) value′ mask′ ≡ true)

@@ -2,7 +2,9 @@
 -- One definition serves both directions; the planner works on these numbers alone.
 use mathlib.Core.Bool.{Bool, true, false, cond}
 use mathlib.Core.List.{List}
-use Prim.Native.Nat.{ℕ, suc, _-_, min}
+use Prim.Native.Nat.{ℕ, suc, _+_, _-_, _*_, min}
+use lib.Dec.{ltb}
+use lib.ListN.{getD}
 use Rattle.search.specs.Search.{least}
 use Rattle.positions.specs.Positions.{slotAt}
 use Rattle.records.specs.Record.{slotWords, empty}
@@ -20,3 +22,16 @@ windowEndAt w t up p = min (suc (least (misplacedAt w t up p) (slots w t - suc p
 -- the planner's number for a position: 0 where it is empty, else the end of its window
 unfoldable pub endAt : ℕ → List ℕ → Bool → ℕ → ℕ
 endAt w t up p = cond (empty w (slotWords w t (slotAt (slots w t) up p))) 0 (windowEndAt w t up p)
+
+-- the end of a window among n positions, told by the slot of the nearest dependant going down and of the nearest preceding rule going up;
+-- a number that is no slot's stands for none
+unfoldable pub endAfter : ℕ → ℕ → ℕ
+endAfter n next = cond (ltb next n) (next + 1) n
+
+unfoldable pub endBefore : ℕ → ℕ → ℕ
+endBefore n before = cond (ltb before n) (n - before) n
+
+-- the end of p's window, as a neighbour list tells it
+unfoldable pub listedEnd : List ℕ → ℕ → Bool → ℕ → ℕ
+listedEnd near n true p = endBefore n (getD near (2 * (n - 1 - p) + 1) 0)
+listedEnd near n false p = endAfter n (getD near (2 * p) 0)

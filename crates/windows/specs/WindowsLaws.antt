@@ -1,54 +1,42 @@
--- Laws on windows: where they end, going down and going up, as the searches of the code find it.
-use mathlib.Core.Path.{_≡_, sym, ap, _∙_, subst}
+-- Laws on windows: their ends as the code tells them, empty positions, and an array filled from the front.
+use mathlib.Core.Path.{_≡_, sym, ap, _∙_}
 use mathlib.Core.Bool.{Bool, true, false, cond}
 use mathlib.Core.List.{List, _++_}
-use Prim.Native.Nat.{ℕ, suc, _+_, _-_, _≤_, _<_, min}
+use Prim.Native.Nat.{ℕ, suc, _+_, _-_, _*_, _≤_, _<_, min}
 use native.Mathlib.Omega.{arith}
 use native.Mathlib.Numerals.{add-one}
+use lib.Dec.{eqb}
 use lib.ListN.{length, getD, set, drop}
 use lib.Seq.{drop-cons, set-at, append-snoc}
-use Rattle.search.specs.Search.{least, afterLast, AfterLast}
-use Rattle.search.specs.SearchLaws.{least-law, least-unique, after-last-law}
+use borrow.Author.Tests.{lt-ltb, le-ltb}
+use Rattle.search.specs.Search.{least}
 use Rattle.ternary.specs.Pattern.{Words}
 use Rattle.positions.specs.Positions.{slotAt}
+use Rattle.positions.specs.PositionsLaws.{slot-below}
 use Rattle.records.specs.Record.{slotWords, empty, listed}
 use Rattle.records.specs.Order.{slots}
+use Rattle.records.specs.Checks.{tableChecks}
+use Rattle.records.specs.Laws.{slot-checks-law, table-checks-law, id-word}
+use Rattle.records.specs.declared.Check.the-variants.{Pass}
 use Rattle.records.specs.RulesLaws.{length-listed}
-use Rattle.scans.specs.Scans.{notBefore, notAfter}
-use Rattle.windows.specs.Windows.{endAt, windowEndAt, misplacedAt}
+use Rattle.windows.specs.Windows.{endAt, windowEndAt, misplacedAt, endAfter, endBefore}
 
--- going down, the window ends at the first slot after p's that may not stand before it
-pub window-down : (w : ℕ) (t : List ℕ) (p m : ℕ) → p < slots w t → m ≡ least (notBefore w t p) (slots w t - (p + 1)) (p + 1)
-    → windowEndAt w t false p ≡ min (m + 1) (slots w t)
-unfolding windowEndAt misplacedAt
-window-down w t p m h e =
-    let one : p + 1 ≡ suc p = omega arith in
-    let at : m ≡ least (notBefore w t p) (slots w t - suc p) (suc p) = rw one at e in
-    omega arith
+-- the end told, by cases
+pub end-after-slot : (n next : ℕ) → next < n → next + 1 ≡ endAfter n next
+unfolding endAfter
+end-after-slot n next l = rw (lt-ltb next n l)
 
-pub up-high : (w : ℕ) (t : List ℕ) (s a : ℕ) → a ≡ afterLast (notAfter w t s) s → a ≤ s
-up-high w t s a e = omega (arith, after-last-law (notAfter w t s) s .high)
+pub end-after-none : (n next : ℕ) → n ≤ next → n ≡ endAfter n next
+unfolding endAfter
+end-after-none n next l = rw (le-ltb next n l)
 
--- going up, at the last slot before p's that may not stand after it
-pub window-up : (w : ℕ) (t : List ℕ) (p s a : ℕ) → p < slots w t → s ≡ slots w t - 1 - p → a ≡ afterLast (notAfter w t s) s
-    → windowEndAt w t true p ≡ min (slots w t - a + 1) (slots w t)
-unfolding windowEndAt misplacedAt
-window-up w t p s a h f e =
-    let at : least (misplacedAt w t true p) (slots w t - suc p) (suc p) ≡ slots w t - a =
-    least-unique (least-law (misplacedAt w t true p) (slots w t - suc p) (suc p))
-    (record {
-      low = omega (arith, law .high);
-      high = omega (arith, law .high);
-      before = λ j l r. law .after (slots w t - suc j) (omega arith) (omega arith);
-      hit = λ l. ap (λ (i : ℕ). notAfter w t (slots w t - suc p) i) {x = slots w t - suc (slots w t - a)} {y = a - 1} (omega (arith, law .high)) ∙ law .hit (a - 1) (omega arith);
-    }) in
-    omega arith
-  where
-    same : s ≡ slots w t - suc p
-    same = omega arith
+pub end-before-slot : (n before : ℕ) → before < n → n - before ≡ endBefore n before
+unfolding endBefore
+end-before-slot n before l = rw (lt-ltb before n l)
 
-    law : AfterLast (notAfter w t (slots w t - suc p)) (slots w t - suc p) a
-    law = subst (AfterLast (notAfter w t (slots w t - suc p)) (slots w t - suc p)) (sym (rw same at e)) (after-last-law (notAfter w t (slots w t - suc p)) (slots w t - suc p))
+pub end-before-none : (n before : ℕ) → n ≤ before → n ≡ endBefore n before
+unfolding endBefore
+end-before-none n before l = rw (le-ltb before n l)
 
 pub window-high : (w : ℕ) (t : List ℕ) (up : Bool) (p : ℕ) → windowEndAt w t up p ≤ slots w t
 unfolding windowEndAt
@@ -61,6 +49,14 @@ end-high w t up p = pick (empty w (slotWords w t (slotAt (slots w t) up p)))
     pick : (b : Bool) → cond b 0 (min (suc (least (misplacedAt w t up p) (slots w t - suc p) (suc p))) (slots w t)) ≤ slots w t
     pick true = omega arith
     pick false = omega arith
+
+-- a position is empty exactly where its slot's word of id and action is 0
+pub position-empty : (w : ℕ) (t : List ℕ) → tableChecks w t ≡ Pass → (up : Bool) (p : ℕ) → p < slots w t → (slot told : ℕ) → slot ≡ slotAt (slots w t) up p
+    → told ≡ slotWords w t slot (2 * w) → empty w (slotWords w t (slotAt (slots w t) up p)) ≡ eqb told 0
+position-empty w t checks up p h slot told e f =
+    let records = slot-checks-law w t .0 (table-checks-law w t .0 checks .0) .1 in
+    sym (id-word w t (slotAt (slots w t) up p) records (slot-below (slots w t) up p h))
+    ∙ ap (λ (x : ℕ). eqb x 0) (sym (f ∙ ap (λ (s : ℕ). slotWords w t s (2 * w)) e))
 
 -- a position that is empty, and one that is not
 pub end-empty : (w : ℕ) (t : List ℕ) (up : Bool) (p : ℕ) → empty w (slotWords w t (slotAt (slots w t) up p)) ≡ true → endAt w t up p ≡ 0

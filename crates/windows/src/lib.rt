@@ -1,78 +1,74 @@
 // The windows of a table's rules along one direction, by positions, for the planner.
-// Words are read in the table itself; the numbers go into a lent array.
+// They are told by the table's neighbour list; the numbers go into a lent array.
 use positions::slot_at;
-use scans::first_not_before;
-use scans::last_not_after;
-use slots::slot_empty;
+use slots::slot_word;
 ghost use mathlib.Core.Path.{_≡_};
-ghost use mathlib.Core.Bool.{true, false};
 ghost use mathlib.Core.List.{_++_};
-ghost use Prim.Native.Nat.{_≤_, _<_, _/_};
-ghost use lib.ListN.{length, drop};
+ghost use Prim.Native.Nat.{_+_, _-_, _*_, _≤_, _<_, _/_};
+ghost use lib.ListN.{length, getD, drop};
 ghost use Rattle.records.specs.Record.{listed};
-ghost use Rattle.records.specs.Checks.{checkRecords};
+ghost use Rattle.records.specs.Checks.{tableChecks};
 ghost use Rattle.records.specs.declared.Check.the-variants.{Pass};
-ghost use Rattle.windows.specs.Windows.{windowEndAt, endAt};
+ghost use Rattle.neighbour_lists.specs.Lists.{Listed};
+ghost use Rattle.windows.specs.Windows.{endAfter, endBefore, listedEnd, endAt};
 
 // One past the last position of a window going down: positions are slots.
-fn end_down(table: &[u64], position: usize) -> usize
-    requires { ⌜ position < length (now table) / 6 ⌝ }
-    requires { ⌜ checkRecords 2 (now table) ≡ Pass ⌝ }
-    ensures { λ r. ⌜ r ≡ windowEndAt 2 (now (table .entry)) false position ⌝ }
+fn end_down(near: &[u16], slots: usize, position: usize) -> usize
+    requires { ⌜ (position < slots) × (2 * slots ≤ length (now near)) ⌝ }
+    ensures { λ r. ⌜ r ≡ endAfter slots (getD (now (near .entry)) (2 * position) 0) ⌝ }
 {
-    let slots = table.len() / 6;
-    let next = first_not_before(table, position, position + 1, slots);
+    let next = near[2 * position] as usize;
     if next < slots { next + 1 } else { slots }
 }
 
-// One past the last position of a window going up: the slots below, from the nearest one down.
-fn end_up(table: &[u64], position: usize) -> usize
-    requires { ⌜ position < length (now table) / 6 ⌝ }
-    requires { ⌜ checkRecords 2 (now table) ≡ Pass ⌝ }
-    ensures { λ r. ⌜ r ≡ windowEndAt 2 (now (table .entry)) true position ⌝ }
+// One past the last position of a window going up.
+fn end_up(near: &[u16], slots: usize, position: usize) -> usize
+    requires { ⌜ (position < slots) × (2 * slots ≤ length (now near)) ⌝ }
+    ensures { λ r. ⌜ r ≡ endBefore slots (getD (now (near .entry)) (2 * (slots - 1 - position) + 1) 0) ⌝ }
 {
-    let slots = table.len() / 6;
-    let slot = slots - 1 - position;
-    let after = last_not_after(table, slot, slot);
-    if 0 < after { slots - after + 1 } else { slots }
+    let before = near[2 * (slots - 1 - position) + 1] as usize;
+    if before < slots {
+        slots - before
+    } else {
+        slots
+    }
 }
 
 // One past the last position of a window.
-fn window_end(table: &[u64], up: bool, position: usize) -> usize
-    requires { ⌜ position < length (now table) / 6 ⌝ }
-    requires { ⌜ checkRecords 2 (now table) ≡ Pass ⌝ }
-    ensures { λ r. ⌜ r ≡ windowEndAt 2 (now (table .entry)) up position ⌝ }
+fn window_end(near: &[u16], slots: usize, up: bool, position: usize) -> usize
+    requires { ⌜ (position < slots) × (2 * slots ≤ length (now near)) ⌝ }
+    ensures { λ r. ⌜ r ≡ listedEnd (now (near .entry)) slots up position ⌝ }
 {
     if up {
-        return end_up(table, position);
+        return end_up(near, slots, position);
     }
-    end_down(table, position)
+    end_down(near, slots, position)
 }
 
 // The planner's number for a position: 0 where it is empty, else the end of its window.
-fn end_at(table: &[u64], up: bool, position: usize) -> u16
-    requires { ⌜ (length (now table) ≤ 6144) × (position < length (now table) / 6) ⌝ }
-    requires { ⌜ checkRecords 2 (now table) ≡ Pass ⌝ }
+fn end_at(table: &[u64], near: &[u16], up: bool, position: usize) -> u16
+    requires { ⌜ (length (now table) ≤ 6144) × (position < length (now table) / 6) × (2 * (length (now table) / 6) ≤ length (now near)) ⌝ }
+    requires { ⌜ (tableChecks 2 (now table) ≡ Pass) × Listed 2 (now table) (now near) ⌝ }
     ensures { λ r. ⌜ r ≡ endAt 2 (now (table .entry)) up position ⌝ }
 {
     let slots = table.len() / 6;
     let slot = slot_at(slots, up, position);
-    if slot_empty(table, slot) {
+    if slot_word(table, slot, 4) == 0 {
         return 0;
     }
-    window_end(table, up, position) as u16
+    window_end(near, slots, up, position) as u16
 }
 
 // The numbers of all positions, into the front of a lent array.
-pub fn fill_ends(table: &[u64], up: bool, ends: &mut [u16])
-    requires { ⌜ (length (now table) ≤ 6144) × (length (now table) / 6 ≤ length (now ends)) ⌝ }
-    requires { ⌜ checkRecords 2 (now table) ≡ Pass ⌝ }
+pub fn fill_ends(table: &[u64], near: &[u16], up: bool, ends: &mut [u16])
+    requires { ⌜ (length (now table) ≤ 6144) × (length (now table) / 6 ≤ length (now ends)) × (2 * (length (now table) / 6) ≤ length (now near)) ⌝ }
+    requires { ⌜ (tableChecks 2 (now table) ≡ Pass) × Listed 2 (now table) (now near) ⌝ }
     ensures { λ _. ⌜ now (ends .exit) ≡ listed (length (now (table .entry)) / 6) (endAt 2 (now (table .entry)) up) ++ drop (length (now (table .entry)) / 6) (now (ends .entry)) ⌝ }
 {
     let slots = table.len() / 6;
     let mut position = 0;
     while position < slots {
-        ends[position] = end_at(table, up, position);
+        ends[position] = end_at(table, near, up, position);
         position += 1;
     }
 }

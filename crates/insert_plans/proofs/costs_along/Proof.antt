@@ -20,9 +20,9 @@ fill-costs-requires : tie.Need-fill-costs-requires
 fill-costs-requires c κs =
     record { few = omega arith; ends-long = omega arith; costs-long = omega arith; within = λ p h. bounded p h }
   where
-    bounded : (p : ℕ) → p < length (now (c .before .before .before .before .before .before .before .before .before .args .table)) / 6 → getD (c .before .before .before .before .fill-ends .last .1 .1 .0) p 0 ≤ length (now (c .before .before .before .before .before .before .before .before .before .args .table)) / 6
+    bounded : (p : ℕ) → p < length (now (c .before .before .before .before .before .before .before .before .before .before .args .table)) / 6 → getD (c .before .before .before .before .fill-ends .last .1 .1 .1 .0) p 0 ≤ length (now (c .before .before .before .before .before .before .before .before .before .before .args .table)) / 6
     bounded p h =
-        let a = c .before .before .before .before .before .before .before .before .before .args in
+        let a = c .before .before .before .before .before .before .before .before .before .before .args in
         let n = length (now (a .table)) / 6 in
         subst (λ (x : ℕ). x ≤ n)
         (sym (ap (λ (l : List ℕ). getD l p 0) (c .before .before .before .before .fill-ends .ensures) ∙ numbers-front n (endAt 2 (now (a .table)) (a .up)) (drop n (now (a .ends))) p h))
@@ -36,8 +36,8 @@ same-length-2 c = search needs
 
 returns : tie.Need-returns
 returns c =
-    let a = c .before .before .before .before .before .before .before .before .before .before .before .before .args in
-    costed 2 (now (a .table)) (a .up) (c .before .before .before .before .before .before .before .fill-ends .last .1 .1 .0) (drop (length (now (a .table)) / 6) (now (a .ends))) (c .before .before .fill-costs .last .1 .0)
+    let a = c .before .before .before .before .before .before .before .before .before .before .before .before .before .args in
+    costed 2 (now (a .table)) (a .up) (c .before .before .before .before .before .before .before .fill-ends .last .1 .1 .1 .0) (drop (length (now (a .table)) / 6) (now (a .ends))) (c .before .before .fill-costs .last .1 .0)
     (c .before .before .before .before .before .before .before .fill-ends .ensures) (c .before .before .fill-costs .ensures .solved)
 
 pub costs-along-spec : {M : Type 1} → statement M

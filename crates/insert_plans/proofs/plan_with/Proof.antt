@@ -1,35 +1,52 @@
 -- `insert_plans::plan_with` meets its contract.
--- The costs of each direction stay as they were found.
+-- The costs of each direction stay as they were found, and the planner's choice from them is the layout's.
+use mathlib.Core.Path.{ap, _∙_}
+use mathlib.Core.List.{List}
+use Prim.Native.Nat.{ℕ}
 use native.Mathlib.Omega.{arith}
+use lib.ListN.{length}
 use denote.Ref.{now}
 use borrow.Author.Needs.{needs}
-use Rattle.insert_plans.specs.InsertsLaws.{insert-length, insert-records}
+use Rattle.records.specs.Laws.{table-checks-length}
+use Rattle.records.specs.declared.Check.the-variants.{Pass}
+use Rattle.buffers.specs.Buffers.{bufferAnswer, bufferAfter}
+use Rattle.insert_plans.specs.Inserts.{choiceBetween, Joined}
+use Rattle.insert_plans.specs.InsertsLaws.{choice-joined}
 use Rattle.insert_plans.proofs.plan_with.Statement.{statement}
 use Rattle.insert_plans.proofs.plan_with.Tie as tie
 
 costs-along-requires : tie.Need-costs-along-requires
 costs-along-requires c κs =
-    let a = c .before .before .before .before .before .before .before .args in
-    let h = insert-length 2 (now (a .table)) (a .rule) (c .before .before .before .before .before .before .before .pre .0) in
-    ((omega arith, omega (arith, c .before .before .before .before .before .before .before .pre .1), omega (arith, c .before .before .before .before .before .before .before .pre .1)), insert-records 2 (now (a .table)) (a .rule) (c .before .before .before .before .before .before .before .pre .0))
+    let pre = c .before .before .before .before .before .before .before .before .pre in
+    let h = table-checks-length 2 (now (c .before .before .before .before .before .before .before .before .args .table)) (pre .0 .0) in
+    ((omega arith, omega (arith, pre .1 .1), omega (arith, pre .1 .1), omega (arith, pre .0 .1)), (pre .0 .0, pre .0 .2))
 
 costs-along-requires-2 : tie.Need-costs-along-requires-2
 costs-along-requires-2 c κs =
-    let a = c .before .before .before .before .before .before .before .before .before .before .before .before .before .before .args in
-    let h = insert-length 2 (now (a .table)) (a .rule) (c .before .before .before .before .before .before .before .before .before .before .before .before .before .before .pre .0) in
-    ((omega arith, omega (arith, c .before .before .before .before .before .before .before .before .before .before .before .before .before .before .pre .1, c .before .before .before .before .before .before .costs-along .kept .1 .1 .0), omega (arith, c .before .before .before .before .before .before .before .before .before .before .before .before .before .before .pre .1)), insert-records 2 (now (a .table)) (a .rule) (c .before .before .before .before .before .before .before .before .before .before .before .before .before .before .pre .0))
+    let pre = c .before .before .before .before .before .before .before .before .before .before .before .before .before .before .before .pre in
+    let h = table-checks-length 2 (now (c .before .before .before .before .before .before .before .before .before .before .before .before .before .before .before .args .table)) (pre .0 .0) in
+    ((omega arith, omega (arith, pre .1 .1, c .before .before .before .before .before .before .costs-along .kept .1 .1 .1 .0), omega (arith, pre .1 .1), omega (arith, pre .0 .1)), (pre .0 .0, pre .0 .2))
 
-plan-priced-requires : tie.Need-plan-priced-requires
-plan-priced-requires c κs =
-    let pre = c .before .before .before .before .before .before .before .before .before .before .before .before .before .before .before .before .before .before .before .before .before .before .pre in (
-      pre .0,
-      (
-        c .before .before .before .before .before .before .before .before .before .before .before .before .before .before .costs-along .ensures,
-        omega (arith, pre .1, c .before .before .before .before .before .before .before .before .before .before .before .before .before .before .costs-along .kept .1 .1 .1 .0),
-        c .before .before .before .before .before .before .before .costs-along2 .ensures,
-        omega (arith, pre .1, c .before .before .before .before .before .before .before .costs-along2 .kept .1 .1 .1 .0),
-      ),
-    )
+choose-insert-requires : tie.Need-choose-insert-requires
+choose-insert-requires c κs =
+    let pre = c .before .before .before .before .before .before .before .before .before .before .before .before .before .before .before .before .before .before .before .before .before .before .pre in
+    let h = table-checks-length 2 (now (c .before .before .before .before .before .before .before .before .before .before .before .before .before .before .before .before .before .before .before .before .before .before .args .table)) (pre .0 .0) in
+    (omega arith, pre .1 .0 .0, omega (arith, pre .1 .1, c .before .before .before .before .before .before .before .before .before .before .before .before .before .costs-along .kept .1 .1 .1 .1 .0), omega (arith, pre .1 .1, c .before .before .before .before .before .before .costs-along2 .kept .1 .1 .1 .1 .0))
+
+-- the choice that the planner took is the layout's
+taken : (c : tie.After-choose-insert)
+    → Joined 2 (now (c .before .before .before .before .before .before .before .before .before .before .before .before .before .before .before .before .before .before .before .before .before .before .before .args .table)) (choiceBetween 2 (now (c .before .before .before .before .before .before .before .before .before .before .before .before .before .before .before .before .before .before .before .before .before .before .before .args .table)) (c .before .before .before .before .before .before .before .before .before .before .before .before .before .before .before .before .before .before .before .before .before .before .before .args .after) (c .before .before .before .before .before .before .before .before .before .before .before .before .before .before .before .before .before .before .before .before .before .before .before .args .dependant)) (c .before .before .before .before .before .before .before .before .before .before .before .before .before .before .costs-along .last .1 .1 .1 .1 .0) (c .before .before .before .before .before .before .before .costs-along2 .last .1 .1 .1 .1 .0) (c .choose-insert .result)
+taken c =
+    let a = c .before .before .before .before .before .before .before .before .before .before .before .before .before .before .before .before .before .before .before .before .before .before .before .args in
+    choice-joined 2 (now (a .table)) (a .after) (a .dependant) (c .before .before .before .before .before .before .before .before .before .before .before .before .before .before .before .before .before .before .before .before .before .before .before .pre .1 .0 .1) (c .before .before .before .before .before .before .before .before .before .before .before .before .before .before .costs-along .last .1 .1 .1 .1 .0) (c .before .before .before .before .before .before .before .costs-along2 .last .1 .1 .1 .1 .0)
+    (c .before .before .before .before .before .before .before .before .before .before .before .before .before .before .costs-along .ensures) (c .before .before .before .before .before .before .before .costs-along2 .ensures) (c .choose-insert .result) (c .choose-insert .ensures)
+
+write-choice-requires : tie.Need-write-choice-requires
+write-choice-requires c κs =
+    let pre = c .before .before .before .before .before .before .before .before .before .before .before .before .before .before .before .before .before .before .before .before .before .before .before .before .before .before .pre in
+    let h = table-checks-length 2 (now (c .before .before .before .before .before .before .before .before .before .before .before .before .before .before .before .before .before .before .before .before .before .before .before .before .before .before .args .table)) (pre .0 .0) in
+    let j = taken (c .before .before .before) in
+    ((omega arith, omega (arith, pre .1 .1, c .before .before .before .before .before .before .before .before .before .before .before .before .before .before .before .before .before .costs-along .kept .1 .1 .1 .1 .0), omega (arith, pre .1 .1, c .before .before .before .before .before .before .before .before .before .before .costs-along2 .kept .1 .1 .1 .1 .0), j .finite), j .stays)
 
 same-length : tie.Need-same-length
 same-length c = search needs
@@ -44,7 +61,12 @@ same-length-4 : tie.Need-same-length-4
 same-length-4 c = search needs
 
 returns : tie.Need-returns
-returns c = search needs
+returns c =
+    let j = taken (c .before .before .before .before .before .before) in
+    let plan = now (c .before .before .before .before .before .before .before .before .before .before .before .before .before .before .before .before .before .before .before .before .before .before .before .before .before .before .before .before .before .args .plan) in (
+      c .before .before .write-choice .ensures .0 ∙ ap (λ (words : List ℕ). bufferAnswer Pass (length words) (length plan)) (j .words),
+      c .before .before .write-choice .ensures .1 ∙ ap (λ (words : List ℕ). bufferAfter Pass words plan) (j .words),
+    )
 
 pub plan-with-spec : {M : Type 1} → statement M
 plan-with-spec =
@@ -52,7 +74,8 @@ plan-with-spec =
     (tie.spec
     costs-along-requires
     costs-along-requires-2
-    plan-priced-requires
+    choose-insert-requires
+    write-choice-requires
     same-length
     same-length-2
     same-length-3

@@ -12,30 +12,30 @@ use Rattle.pairs.proofs.tied_pair.Tie as tie
 slots-overlap-requires : tie.Need-slots-overlap-requires
 slots-overlap-requires c κs = search needs
 
-slot-word-requires : tie.Need-slot-word-requires
-slot-word-requires c κs = search needs
+slot-rank-requires : tie.Need-slot-rank-requires
+slot-rank-requires c κs = search needs
 
-slot-word-requires-2 : tie.Need-slot-word-requires-2
-slot-word-requires-2 c κs = search needs
+slot-rank-requires-2 : tie.Need-slot-rank-requires-2
+slot-rank-requires-2 c κs = search needs
 
 distinct-rules-requires : tie.Need-distinct-rules-requires
 distinct-rules-requires c κs = search needs
 
 returns : tie.Need-returns
 unfolding tied
-returns c = and-more (ap₂ _&&_ (c .before .before .before .before .slots-overlap .ensures) (ap₂ eqb (c .before .before .before .slot-word .ensures) (c .before .before .slot-word2 .ensures))) (c .before .if1 .taken) (c .distinct-rules .ensures)
+returns c = and-more (ap₂ _&&_ (c .before .before .before .before .slots-overlap .ensures) (ap₂ eqb (c .before .before .before .slot-rank .ensures) (c .before .before .slot-rank2 .ensures))) (c .before .if1 .taken) (c .distinct-rules .ensures)
 
 returns-2 : tie.Need-returns-2
 unfolding tied
-returns-2 c = and-stop _ (ap₂ _&&_ (c .before .before .before .slots-overlap .ensures) (ap₂ eqb (c .before .before .slot-word .ensures) (c .before .slot-word2 .ensures))) (c .if1 .left)
+returns-2 c = and-stop _ (ap₂ _&&_ (c .before .before .before .slots-overlap .ensures) (ap₂ eqb (c .before .before .slot-rank .ensures) (c .before .slot-rank2 .ensures))) (c .if1 .left)
 
 pub tied-pair-spec : {M : Type 1} → statement M
 tied-pair-spec =
     tie.close
     (tie.spec
     slots-overlap-requires
-    slot-word-requires
-    slot-word-requires-2
+    slot-rank-requires
+    slot-rank-requires-2
     distinct-rules-requires
     returns
     returns-2)

@@ -14,11 +14,11 @@ use Rattle.windows.proofs.fill_ends.Statement.{statement}
 use Rattle.windows.proofs.fill_ends.Tie as tie
 
 abbrev Inv-loop : tie.InvT-loop
-Inv-loop table up ends₀ slots position₀ ends position =
+Inv-loop table near up ends₀ slots position₀ ends position =
     (position ≤ slots) × (length ends ≡ length ends₀) × (ends ≡ listed position (endAt 2 table up) ++ drop position ends₀)
 
 abbrev μ-loop : tie.MeasureT-loop
-μ-loop table up ends₀ slots position₀ ends position = slots - position
+μ-loop table near up ends₀ slots position₀ ends position = slots - position
 
 loop-holds : tie.Need-loop-holds Inv-loop μ-loop
 unfolding listed
@@ -41,7 +41,7 @@ loop-less c = omega arith
 
 loop-again : tie.Need-loop-again Inv-loop μ-loop
 loop-again c =
-    let a = c .before .before .before .before .before .args in
+    let a = c .before .before .before .before .before .before .args in
     let inv = c .before .before .loop .inv in
     let i = c .before .before .loop .position in (
       omega arith,
@@ -54,7 +54,7 @@ same-length c = omega arith
 
 returns : tie.Need-returns Inv-loop μ-loop
 returns c =
-    let a = c .before .before .before .before .args in
+    let a = c .before .before .before .before .before .args in
     let done : c .before .loop .position ≡ length (now (a .table)) / 6 = omega arith in
     c .before .loop .inv .2 ∙ ap (λ (n : ℕ). listed n (endAt 2 (now (a .table)) (a .up)) ++ drop n (now (a .ends))) done
 

@@ -2,7 +2,6 @@
 -- Each check is made where those before it pass.
 use borrow.Author.Needs.{needs}
 use Rattle.records.specs.Laws.{failed, passed}
-use Rattle.neighbours.specs.Neighbours.{newChecks}
 use Rattle.neighbours.proofs.checks.check_new.Statement.{statement}
 use Rattle.neighbours.proofs.checks.check_new.Tie as tie
 
@@ -13,7 +12,6 @@ enum-known-known : tie.Need-enum-known-known
 enum-known-known c = search needs
 
 returns : tie.Need-returns
-unfolding newChecks
 returns c = failed _ (c .before .before .before .check-known .ensures) (c .before .known .given .1)
 
 enum-told : tie.Need-enum-told
@@ -26,7 +24,6 @@ enum-known-tie : tie.Need-enum-known-tie
 enum-known-tie c = search needs
 
 returns-2 : tie.Need-returns-2
-unfolding newChecks
 returns-2 c = passed (c .before .before .before .before .before .before .check-known .ensures) (c .before .before .before .before .enum-told .given .1) (failed _ (c .before .before .before .check-tie .ensures) (c .before .tie .given .1))
 
 enum-told-2 : tie.Need-enum-told-2
@@ -35,22 +32,8 @@ enum-told-2 c = search needs
 check-full-requires : tie.Need-check-full-requires
 check-full-requires c κs = search needs
 
-enum-known-full : tie.Need-enum-known-full
-enum-known-full c = search needs
-
 returns-3 : tie.Need-returns-3
-unfolding newChecks
-returns-3 c = passed (c .before .before .before .before .before .before .before .before .before .check-known .ensures) (c .before .before .before .before .before .before .before .enum-told .given .1) (passed (c .before .before .before .before .before .before .check-tie .ensures) (c .before .before .before .before .enum-told2 .given .1) (failed _ (c .before .before .before .check-full .ensures) (c .before .full .given .1)))
-
-enum-told-3 : tie.Need-enum-told-3
-enum-told-3 c = search needs
-
-check-crossed-requires : tie.Need-check-crossed-requires
-check-crossed-requires c κs = search needs
-
-returns-4 : tie.Need-returns-4
-unfolding newChecks
-returns-4 c = passed (c .before .before .before .before .before .before .before .before .before .check-known .ensures) (c .before .before .before .before .before .before .before .enum-told .given .1) (passed (c .before .before .before .before .before .before .check-tie .ensures) (c .before .before .before .before .enum-told2 .given .1) (passed (c .before .before .before .check-full .ensures) (c .before .enum-told3 .given .1) (c .check-crossed .ensures)))
+returns-3 c = passed (c .before .before .before .before .before .before .check-known .ensures) (c .before .before .before .before .enum-told .given .1) (passed (c .before .before .before .check-tie .ensures) (c .before .enum-told2 .given .1) (c .check-full .ensures))
 
 pub check-new-spec : {M : Type 1} → statement M
 check-new-spec =
@@ -65,8 +48,4 @@ check-new-spec =
     returns-2
     enum-told-2
     check-full-requires
-    enum-known-full
-    returns-3
-    enum-told-3
-    check-crossed-requires
-    returns-4)
+    returns-3)

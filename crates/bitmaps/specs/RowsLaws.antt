@@ -1,0 +1,344 @@
+-- Laws on the maps: what a loop over rows adds, that a set bit tells two rules apart, how many bits of words are set, the walk over
+-- them, and chosen places spread over them.
+use mathlib.Core.Path.{_≡_, refl, sym, ap, _∙_}
+use mathlib.Core.Bool.{false}
+use mathlib.Core.Logic.{_⊎_, ⊎-elim}
+use mathlib.Core.Logic._⊎_.{inl, inr}
+use mathlib.Core.List.{List}
+use Prim.Native.Nat.{ℕ, zero, suc, _+_, _-_, _*_, _/_, _%_, _^_, _<_, _≤_}
+use native.Mathlib.Decide.{ℕ-discrete, decLt}
+use native.Mathlib.Nat.{lt-of-lt-of-le}
+use native.Mathlib.Numerals.{add-one}
+use native.Mathlib.Omega.{arith}
+use lib.ListN.{length, getD, set, length-set}
+use lib.Seq.{getD-set-same, getD-set-other}
+use lib.Bits.{bitAnd, bitOr}
+use lib.Pow.{pow-mono}
+use Rattle.search.specs.SearchLaws.{decided}
+use Rattle.ternary.specs.Bit.{bit}
+use Rattle.ternary.specs.BitLaws.{bit-lt, bit-and, bit-or, bit-zero}
+use Rattle.ternary.specs.Pattern.{overlaps}
+use Rattle.ternary.specs.PatternLaws.{overlaps-law}
+use Rattle.records.specs.Record.{slotWords, value, mask}
+use Rattle.bitmaps.specs.Flags.{withBit, turned, Top}
+use Rattle.bitmaps.specs.FlagsLaws.{bit-high, with-was, with-other, turned-same, turned-other}
+use Rattle.bitmaps.specs.Rows.{gathered, noted, Says, Mark, Screen, Own, Other, Both, RowsOf, Spread, ones, total, Walk}
+
+pub gathered-more : (maps rows : List ℕ) (block k x : ℕ) → x ≡ gathered maps rows block k
+    → bitOr x (getD maps (getD rows k 0 + block) 0) ≡ gathered maps rows block (k + 1)
+unfolding gathered
+gathered-more maps rows block k x e = rw (add-one k, e)
+
+-- a bit set in the join is set in one of the rows
+pub gathered-bit : (maps rows : List ℕ) (block k s : ℕ) → bit (gathered maps rows block k) s ≡ 1
+    → (m : ℕ) × (m < k) × (bit (getD maps (getD rows m 0 + block) 0) s ≡ 1)
+unfolding gathered
+gathered-bit maps rows block zero s e = absurd (let z = bit-zero s in omega arith)
+gathered-bit maps rows block (suc k) s e = pick (gathered-bit maps rows block k s) (ℕ-discrete (bit (gathered maps rows block k) s) 1)
+  where
+    here : ℕ
+    here = getD maps (getD rows k 0 + block) 0
+
+    pick : (bit (gathered maps rows block k) s ≡ 1 → (m : ℕ) × (m < k) × (bit (getD maps (getD rows m 0 + block) 0) s ≡ 1))
+        → Dec (bit (gathered maps rows block k) s ≡ 1) → (m : ℕ) × (m < suc k) × (bit (getD maps (getD rows m 0 + block) 0) s ≡ 1)
+    pick ih (yes q) = let r = ih q in (r .0, (let h = r .1 in omega arith), r .2)
+    pick ih (no n) =
+        let o = bit-or (gathered maps rows block k) (getD maps (getD rows k 0 + block) 0) s in
+        let l = bit-lt (gathered maps rows block k) s in
+        (k, omega arith, omega arith)
+
+pub length-noted : (maps rows : List ℕ) (block s k : ℕ) → length (noted maps rows block s k) ≡ length maps
+unfolding noted
+length-noted maps rows block s zero = refl
+length-noted maps rows block s (suc k) = length-set (noted maps rows block s k) _ _ ∙ length-noted maps rows block s k
+
+pub noted-more : (maps rows : List ℕ) (block s k : ℕ) (now : List ℕ) → now ≡ noted maps rows block s k
+    → set now (getD rows k 0 + block) (withBit (getD now (getD rows k 0 + block) 0) s) ≡ noted maps rows block s (k + 1)
+unfolding noted
+noted-more maps rows block s k now e = rw (add-one k, e)
+
+-- a bit of the noted maps was there, or is bit s of a noted word
+pub noted-bit : (maps rows : List ℕ) (block s k : ℕ) → ((m : ℕ) → m < k → getD rows m 0 + block < length maps) → (a i : ℕ)
+    → bit (getD (noted maps rows block s k) a 0) i ≡ 1
+    → (bit (getD maps a 0) i ≡ 1) ⊎ ((m : ℕ) × (m < k) × (a ≡ getD rows m 0 + block) × (i ≡ s))
+unfolding noted
+noted-bit maps rows block s zero fit a i e = inl e
+noted-bit maps rows block s (suc k) fit a i e =
+    pick (λ f. widen (noted-bit maps rows block s k (λ m h. fit m (omega arith)) a i f)) (ℕ-discrete a at)
+  where
+    at : ℕ
+    at = getD rows k 0 + block
+
+    old : List ℕ
+    old = noted maps rows block s k
+
+    widen : (bit (getD maps a 0) i ≡ 1) ⊎ ((m : ℕ) × (m < k) × (a ≡ getD rows m 0 + block) × (i ≡ s))
+        → (bit (getD maps a 0) i ≡ 1) ⊎ ((m : ℕ) × (m < suc k) × (a ≡ getD rows m 0 + block) × (i ≡ s))
+    widen (inl f) = inl f
+    widen (inr r) = inr (r .0, (let h = r .1 in omega arith), r .2, r .3)
+
+    pick : (bit (getD old a 0) i ≡ 1 → (bit (getD maps a 0) i ≡ 1) ⊎ ((m : ℕ) × (m < suc k) × (a ≡ getD rows m 0 + block) × (i ≡ s)))
+        → Dec (a ≡ at) → (bit (getD maps a 0) i ≡ 1) ⊎ ((m : ℕ) × (m < suc k) × (a ≡ getD rows m 0 + block) × (i ≡ s))
+    pick ih (yes q) =
+        let l = length-noted maps rows block s k in
+        let h : at < length old = (let f = fit k (omega arith) in omega arith) in
+        let g : getD (set old at (withBit (getD old at 0) s)) a 0 ≡ withBit (getD old at 0) s
+        = ap (λ (x : ℕ). getD (set old at (withBit (getD old at 0) s)) x 0) q ∙ getD-set-same old at _ 0 h in
+        ⊎-elim (λ f. inr (k, omega arith, q, f)) (λ f. ih (ap (λ (x : ℕ). bit (getD old x 0) i) q ∙ f))
+        (with-was (getD old at 0) s i (ap (λ (x : ℕ). bit x i) (sym g) ∙ e))
+    pick ih (no n) = ih (ap (λ (x : ℕ). bit x i) (sym (getD-set-other old at a _ 0 n)) ∙ e)
+
+-- two slots that care at one place with different values do not overlap
+pub says-apart : (w : ℕ) (t : List ℕ) (i j p v u : ℕ) → p < 64 * w → Says w t i p v → Says w t j p u → (v ≡ u → ⊥)
+    → overlaps w (value (slotWords w t i)) (mask w (slotWords w t i)) (value (slotWords w t j)) (mask w (slotWords w t j)) ≡ false
+says-apart w t i j p v u h a b n =
+    ⊎-elim
+    (λ o. absurd (overlaps-law w (value (slotWords w t i)) (mask w (slotWords w t i)) (value (slotWords w t j)) (mask w (slotWords w t j)) .0 o (p / 64) (omega arith) (p % 64)
+    (a .cares, b .cares, λ e. n (sym (a .valued) ∙ (e ∙ b .valued)))))
+    (λ f. f) (decided _)
+
+-- a slot noted in the rows of its own values
+pub screen-note : (w : ℕ) (t places maps rows : List ℕ) (count j k : ℕ) → j < 1024 → Screen w t places maps j
+    → ((m : ℕ) → m < k → Own w t places count j (getD rows m 0)) → ((m : ℕ) → m < k → getD rows m 0 + j / 64 < length maps)
+    → Screen w t places (noted maps rows (j / 64) (j % 64) k) (suc j)
+screen-note w t places maps rows count j k small old own fit a s e =
+    ⊎-elim (λ f. let r = old a s f in record { earlier = (let h = r .earlier in omega arith); says = r .says }) new
+    (noted-bit maps rows (j / 64) (j % 64) k fit a s e)
+  where
+    new : (m : ℕ) × (m < k) × (a ≡ getD rows m 0 + j / 64) × (s ≡ j % 64) → Mark w t places (suc j) a s
+    new r =
+        let o = own (r .0) (r .1) in
+        let q = r .2 in
+        let z = o .start in
+        let i : 64 * (a % 16) + s ≡ j = (let f = r .3 in omega arith) in
+        let p : a / 32 ≡ getD rows (r .0) 0 / 32 = omega arith in
+        let v : a / 16 ≡ getD rows (r .0) 0 / 16 = omega arith in
+        record { earlier = omega arith; says = rw (i, p, v) (o .says) }
+
+-- the screen tells the truth: a slot of a block whose bit is in the join of the other rows does not overlap the slot
+pub screen-apart : (w : ℕ) (t places maps rows : List ℕ) (count n j block k s : ℕ) → Screen w t places maps n → block < 16
+    → ((m : ℕ) → m < count → getD places m 0 < 64 * w) → ((m : ℕ) → m < k → Other w t places count j (getD rows m 0))
+    → bit (gathered maps rows block k) s ≡ 1
+    → overlaps w (value (slotWords w t (64 * block + s))) (mask w (slotWords w t (64 * block + s))) (value (slotWords w t j)) (mask w (slotWords w t j)) ≡ false
+screen-apart w t places maps rows count n j block k s screen small within other e =
+    let g = gathered-bit maps rows block k s e in
+    let row = getD rows (g .0) 0 in
+    let o = other (g .0) (g .1) in
+    let z = o .start in
+    let m = screen (row + block) s (g .2) in
+    let i : (row + block) % 16 ≡ block = omega arith in
+    let p : (row + block) / 32 ≡ row / 32 = omega arith in
+    let v : (row + block) / 16 ≡ row / 16 = omega arith in
+    says-apart w t (64 * block + s) j (getD places (row / 32) 0) (row / 16 % 2) (1 - row / 16 % 2) (within (row / 32) (o .known))
+    (rw (i, p, v) at (m .says)) (o .says) (λ q. omega arith)
+
+-- the rows of place k, where the slot cares there
+pub both-rows : (w : ℕ) (t places : List ℕ) (count j k v : ℕ) → k < count → v < 2 → Says w t j (getD places k 0) v
+    → Both w t places count j (32 * k + 16 * (1 - v)) (32 * k + 16 * v)
+both-rows w t places count j k v h l s =
+    let p : (32 * k + 16 * v) / 32 ≡ k = omega arith in
+    let q : (32 * k + 16 * (1 - v)) / 32 ≡ k = omega arith in
+    let a : (32 * k + 16 * v) / 16 ≡ 2 * k + v = omega arith in
+    let b : (32 * k + 16 * (1 - v)) / 16 ≡ 2 * k + (1 - v) = omega arith in
+    let a′ : (2 * k + v) % 2 ≡ v = omega arith in
+    let b′ : 1 - (2 * k + (1 - v)) % 2 ≡ v = omega arith in
+    record {
+      other = record { start = omega arith; known = omega arith; says = rw (q, b, b′) s };
+      own = record { start = omega arith; known = omega arith; says = rw (p, a, a′) s };
+    }
+
+-- one more place that the slot cares for
+pub filled-more : (w : ℕ) (t places : List ℕ) (count j : ℕ) (others own : List ℕ) (k v used : ℕ)
+    → used < length others → used < length own → k < count → v < 2 → Says w t j (getD places k 0) v
+    → RowsOf w t places count j others own used
+    → RowsOf w t places count j (set others used (32 * k + 16 * (1 - v))) (set own used (32 * k + 16 * v)) (used + 1)
+filled-more w t places count j others own k v used ho hw h l says old m lm = pick (ℕ-discrete m used)
+  where
+    pick : Dec (m ≡ used) → Both w t places count j (getD (set others used (32 * k + 16 * (1 - v))) m 0) (getD (set own used (32 * k + 16 * v)) m 0)
+    pick (yes q) =
+        rw (q, getD-set-same others used (32 * k + 16 * (1 - v)) 0 ho, getD-set-same own used (32 * k + 16 * v) 0 hw)
+        (both-rows w t places count j k v h l says)
+    pick (no n) =
+        rw (getD-set-other others used m (32 * k + 16 * (1 - v)) 0 n, getD-set-other own used m (32 * k + 16 * v) 0 n) (old m (omega arith))
+
+-- a bit of two words joined by and
+pub shared-bit : (x y s : ℕ) → bit (bitAnd x y) s ≡ 1 → (bit x s ≡ 1) × (bit y s ≡ 1)
+shared-bit x y s e = let o = bit-and x y s in let a = bit-lt x s in let b = bit-lt y s in (omega arith, omega arith)
+
+-- one more bit of a word: a chosen place that the slot cares for
+pub filled-bit : (w : ℕ) (t places : List ℕ) (count j : ℕ) (chosen rows others own : List ℕ) (word s v used : ℕ)
+    → used < length others → used < length own → s < 64 → v < 2 → Spread places count chosen rows
+    → bit (bitAnd (mask w (slotWords w t j) word) (getD chosen word 0)) s ≡ 1 → bit (value (slotWords w t j) word) s ≡ v
+    → RowsOf w t places count j others own used
+    → RowsOf w t places count j (set others used (getD rows (64 * word + s) 0 + 16 * (1 - v))) (set own used (getD rows (64 * word + s) 0 + 16 * v)) (used + 1)
+filled-bit w t places count j chosen rows others own word s v used ho hw l h spread hit e old =
+    let both = shared-bit (mask w (slotWords w t j) word) (getD chosen word 0) s hit in
+    let found = spread word s l (both .1) in
+    let p : (64 * word + s) / 64 ≡ word = omega arith in
+    let q : (64 * word + s) % 64 ≡ s = omega arith in
+    rw (found .2)
+    (filled-more w t places count j others own (found .0) v used ho hw (found .1) h
+    (rw (found .3) (record { cares = rw (p, q) (both .0); valued = rw (p, q) e })) old)
+
+-- more places have no fewer bits, and a word joined by and no more than either has
+ones-more : (x i k : ℕ) → i ≤ k → ones x i ≤ ones x k
+unfolding ones
+ones-more x i zero h = let e : i ≡ 0 = omega arith in rw e (omega arith)
+ones-more x i (suc k) h = pick (ones-more x i k) (ℕ-discrete i (suc k))
+  where
+    pick : (i ≤ k → ones x i ≤ ones x k) → Dec (i ≡ suc k) → ones x i ≤ ones x k + bit x k
+    pick ih (yes e) = rw e (omega arith)
+    pick ih (no n) = let l = ih (omega arith) in omega arith
+
+ones-and : (x y i : ℕ) → ones (bitAnd x y) i ≤ ones y i
+unfolding ones
+ones-and x y zero = omega arith
+ones-and x y (suc i) = let l = ones-and x y i in let e = bit-and x y i in omega arith
+
+-- one bit set adds at most one
+ones-before : (x s i : ℕ) → i ≤ s → ones (withBit x s) i ≡ ones x i
+unfolding ones
+ones-before x s zero h = refl
+ones-before x s (suc i) h =
+    let l = ones-before x s i (omega arith) in
+    let e = with-other x s i (λ q. (omega arith)) in
+    omega arith
+
+ones-with : (x s i : ℕ) → ones (withBit x s) i ≤ ones x i + 1
+unfolding ones
+ones-with x s zero = omega arith
+ones-with x s (suc i) = pick (ones-with x s i) (ℕ-discrete i s)
+  where
+    pick : ones (withBit x s) i ≤ ones x i + 1 → Dec (i ≡ s) → ones (withBit x s) i + bit (withBit x s) i ≤ ones x i + bit x i + 1
+    pick ih (yes q) = let l = ones-before x s i (omega arith) in let b = bit-lt (withBit x s) i in omega arith
+    pick ih (no n) = let e = with-other x s i n in omega arith
+
+total-before : (words : List ℕ) (j x k : ℕ) → k ≤ j → total (set words j x) k ≡ total words k
+unfolding total
+total-before words j x zero h = refl
+total-before words j x (suc k) h =
+    let l = total-before words j x k (omega arith) in
+    let e = ap (λ (y : ℕ). ones y 64) (getD-set-other words j k x 0 (λ q. (omega arith))) in
+    omega arith
+
+pub total-with : (words : List ℕ) (j s k : ℕ) → j < length words → total (set words j (withBit (getD words j 0) s)) k ≤ total words k + 1
+unfolding total
+total-with words j s zero h = omega arith
+total-with words j s (suc k) h = pick (total-with words j s k h) (ℕ-discrete k j)
+  where
+    set-words : List ℕ
+    set-words = set words j (withBit (getD words j 0) s)
+
+    pick : total set-words k ≤ total words k + 1 → Dec (k ≡ j) → total set-words k + ones (getD set-words k 0) 64 ≤ total words k + ones (getD words k 0) 64 + 1
+    pick ih (yes q) =
+        let l = total-before words j (withBit (getD words j 0) s) k (omega arith) in
+        let e : ones (getD set-words k 0) 64 ≡ ones (withBit (getD words j 0) s) 64
+        = ap (λ (y : ℕ). ones (getD set-words y 0) 64) q ∙ ap (λ (y : ℕ). ones y 64) (getD-set-same words j (withBit (getD words j 0) s) 0 h) in
+        let f : ones (getD words k 0) 64 ≡ ones (getD words j 0) 64 = ap (λ (y : ℕ). ones (getD words y 0) 64) q in
+        let m = ones-with (getD words j 0) s 64 in
+        omega arith
+    pick ih (no n) =
+        let e = ap (λ (y : ℕ). ones y 64) (getD-set-other words j k (withBit (getD words j 0) s) 0 n) in
+        omega arith
+
+pub total-more : (words : List ℕ) (i k : ℕ) → i ≤ k → total words i ≤ total words k
+unfolding total
+total-more words i zero h = let e : i ≡ 0 = omega arith in rw e (omega arith)
+total-more words i (suc k) h = pick (total-more words i k) (ℕ-discrete i (suc k))
+  where
+    pick : (i ≤ k → total words i ≤ total words k) → Dec (i ≡ suc k) → total words i ≤ total words k + ones (getD words k 0) 64
+    pick ih (yes e) = rw e (omega arith)
+    pick ih (no n) = let l = ih (omega arith) in omega arith
+
+-- words that are all zero have no bit
+ones-none : (i : ℕ) → ones 0 i ≡ 0
+unfolding ones
+ones-none zero = refl
+ones-none (suc i) = let l = ones-none i in let b = bit-zero i in omega arith
+
+pub total-none : (words : List ℕ) → ((word : ℕ) → getD words word 0 ≡ 0) → (k : ℕ) → total words k ≡ 0
+unfolding total
+total-none words z zero = refl
+total-none words z (suc k) =
+    let l = total-none words z k in
+    let e = ap (λ (y : ℕ). ones y 64) (z k) in
+    let o = ones-none 64 in
+    omega arith
+
+-- a walk's start, its next turn, and room for the bit it is at
+pub walk-start : (words : List ℕ) (x word used : ℕ) → bitAnd x (getD words word 0) < 2 ^ 64 → used ≤ total words word
+    → Walk (bitAnd x (getD words word 0)) (bitAnd x (getD words word 0)) used (total words (word + 1))
+unfolding total
+walk-start words x word used h l = record {
+  place = 64;
+  fits = (let o = ones-and x (getD words word 0) 64 in rw (add-one word) (omega arith));
+  none = λ i m. bit-high (bitAnd x (getD words word 0)) i (lt-of-lt-of-le h (pow-mono m));
+  was = λ i e. e;
+}
+
+module _ (word left used room s : ℕ) (walk : Walk word left used room) (top : Top left s) where
+  lower : s < walk .place
+  lower = pick (decLt s (walk .place))
+    where
+      pick : Dec (s < walk .place) → s < walk .place
+      pick (yes h) = h
+      pick (no n) = absurd (let z = walk .none s (omega arith) in let o = top .hit in omega arith)
+
+  -- the bit it is at is one of those below its place
+  next : used + 1 + ones word s ≤ room
+  unfolding ones
+  next =
+      let h = ones-more word (suc s) (walk .place) lower in
+      let f = walk .fits in
+      let o = walk .was s (top .hit) in
+      omega arith
+
+  pub walk-room : used < room
+  walk-room = let h = next in omega arith
+
+  pub walk-on : Walk word (turned left s) (used + 1) room
+  walk-on = record {
+    place = s;
+    fits = next;
+    none = λ i m. pick i m (ℕ-discrete i s);
+    was = λ i e. kept i e (ℕ-discrete i s);
+  }
+    where
+      pick : (i : ℕ) → s ≤ i → Dec (i ≡ s) → bit (turned left s) i ≡ 0
+      pick i m (yes q) = rw q (turned-same left s (top .hit))
+      pick i m (no n) = turned-other left s i n ∙ top .above i (omega arith)
+
+      kept : (i : ℕ) → bit (turned left s) i ≡ 1 → Dec (i ≡ s) → bit word i ≡ 1
+      kept i e (yes q) = walk .was i (rw q (top .hit))
+      kept i e (no n) = walk .was i (sym (turned-other left s i n) ∙ e)
+
+-- one more place spread
+pub spread-more : (places chosen rows : List ℕ) (k place : ℕ) → place / 64 < length chosen → place < length rows → getD places k 0 ≡ place
+    → Spread places k chosen rows
+    → Spread places (k + 1) (set chosen (place / 64) (withBit (getD chosen (place / 64) 0) (place % 64))) (set rows place (32 * k))
+spread-more places chosen rows k place hc hr e old word t l hit = pick (ℕ-discrete (64 * word + t) place) (ℕ-discrete word (place / 64))
+  where
+    marked : List ℕ
+    marked = set chosen (place / 64) (withBit (getD chosen (place / 64) 0) (place % 64))
+
+    widen : bit (getD chosen word 0) t ≡ 1 → (64 * word + t ≡ place → ⊥)
+        → (m : ℕ) × (m < k + 1) × (getD (set rows place (32 * k)) (64 * word + t) 0 ≡ 32 * m) × (getD places m 0 ≡ 64 * word + t)
+    widen f n =
+        let r = old word t l f in
+        (r .0, (let h = r .1 in omega arith), getD-set-other rows place (64 * word + t) (32 * k) 0 n ∙ r .2, r .3)
+
+    pick : Dec (64 * word + t ≡ place) → Dec (word ≡ place / 64)
+        → (m : ℕ) × (m < k + 1) × (getD (set rows place (32 * k)) (64 * word + t) 0 ≡ 32 * m) × (getD places m 0 ≡ 64 * word + t)
+    pick (yes q) d =
+        (k, omega arith, ap (λ (x : ℕ). getD (set rows place (32 * k)) x 0) q ∙ getD-set-same rows place (32 * k) 0 hr, e ∙ sym q)
+    pick (no n) (yes q) =
+        let g : getD marked word 0 ≡ withBit (getD chosen (place / 64) 0) (place % 64)
+        = ap (λ (x : ℕ). getD marked x 0) q ∙ getD-set-same chosen (place / 64) _ 0 hc in
+        let o : t ≡ place % 64 → ⊥ = λ f. n (omega arith) in
+        widen (ap (λ (x : ℕ). bit (getD chosen x 0) t) q ∙ (sym (with-other (getD chosen (place / 64) 0) (place % 64) t o) ∙ (ap (λ (x : ℕ). bit x t) (sym g) ∙ hit))) n
+    pick (no n) (no d) = widen (ap (λ (x : ℕ). bit x t) (sym (getD-set-other chosen (place / 64) word _ 0 d)) ∙ hit) n
+
+-- no place is chosen in words that are all zero
+pub spread-none : (places : List ℕ) (count : ℕ) (chosen rows : List ℕ) → ((word : ℕ) → getD chosen word 0 ≡ 0) → Spread places count chosen rows
+spread-none places count chosen rows z word t l hit =
+    absurd (let n = bit-zero t in let m : bit (getD chosen word 0) t ≡ bit 0 t = ap (λ (x : ℕ). bit x t) (z word) in omega arith)

@@ -1,0 +1,113 @@
+-- End theorems on the numbers of a neighbour list, in document 01's words, for any table: the nearest dependant going down,
+-- the nearest rule that precedes going up, and 65,535 exactly where there is none.
+use mathlib.Core.Path.{_≡_, sym, ap, _∙_}
+use mathlib.Core.Bool.{Bool, true, false, cond}
+use mathlib.Core.Logic.{_↔_}
+use mathlib.Core.List.{List}
+use Prim.Native.Nat.{ℕ, suc, _+_, _-_, _≤_, _<_}
+use native.Mathlib.Decide.{decLt}
+use native.Mathlib.Omega.{arith}
+use lib.Dec.{ltb}
+use borrow.Author.Tests.{lt-ltb, le-ltb}
+use Rattle.search.specs.Search.{least, Least, afterLast, AfterLast}
+use Rattle.search.specs.SearchLaws.{least-law, least-unique, after-last-law, after-last-unique}
+use Rattle.layout.specs.Order.{Higher, Lower}
+use Rattle.records.specs.Order.{slots}
+use Rattle.neighbour_lists.specs.Lists.{firstFrom, lastBelow, nextDependant, lastPreceding}
+use Rattle.insert_plans.specs.Nearest.{dependsAt, precedesAt, Nearest}
+
+-- of n slots, fewer than 65,535, the first after slot i at which a test holds
+module _ (p : ℕ → Bool) (n i : ℕ) (few : n ≤ 65535) (h : i < n) where
+  abbrev m : ℕ
+  m = least p (n - suc i) (suc i)
+
+  first-law : Least p (suc i) (suc i + (n - suc i)) m
+  first-law = least-law p (n - suc i) (suc i)
+
+  first-is : (d : ℕ) → d < n → (firstFrom p (suc i) n ≡ d) ↔ ((i < d) × (p d ≡ true) × ((y : ℕ) → i < y → y < d → p y ≡ false))
+  unfolding firstFrom
+  first-is d l = (to (decLt m n), from)
+    where
+      to : Dec (m < n) → cond (ltb m n) m 65535 ≡ d → (i < d) × (p d ≡ true) × ((y : ℕ) → i < y → y < d → p y ≡ false)
+      to (yes a) e =
+          let q : m ≡ d = sym (ap (λ (b : Bool). cond b m 65535) (lt-ltb m n a)) ∙ e in
+          (omega (arith, first-law .low, q), ap p (sym q) ∙ first-law .hit (omega arith), λ y u v. first-law .before y u (omega (arith, q)))
+      to (no a) e = absurd (let q : 65535 ≡ d = sym (ap (λ (b : Bool). cond b m 65535) (le-ltb m n (omega arith))) ∙ e in omega (arith, q))
+
+      from : (i < d) × (p d ≡ true) × ((y : ℕ) → i < y → y < d → p y ≡ false) → cond (ltb m n) m 65535 ≡ d
+      from z =
+          let q : m ≡ d = least-unique first-law (record { low = z .0; high = omega arith; before = λ y u v. z .2 y u v; hit = λ u. z .1 }) in
+          ap (λ (b : Bool). cond b m 65535) (lt-ltb m n (omega (arith, q))) ∙ q
+
+  first-none : (firstFrom p (suc i) n ≡ 65535) ↔ ((y : ℕ) → i < y → y < n → p y ≡ false)
+  unfolding firstFrom
+  first-none = (to (decLt m n), from)
+    where
+      to : Dec (m < n) → cond (ltb m n) m 65535 ≡ 65535 → (y : ℕ) → i < y → y < n → p y ≡ false
+      to (yes a) e y u v = absurd (let q : m ≡ 65535 = sym (ap (λ (b : Bool). cond b m 65535) (lt-ltb m n a)) ∙ e in omega (arith, q))
+      to (no a) e y u v = first-law .before y u (omega arith)
+
+      from : ((y : ℕ) → i < y → y < n → p y ≡ false) → cond (ltb m n) m 65535 ≡ 65535
+      from f =
+          let q : m ≡ n = least-unique first-law (record { low = omega arith; high = omega arith; before = λ y u v. f y u v; hit = λ u. absurd (omega arith) }) in
+          ap (λ (b : Bool). cond b m 65535) (le-ltb m n (omega (arith, q)))
+
+-- of the slots below slot i, fewer than 65,535, the last at which a test holds
+module _ (p : ℕ → Bool) (i : ℕ) (few : i ≤ 65535) where
+  abbrev a : ℕ
+  a = afterLast p i
+
+  last-law : AfterLast p i a
+  last-law = after-last-law p i
+
+  last-is : (d : ℕ) → d < 65535 → (lastBelow p i ≡ d) ↔ ((d < i) × (p d ≡ true) × ((y : ℕ) → d < y → y < i → p y ≡ false))
+  unfolding lastBelow
+  last-is d l = (to (decLt 0 a), from)
+    where
+      to : Dec (0 < a) → cond (ltb 0 a) (a - 1) 65535 ≡ d → (d < i) × (p d ≡ true) × ((y : ℕ) → d < y → y < i → p y ≡ false)
+      to (yes b) e =
+          let q : a - 1 ≡ d = sym (ap (λ (c : Bool). cond c (a - 1) 65535) (lt-ltb 0 a b)) ∙ e in
+          (omega (arith, last-law .high, q), last-law .hit d (omega (arith, q)), λ y u v. last-law .after y (omega (arith, q)) v)
+      to (no b) e = absurd (let q : 65535 ≡ d = sym (ap (λ (c : Bool). cond c (a - 1) 65535) (le-ltb 0 a (omega arith))) ∙ e in omega (arith, q))
+
+      from : (d < i) × (p d ≡ true) × ((y : ℕ) → d < y → y < i → p y ≡ false) → cond (ltb 0 a) (a - 1) 65535 ≡ d
+      from z =
+          let q : a ≡ suc d = after-last-unique last-law (record { high = z .0; after = λ y u v. z .2 y u v; hit = λ y g. (let f : y ≡ d = omega (arith, g) in ap p f ∙ z .1) }) in
+          ap (λ (c : Bool). cond c (a - 1) 65535) (lt-ltb 0 a (omega (arith, q))) ∙ omega (arith, q)
+
+  last-none : (lastBelow p i ≡ 65535) ↔ ((y : ℕ) → y < i → p y ≡ false)
+  unfolding lastBelow
+  last-none = (to (decLt 0 a), from)
+    where
+      to : Dec (0 < a) → cond (ltb 0 a) (a - 1) 65535 ≡ 65535 → (y : ℕ) → y < i → p y ≡ false
+      to (yes b) e y v = absurd (let q : a - 1 ≡ 65535 = sym (ap (λ (c : Bool). cond c (a - 1) 65535) (lt-ltb 0 a b)) ∙ e in omega (arith, last-law .high, q))
+      to (no b) e y v = last-law .after y (omega arith) v
+
+      from : ((y : ℕ) → y < i → p y ≡ false) → cond (ltb 0 a) (a - 1) 65535 ≡ 65535
+      from f =
+          let q : a ≡ 0 = after-last-unique last-law (record { high = omega arith; after = λ y u v. f y v; hit = λ y g. absurd (omega (arith, g)) }) in
+          ap (λ (c : Bool). cond c (a - 1) 65535) (le-ltb 0 a (omega (arith, q)))
+
+-- the numbers of a slot of any table of at most 65,535 slots
+module _ (w : ℕ) (t : List ℕ) (few : slots w t ≤ 65535) (i : ℕ) (h : i < slots w t) where
+  pub next-nearest : (d : ℕ) → d < slots w t → (nextDependant w t i ≡ d) ↔ Nearest Higher (dependsAt w t) (slots w t) i d
+  unfolding nextDependant
+  next-nearest d l = (
+    λ e. let z = first-is (dependsAt w t i) (slots w t) i few h d l .0 e in record { within = l; after = z .0; bounding = z .1; none-nearer = λ y u a b. z .2 y a b },
+    λ r. first-is (dependsAt w t i) (slots w t) i few h d l .1 (r .after, r .bounding, λ y a b. r .none-nearer y (omega arith) a b),
+  )
+
+  pub next-none : (nextDependant w t i ≡ 65535) ↔ ((y : ℕ) → i < y → y < slots w t → dependsAt w t i y ≡ false)
+  unfolding nextDependant
+  next-none = first-none (dependsAt w t i) (slots w t) i few h
+
+  pub before-nearest : (d : ℕ) → d < slots w t → (lastPreceding w t i ≡ d) ↔ Nearest Lower (precedesAt w t) (slots w t) i d
+  unfolding lastPreceding
+  before-nearest d l = (
+    λ e. let z = last-is (precedesAt w t i) i (omega arith) d (omega arith) .0 e in record { within = l; after = z .0; bounding = z .1; none-nearer = λ y u a b. z .2 y b a },
+    λ r. last-is (precedesAt w t i) i (omega arith) d (omega arith) .1 (r .after, r .bounding, λ y a b. r .none-nearer y (omega arith) b a),
+  )
+
+  pub before-none : (lastPreceding w t i ≡ 65535) ↔ ((y : ℕ) → y < i → precedesAt w t i y ≡ false)
+  unfolding lastPreceding
+  before-none = last-none (precedesAt w t i) i (omega arith)

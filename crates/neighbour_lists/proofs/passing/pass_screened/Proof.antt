@@ -1,0 +1,73 @@
+-- `neighbour_lists::passing::pass_screened` meets its contract: the maps and the words of chosen places begin with no bit set.
+use native.Mathlib.Omega.{arith}
+use borrow.Author.Needs.{needs}
+use Rattle.records.specs.RulesLaws.{zero-word}
+use Rattle.neighbour_lists.proofs.passing.pass_screened.Statement.{statement}
+use Rattle.neighbour_lists.proofs.passing.pass_screened.Tie as tie
+
+slice-aggregate-choose-places : tie.Need-slice-aggregate-choose-places
+slice-aggregate-choose-places c = search needs
+
+choose-places-requires : tie.Need-choose-places-requires
+choose-places-requires c κs = search needs
+
+slice-aggregate-spread-places : tie.Need-slice-aggregate-spread-places
+slice-aggregate-spread-places c = search needs
+
+slice-aggregate-spread-places-2 : tie.Need-slice-aggregate-spread-places-2
+slice-aggregate-spread-places-2 c = search needs
+
+slice-aggregate-spread-places-3 : tie.Need-slice-aggregate-spread-places-3
+slice-aggregate-spread-places-3 c = search needs
+
+spread-places-requires : tie.Need-spread-places-requires
+spread-places-requires c κs =
+    let choice = c .before .before .before .before .choose-places in
+    ((choice .ensures .0, omega (arith, choice .ensures .0, choice .kept .1 .0), omega arith, omega arith), (choice .ensures .1, zero-word 2))
+
+slice-aggregate-pass-with : tie.Need-slice-aggregate-pass-with
+slice-aggregate-pass-with c = search needs
+
+slice-aggregate-pass-with-2 : tie.Need-slice-aggregate-pass-with-2
+slice-aggregate-pass-with-2 c = search needs
+
+slice-aggregate-pass-with-3 : tie.Need-slice-aggregate-pass-with-3
+slice-aggregate-pass-with-3 c = search needs
+
+slice-aggregate-pass-with-4 : tie.Need-slice-aggregate-pass-with-4
+slice-aggregate-pass-with-4 c = search needs
+
+pass-with-requires : tie.Need-pass-with-requires
+pass-with-requires c κs =
+    let choice = c .before .before .before .before .before .before .before .before .before .before .before .before .choose-places in
+    let spread = c .before .before .before .before .before .before .before .spread-places in (
+      c .before .before .before .before .before .before .before .before .before .before .before .before .before .before .before .before .pre,
+      (
+        (omega (arith, choice .ensures .0), choice .ensures .0, choice .ensures .1),
+        ((omega (arith, spread .kept .1 .1 .0), omega (arith, spread .kept .1 .1 .1 .0), spread .ensures .0, spread .ensures .1), zero-word 2048),
+      ),
+    )
+
+same-length : tie.Need-same-length
+same-length c = search needs
+
+returns : tie.Need-returns
+returns c = search needs
+
+pub pass-screened-spec : {M : Type 1} → statement M
+pass-screened-spec =
+    tie.close
+    (tie.spec
+    slice-aggregate-choose-places
+    choose-places-requires
+    slice-aggregate-spread-places
+    slice-aggregate-spread-places-2
+    slice-aggregate-spread-places-3
+    spread-places-requires
+    slice-aggregate-pass-with
+    slice-aggregate-pass-with-2
+    slice-aggregate-pass-with-3
+    slice-aggregate-pass-with-4
+    pass-with-requires
+    same-length
+    returns)

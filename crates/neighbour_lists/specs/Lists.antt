@@ -1,0 +1,42 @@
+-- The neighbour list of a table: for each slot the nearest slot after it whose rule depends on its own, and the nearest before it whose
+-- rule precedes its own; 65,535 where there is none. Defined on any table, in order or not, for any number of words.
+use mathlib.Core.Path.{_≡_}
+use mathlib.Core.Bool.{Bool, cond}
+use mathlib.Core.List.{List}
+use Prim.Native.Nat.{ℕ, suc, _+_, _-_, _*_, _<_}
+use lib.Dec.{ltb}
+use lib.ListN.{getD}
+use Rattle.search.specs.Search.{least, afterLast}
+use Rattle.records.specs.Record.{slotWords, rank, occupied}
+use Rattle.records.specs.Order.{slots, precedes, misordered}
+
+-- two slots of a table: the first one's rule precedes the second one's; the first one's standing before the second is out of order
+abbrev pub precedesSlot : ℕ → List ℕ → ℕ → ℕ → Bool
+precedesSlot w t i j = precedes w (slotWords w t i) (slotWords w t j)
+
+abbrev pub misorderedSlots : ℕ → List ℕ → ℕ → ℕ → Bool
+misorderedSlots w t i j = misordered w (slotWords w t i) (slotWords w t j)
+
+abbrev pub rankAt : ℕ → List ℕ → ℕ → ℕ
+rankAt w t i = rank w (slotWords w t i)
+
+abbrev pub occupiedAt : ℕ → List ℕ → ℕ → Bool
+occupiedAt w t i = occupied w (slotWords w t i)
+
+-- the first index, of those from a start up to an end, at which a test holds, and the last below an end; 65,535 for none
+unfoldable pub firstFrom : (ℕ → Bool) → ℕ → ℕ → ℕ
+firstFrom p from to = cond (ltb (least p (to - from) from) to) (least p (to - from) from) 65535
+
+unfoldable pub lastBelow : (ℕ → Bool) → ℕ → ℕ
+lastBelow p to = cond (ltb 0 (afterLast p to)) (afterLast p to - 1) 65535
+
+-- the nearest dependant's slot after a slot, and the nearest preceding rule's before it
+unfoldable pub nextDependant : ℕ → List ℕ → ℕ → ℕ
+nextDependant w t i = firstFrom (precedesSlot w t i) (suc i) (slots w t)
+
+unfoldable pub lastPreceding : ℕ → List ℕ → ℕ → ℕ
+lastPreceding w t i = lastBelow (λ (k : ℕ). precedesSlot w t k i) i
+
+-- a list that begins with a table's neighbour list
+abbrev pub Listed : ℕ → List ℕ → List ℕ → Type 0
+Listed w t near = (i : ℕ) → i < slots w t → (getD near (2 * i) 0 ≡ nextDependant w t i) × (getD near (2 * i + 1) 0 ≡ lastPreceding w t i)

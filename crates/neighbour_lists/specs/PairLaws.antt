@@ -1,0 +1,71 @@
+-- Laws on the tests of a pair: how they hang together, and what the answers on overlap and priority make of them.
+use mathlib.Core.Path.{_≡_, refl, sym, ap, _∙_}
+use mathlib.Core.Bool.{Bool, true, false, _&&_, and-false, false≢true}
+use mathlib.Core.Logic._⊎_.{inl}
+use mathlib.Core.List.{List}
+use Prim.Native.Nat.{ℕ, _<_, _≤_}
+use lib.Dec.{ltb, leb}
+use borrow.Author.Tests.{lt-leb, le-ltb, lt-ltb, le-leb, not-false}
+use Rattle.search.specs.SearchLaws.{and-middle}
+use Rattle.ternary.specs.Pattern.{Words}
+use Rattle.records.specs.Record.{slotWords, rank, empty}
+use Rattle.records.specs.Order.{overlapping, distinct, precedes, misordered}
+use Rattle.records.specs.OrderLaws.{misordered-higher, misordered-empty}
+use Rattle.neighbour_lists.specs.Lists.{precedesSlot, misorderedSlots, rankAt, occupiedAt}
+use Rattle.neighbour_lists.specs.Row.{Pairing, Quiet}
+
+-- an empty slot precedes none, and none precedes it
+pub precedes-empty : (w : ℕ) (a b : Words) → empty w b ≡ true → (precedes w a b ≡ false) × (precedes w b a ≡ false)
+unfolding precedes distinct
+precedes-empty w a b e = (rw (e, and-false, and-false, and-false), rw (e, and-false, and-false))
+
+pub pairing-at : (w : ℕ) (t : List ℕ) → Pairing (precedesSlot w t) (misorderedSlots w t) (rankAt w t) (occupiedAt w t)
+pairing-at w t = record {
+  falling = λ i j h. sym (misordered-higher w (slotWords w t i) (slotWords w t j) (lt-leb (rankAt w t i) (rankAt w t j) h));
+  empty = λ i j e. (
+    precedes-empty w (slotWords w t j) (slotWords w t i) (not-false _ e) .1,
+    misordered-empty w (slotWords w t j) (slotWords w t i) (not-false _ e) .1,
+  );
+}
+
+-- two tests that do not both hold, and two that do, with a third between them
+and-neither : (a c b : Bool) → a && c ≡ false → a && b && c ≡ false
+and-neither true c true e = e
+and-neither true c false e = refl
+and-neither false c b e = refl
+
+and-between : (a c b : Bool) → a && c ≡ true → b ≡ true → a && b && c ≡ true
+and-between true c true e f = e
+and-between true c false e f = absurd (false≢true f)
+and-between false c b e f = e
+
+-- the tests of a pair by the answer r whether its rules overlap, and then by their priorities
+module _ (w : ℕ) (a b : Words) {r : Bool} (told : r ≡ overlapping w a b && distinct w a b) where
+  pub pair-apart : r ≡ false → (misordered w a b ≡ false) × (precedes w a b ≡ false)
+  unfolding misordered precedes
+  pair-apart e = (
+    and-neither (overlapping w a b) (distinct w a b) (leb (rank w a) (rank w b)) (sym told ∙ e),
+    and-neither (overlapping w a b) (distinct w a b) (ltb (rank w b) (rank w a)) (sym told ∙ e),
+  )
+
+  pub pair-rising : r ≡ true → rank w a ≤ rank w b → (misordered w a b ≡ true) × (precedes w a b ≡ false)
+  unfolding misordered precedes
+  pair-rising e h = (
+    and-between (overlapping w a b) (distinct w a b) (leb (rank w a) (rank w b)) (sym told ∙ e) (le-leb (rank w a) (rank w b) h),
+    sym (and-middle (overlapping w a b) (distinct w a b) (le-ltb (rank w b) (rank w a) h)),
+  )
+
+  pub pair-falling : r ≡ true → rank w b < rank w a → (misordered w a b ≡ false) × (precedes w a b ≡ true)
+  unfolding misordered precedes
+  pair-falling e h = (
+    sym (and-middle (overlapping w a b) (distinct w a b) (lt-leb (rank w a) (rank w b) h)),
+    and-between (overlapping w a b) (distinct w a b) (ltb (rank w b) (rank w a)) (sym told ∙ e) (lt-ltb (rank w b) (rank w a) h),
+  )
+
+-- patterns that do not overlap
+pub pattern-apart : (w : ℕ) (a b : Words) → overlapping w a b ≡ false → (misordered w a b ≡ false) × (precedes w a b ≡ false)
+pattern-apart w a b e = pair-apart w a b {r = false} (ap (λ (o : Bool). o && distinct w a b) (sym e)) refl
+
+pub apart-quiet : (w : ℕ) (t near : List ℕ) (i j : ℕ) → overlapping w (slotWords w t i) (slotWords w t j) ≡ false
+    → Quiet (precedesSlot w t) (misorderedSlots w t) near j i
+apart-quiet w t near i j e = let p = pattern-apart w (slotWords w t i) (slotWords w t j) e in (p .0, inl (p .1))

@@ -1,0 +1,52 @@
+-- `table_checks::check_listed` meets its contract.
+-- Checks 3 and 4 are made where 1 and 2 pass.
+use mathlib.Core.Path.{sym, ap, _∙_}
+use mathlib.Core.Bool.{false≢true}
+use native.Mathlib.Omega.{arith}
+use borrow.Author.Needs.{needs}
+use Rattle.records.specs.Checks.{passes, tableChecks}
+use Rattle.records.specs.Laws.{failed, passed, slot-checks-length, slot-checks-law}
+use Rattle.table_checks.proofs.check_listed.Statement.{statement}
+use Rattle.table_checks.proofs.check_listed.Tie as tie
+
+check-slots-requires : tie.Need-check-slots-requires
+check-slots-requires c κs = search needs
+
+enum-known-slots : tie.Need-enum-known-slots
+enum-known-slots c = search needs
+
+returns : tie.Need-returns
+unfolding tableChecks
+returns c = (failed _ (c .before .before .before .check-slots .ensures) (c .before .slots .given .1), λ e. absurd (false≢true (ap passes e)))
+
+enum-told : tie.Need-enum-told
+enum-told c = search needs
+
+check-pairs-requires : tie.Need-check-pairs-requires
+check-pairs-requires c κs =
+    let start = c .before .before .before .before .before .before in
+    let t = start .args .table .now in
+    let pass = sym (c .before .before .before .check-slots .ensures) ∙ c .before .enum-told .given .1 in
+    let small = slot-checks-length 2 t pass in
+    ((omega arith, omega arith), slot-checks-law 2 t .0 pass .1)
+
+same-length : tie.Need-same-length
+same-length c = search needs
+
+returns-2 : tie.Need-returns-2
+unfolding tableChecks
+returns-2 c =
+    let called = c .before .before .check-pairs in
+    (passed (c .before .before .before .before .before .before .check-slots .ensures) (c .before .before .before .before .enum-told .given .1) (called .ensures .0), called .ensures .1)
+
+pub check-listed-spec : {M : Type 1} → statement M
+check-listed-spec =
+    tie.close
+    (tie.spec
+    check-slots-requires
+    enum-known-slots
+    returns
+    enum-told
+    check-pairs-requires
+    same-length
+    returns-2)
