@@ -18,13 +18,13 @@
 
 /* What tcam.h says. */
 #define LOOKUP_BYTES 128
-#define DELETE_BYTES 4480
+#define DELETE_BYTES 24064
 #define CARRY_BYTES 192
-#define INSERT_BYTES 10752 /* or, where that is more, */
-#define CHAIN_BYTES 6656   /* and */
+#define INSERT_BYTES 30336 /* or, where that is more, */
+#define CHAIN_BYTES 10752  /* and */
 #define WRITE_BYTES 96     /* for each word of the plan */
-#define SAVE_BYTES 4480
-#define LOAD_BYTES 53760
+#define SAVE_BYTES 24064
+#define LOAD_BYTES 73216
 
 #ifdef __SANITIZE_ADDRESS__
 #error "the stack is measured without sanitizers"
@@ -191,6 +191,7 @@ static void measure_plans(void)
     try_insert("tcam_plan_insert, 1 write", 1023, 1, 1);
     try_insert("tcam_plan_insert, 2 writes", 1023, 57957, 2);
     try_insert("tcam_plan_insert, 3 writes", 1023, 57959, 3);
+    try_insert("tcam_plan_insert, 204 writes", 1023, 58361, 204); /* the longest plan that takes no more than one of 1 write */
     try_insert("tcam_plan_insert, 512 writes", 1023, 58977, 512);
     try_insert("tcam_plan_insert, 1,024 writes toward higher slots", 1023, 60001, 1024);
     try_insert("tcam_plan_insert, 1,024 writes toward lower slots", 0, 1, 1024);

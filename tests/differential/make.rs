@@ -1,6 +1,6 @@
 // How inputs are made: sound tables of every fill and layout, damage to them, arbitrary words, plans and images.
 // Rules use few bit positions, so that overlaps, ties and crossings are frequent and plans long.
-// In larger tables they also stand apart, so that searches pass over many slots before they find one.
+// In larger tables they also stand apart, so that the maps of 160 slots and more tell most pairs.
 
 use crate::input::{Call, Input};
 use crate::largest::make_largest;

@@ -13,7 +13,7 @@ struct Scale {
     nested: bool,
 }
 
-/// Mostly small; one in forty fills tables of more slots than the library's searches pass over at a time, and in one in ten every rule
+/// Mostly small; one in forty fills tables of more than one block of 64 slots, some with maps (160 slots and more), and in one in ten every rule
 /// overlaps every other, so that an insert moves all rules up to the next empty slot.
 fn scale(random: &mut Random) -> Scale {
     if random.one_in(40) {

@@ -1,23 +1,26 @@
 // The calls whose instructions are counted, in one order for the program that makes them and the one that reads the counts.
-// Beside every call on every table: refused calls that end after some part of a plan, for the cost per part.
+// Beside every call on every table: refused calls that end after some part of a plan, for the cost per part, and small tables.
 
-use crate::inputs::{inputs_of, occupied_slots, perform, Input, Lent};
-use crate::tables::{make, Kind, KINDS};
+use crate::ids::{draw, repeat_first, Draw, DRAWS};
+use crate::inputs::{inputs_of, perform, Input, Lent};
+use crate::tables::{every_kind, make, Kind};
 use crate::versions::{versions, Call, OURS, SAFE};
-use crate::SIZES;
+use crate::{SIZES, SMALL_SIZES};
 use std::hint::black_box;
 
-/// What a case measures: a call that is accepted, or a planning that ends early.
+/// What a case measures: a call that is accepted, or a planned insert that ends early.
 #[derive(Clone, Copy, Debug, PartialEq, Eq, PartialOrd, Ord)]
 pub enum Measured {
     Whole(Call),
     /// slot_record of an absent slot: checks 1 and 2.
     Records,
-    /// plan_delete on a table whose second rule is out of order: checks 1 to 3, and a first row of check 4.
+    /// A table whose last rule has the first one's id: checks 1 to 3.
     Ids,
-    /// plan_insert of a rule with id 0: checks 1 to 4.
+    /// The same, the ids drawn in some way.
+    IdsDrawn(Draw),
+    /// A rule with id 0: checks 1 to 4.
     Order,
-    /// plan_insert with a plan buffer of no words: all but the chain and its words.
+    /// A plan buffer of no words: all but the chain and its words.
     Short,
 }
 
@@ -30,21 +33,25 @@ pub struct Case {
     pub version: usize,
 }
 
-/// The version whose parts are counted beside ours.
+/// The version whose parts are counted beside ours, and its small tables.
 pub const PARTS_VERSIONS: [usize; 2] = [OURS, SAFE];
+/// The small tables' kinds, and the calls that compare rules in pairs.
+pub const SMALL_KINDS: [Kind; 2] = [Kind::Sparse, Kind::Dense];
+pub const PAIR_CALLS: [Call; 4] = [Call::PlanInsert, Call::PlanDelete, Call::Save, Call::Load];
+/// The table whose ids are drawn in several ways.
+pub const DRAWN_KIND: Kind = Kind::Sparse;
 
 pub fn for_each_case(mut visit: impl FnMut(Case, &Input)) {
-    let versions = versions();
     for slots in SIZES {
-        for kind in KINDS {
+        for kind in every_kind() {
             let inputs = inputs_of(&make(kind, slots));
             for input in &inputs {
-                for version in 0..versions.len() {
+                for version in 0..versions().len() {
                     visit(Case { slots, kind, measured: Measured::Whole(input.call), version }, input);
                 }
             }
             if slots == SIZES[SIZES.len() - 1] {
-                for (measured, input) in parts(&inputs[0]) {
+                for (measured, input) in parts(kind, &inputs[0]) {
                     for version in PARTS_VERSIONS {
                         visit(Case { slots, kind, measured, version }, &input);
                     }
@@ -52,19 +59,35 @@ pub fn for_each_case(mut visit: impl FnMut(Case, &Input)) {
             }
         }
     }
+    for_each_small(visit);
 }
 
-fn parts(plan: &Input) -> Vec<(Measured, Input)> {
-    let records = Input { call: Call::SlotRecord, slot: u32::MAX, ..plan.clone() };
-    let mut ids = Input { call: Call::PlanDelete, ..plan.clone() };
-    let occupied = occupied_slots(&plan.table);
-    let (first, second) = (6 * occupied[0], 6 * occupied[1]);
-    ids.table.copy_within(first..first + 4, second);
-    ids.table[second + 5] = ids.table[first + 5];
+fn for_each_small(mut visit: impl FnMut(Case, &Input)) {
+    for slots in SMALL_SIZES {
+        for kind in SMALL_KINDS {
+            for input in inputs_of(&make(kind, slots)).iter().filter(|input| PAIR_CALLS.contains(&input.call)) {
+                for version in PARTS_VERSIONS {
+                    visit(Case { slots, kind, measured: Measured::Whole(input.call), version }, input);
+                }
+            }
+        }
+    }
+}
+
+fn parts(kind: Kind, plan: &Input) -> Vec<(Measured, Input)> {
+    let twice = |table: Vec<u64>| Input { table: repeat_first(table), ..plan.clone() };
     let mut order = plan.clone();
     order.rule.id = 0;
-    let short = Input { room: 0, ..plan.clone() };
-    vec![(Measured::Records, records), (Measured::Ids, ids), (Measured::Order, order), (Measured::Short, short)]
+    let mut parts = vec![
+        (Measured::Records, Input { call: Call::SlotRecord, slot: u32::MAX, ..plan.clone() }),
+        (Measured::Ids, twice(plan.table.clone())),
+        (Measured::Order, order),
+        (Measured::Short, Input { room: 0, ..plan.clone() }),
+    ];
+    if kind == DRAWN_KIND {
+        parts.extend(DRAWS.map(|way| (Measured::IdsDrawn(way), twice(draw(way, &plan.table)))));
+    }
+    parts
 }
 
 /// Called after each call of a case: callgrind writes the counts so far to a file when it gets here.
@@ -84,7 +107,7 @@ pub fn make_calls() {
         let expected = match case.measured {
             Measured::Whole(Call::SlotRecord) => 6,
             Measured::Whole(_) | Measured::Records => 0,
-            Measured::Ids => 4,
+            Measured::Ids | Measured::IdsDrawn(_) => 3,
             Measured::Order => 5,
             Measured::Short => 11,
         };

@@ -6,6 +6,8 @@
 mod answers;
 mod cases;
 mod edits;
+mod hostile;
+mod ids;
 mod inputs;
 mod instructions;
 mod properties;
@@ -19,6 +21,8 @@ mod versions;
 
 /// Numbers of slots; each is twice the one before.
 pub const SIZES: [usize; 3] = [256, 512, 1024];
+/// Numbers of slots that are counted for the calls over pairs, and not judged.
+pub const SMALL_SIZES: [usize; 4] = [16, 32, 64, 128];
 const ROUNDS: usize = 101;
 
 fn has_flag(name: &str) -> bool {

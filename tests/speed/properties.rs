@@ -1,9 +1,10 @@
 // What the tables of the comparison are made for, counted: rules, pairs that overlap, pairs that the first word tells apart, writes.
 // The self-check holds each table to it; the instruction counts are printed with it.
 
-use crate::tables::{make, Kind, KINDS};
+use crate::hostile::sample_step;
+use crate::tables::{every_kind, make, Kind};
 use reference::plan::plan_insert;
-use reference::table::{read_sound_table, Rule};
+use reference::table::{read_sound_table, Rule, Slot};
 
 pub struct Properties {
     pub rules: usize,
@@ -11,12 +12,15 @@ pub struct Properties {
     pub overlapping: usize,
     pub apart_by_first_word: usize,
     pub falling: bool,
+    /// Whether the slots that the choice of places looks at have one pattern.
+    pub sampled_alike: bool,
     pub writes: usize,
 }
 
 pub fn properties(kind: Kind, slots: usize) -> Properties {
     let table = make(kind, slots);
     let entries = read_sound_table(&table.words).expect("a sound table");
+    let sampled_alike = are_sampled_alike(&entries);
     let rules: Vec<Rule> = entries.into_iter().flatten().collect();
     let mut counted = Properties {
         rules: rules.len(),
@@ -24,6 +28,7 @@ pub fn properties(kind: Kind, slots: usize) -> Properties {
         overlapping: 0,
         apart_by_first_word: 0,
         falling: rules.windows(2).all(|pair| pair[0].priority > pair[1].priority),
+        sampled_alike,
         writes: plan_insert(&table.words, &table.new, slots).map_or(0, |plan| plan.len()),
     };
     for (place, rule) in rules.iter().enumerate() {
@@ -34,6 +39,11 @@ pub fn properties(kind: Kind, slots: usize) -> Properties {
         }
     }
     counted
+}
+
+fn are_sampled_alike(entries: &[Slot]) -> bool {
+    let sampled: Vec<&Rule> = entries.iter().step_by(sample_step(entries.len())).take(32).flatten().collect();
+    sampled.windows(2).all(|pair| pair[0].value == pair[1].value && pair[0].mask == pair[1].mask)
 }
 
 /// Whether a table is what its kind says.
@@ -49,6 +59,12 @@ pub fn hold(kind: Kind, slots: usize) -> bool {
         Kind::Prefixes => counted.overlapping > 0 && overlapping < 0.01 && apart > 0.99,
         Kind::Undecided => counted.overlapping == 0 && apart > 0.45 && apart < 0.55 && !counted.falling,
         Kind::SecondWord => counted.overlapping == 0 && counted.apart_by_first_word == 0 && !counted.falling,
+        Kind::TwoGroups => overlapping > 0.45 && overlapping < 0.55 && !counted.falling,
+        Kind::LowInBlocks => overlapping > 0.95 && !counted.falling,
+        Kind::OneHot => counted.overlapping > 0 && overlapping < 0.01 && counted.falling,
+        Kind::TwoBits => overlapping > 0.95 && counted.falling,
+        Kind::TwelveBits => overlapping > 0.4 && overlapping < 0.7 && counted.falling,
+        Kind::Unsampled => overlapping < 0.02 && counted.sampled_alike && counted.falling,
     };
     let rules = if kind == Kind::HalfEmpty { slots / 2 } else { slots - 1 };
     of_kind && counted.rules == rules && counted.writes > 0
@@ -58,7 +74,7 @@ pub fn print(slots: usize) {
     println!("### The tables, {slots} slots\n");
     println!("| Table | rules | pairs | of them overlapping | apart by the first word | writes of the plan |");
     println!("|---|---|---|---|---|---|");
-    for kind in KINDS {
+    for kind in every_kind() {
         let counted = properties(kind, slots);
         println!(
             "| {} | {} | {} | {} | {} | {} |",

@@ -1,13 +1,15 @@
-// The counts as Markdown: planning by table, the other calls at their worst, the cost per part, and each target met or missed.
+// The counts as Markdown: planning by table, the other calls at their worst, hostile and small tables, the cost per part, and each
+// target met or missed.
 // A ratio is ours divided by the other version's count at the largest size; growth is the larger of the two doublings.
 
-use crate::cases::{Case, Measured};
+use crate::cases::{Case, Measured, DRAWN_KIND, PAIR_CALLS, SMALL_KINDS};
+use crate::ids::DRAWS;
 use crate::instructions::{Counts, Functions};
 use crate::properties;
-use crate::tables::{Kind, KINDS};
+use crate::tables::{every_kind, Kind, HOSTILE, KINDS};
 use crate::targets::{self, Target};
 use crate::versions::{Call, CALLS, GCC, OURS, REFERENCE, SAFE, UNCHECKED};
-use crate::SIZES;
+use crate::{SIZES, SMALL_SIZES};
 use std::collections::BTreeSet;
 
 pub const LARGEST: usize = SIZES[SIZES.len() - 1];
@@ -32,13 +34,16 @@ pub fn growth(counts: &Counts, kind: Kind, call: Call) -> f64 {
 pub fn print(counts: &Counts, functions: &Functions, every_table: bool) {
     println!("Instructions of one call, by callgrind. Ratios are ours / other at {} slots.\n", grouped(LARGEST as u64));
     properties::print(LARGEST);
-    print_tables(counts, &[Call::PlanInsert], "Planning an insert");
+    print_tables(counts, &[Call::PlanInsert], &KINDS, "Planning an insert");
     print_worst(counts);
+    print_tables(counts, &PAIR_CALLS, &HOSTILE, "Tables made to be hostile: the last two are not judged");
+    print_small(counts);
     if every_table {
         let others: Vec<Call> = CALLS.into_iter().filter(|&call| call != Call::PlanInsert).collect();
-        print_tables(counts, &others, "The other calls, by table");
+        print_tables(counts, &others, &KINDS, "The other calls, by table");
     }
     print_parts(counts);
+    print_ids(counts);
     print_functions(functions);
     print_targets(&targets::all(counts));
 }
@@ -55,13 +60,13 @@ fn ratios_of(one: impl Fn(usize) -> f64) -> String {
     ratios.join(" | ")
 }
 
-fn print_tables(counts: &Counts, calls: &[Call], title: &str) {
+fn print_tables(counts: &Counts, calls: &[Call], kinds: &[Kind], title: &str) {
     println!("### {title}\n");
     let sizes: Vec<String> = SIZES.iter().map(|&slots| format!("{} slots", grouped(slots as u64))).collect();
     println!("| Call | Table | {} | growth | {OTHERS_HEAD} |", sizes.join(" | "));
     println!("|---|---|{}---|---|---|---|---|", "---|".repeat(SIZES.len()));
     for &call in calls {
-        for kind in KINDS {
+        for &kind in kinds {
             let of_sizes: Vec<String> =
                 SIZES.iter().map(|&slots| grouped(count(counts, slots, kind, call, OURS) as u64)).collect();
             let ratios = ratios_of(|other| ratio(counts, kind, call, other));
@@ -72,13 +77,13 @@ fn print_tables(counts: &Counts, calls: &[Call], title: &str) {
     println!();
 }
 
-/// The largest of a number over all tables.
+/// The largest of a number over the tables, the hostile ones apart.
 pub fn most(number: impl Fn(Kind) -> f64) -> f64 {
     KINDS.into_iter().map(number).fold(0.0, f64::max)
 }
 
 fn print_worst(counts: &Counts) {
-    println!("### Every call at its worst: the most over all tables, each column for itself\n");
+    println!("### Every call at its worst: the most over the tables, the hostile ones apart, each column for itself\n");
     println!("| Call | ours at {} slots | a slot | growth | {OTHERS_HEAD} |", grouped(LARGEST as u64));
     println!("|---|---|---|---|---|---|---|---|");
     for call in CALLS {
@@ -91,12 +96,48 @@ fn print_worst(counts: &Counts) {
     println!();
 }
 
+/// Ours, and its ratio to safe Rust, where no growth is judged.
+fn print_small(counts: &Counts) {
+    println!("### Small tables: ours (ratio to safe Rust)\n");
+    let sizes: Vec<String> = SMALL_SIZES.iter().map(|slots| format!("{slots} slots")).collect();
+    println!("| Call | Table | {} |", sizes.join(" | "));
+    println!("|---|---|{}", "---|".repeat(SMALL_SIZES.len()));
+    for call in PAIR_CALLS {
+        for kind in SMALL_KINDS {
+            let cell = |slots: &usize| {
+                let (ours, safe) = (count(counts, *slots, kind, call, OURS), count(counts, *slots, kind, call, SAFE));
+                format!("{} ({:.2})", grouped(ours as u64), ours / safe)
+            };
+            let cells: Vec<String> = SMALL_SIZES.iter().map(cell).collect();
+            println!("| {} | {} | {} |", call.name(), kind.name(), cells.join(" | "));
+        }
+    }
+    println!();
+}
+
+/// Check 3 on one table whose ids are drawn in several ways.
+fn print_ids(counts: &Counts) {
+    println!(
+        "### Check 3 by how ids are drawn, {}, {} slots: ours (ratio to safe Rust)\n",
+        DRAWN_KIND.name(),
+        grouped(LARGEST as u64)
+    );
+    println!("| Ids | check 3 |");
+    println!("|---|---|");
+    for way in DRAWS {
+        let of = |measured, version| counts[&Case { slots: LARGEST, kind: DRAWN_KIND, measured, version }] as f64;
+        let spent = |version| of(Measured::IdsDrawn(way), version) - of(Measured::Records, version);
+        println!("| {} | {} ({:.2}) |", way.name(), grouped(spent(OURS) as u64), spent(OURS) / spent(SAFE));
+    }
+    println!();
+}
+
 /// The cost per part, by differences of calls that end early.
 fn print_parts(counts: &Counts) {
     println!("### Cost per part of a planned insert, {} slots: ours (ratio to safe Rust)\n", grouped(LARGEST as u64));
     println!("| Table | checks 1, 2 | check 3 | check 4 | checks 5 to 11, windows, costs, choice | chain and words | whole |");
     println!("|---|---|---|---|---|---|---|");
-    for kind in KINDS {
+    for kind in every_kind() {
         let of = |measured: Measured, version: usize| counts[&Case { slots: LARGEST, kind, measured, version }] as f64;
         let ends = [Measured::Records, Measured::Ids, Measured::Order, Measured::Short, Measured::Whole(Call::PlanInsert)];
         let part =
@@ -115,7 +156,7 @@ fn print_parts(counts: &Counts) {
 /// Our functions that the compiler left apart; what was inlined into a function counts as its own.
 fn print_functions(functions: &Functions) {
     println!("### What our functions that stay apart spend themselves in a planned insert, {} slots\n", grouped(LARGEST as u64));
-    let of_largest: Vec<_> = functions.iter().filter(|(case, _)| case.slots == LARGEST).collect();
+    let of_largest: Vec<_> = functions.iter().filter(|(case, _)| case.slots == LARGEST && KINDS.contains(&case.kind)).collect();
     let is_spender = |name: &&String| of_largest.iter().any(|(_, spent)| spent.get(*name).is_some_and(|&count| count > 0));
     let names: BTreeSet<&String> = of_largest.iter().flat_map(|(_, spent)| spent.keys()).filter(is_spender).collect();
     let kinds: Vec<&str> = of_largest.iter().map(|(case, _)| case.kind.name()).collect();

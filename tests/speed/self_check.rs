@@ -4,14 +4,14 @@
 use crate::edits::edit;
 use crate::inputs::{inputs_of, perform, Input, Lent};
 use crate::properties;
-use crate::tables::{make, Kind, KINDS};
+use crate::tables::{every_kind, make, Kind};
 use crate::versions::{versions, Call, Version};
 use crate::SIZES;
 use std::collections::BTreeSet;
 use support::random::Random;
 
-const SMALL_SIZES: [usize; 9] = [1, 2, 3, 5, 8, 13, 21, 40, 150];
-const EDITS: u64 = 1500;
+const EDITED_SIZES: [usize; 11] = [1, 2, 3, 5, 8, 13, 21, 40, 64, 65, 150];
+const EDITS: u64 = 1000;
 const SEED: u64 = 11;
 
 /// The results that each call must have had: refusals by number, and 2^32 - 1 for a finished plan.
@@ -38,7 +38,7 @@ pub fn run() -> bool {
     let mut tally = Tally::default();
     let mut sound = true;
     for slots in SIZES {
-        for kind in KINDS {
+        for kind in every_kind() {
             if !properties::hold(kind, slots) {
                 println!("speed: the table of {slots} slots, {}, is not what it says", kind.name());
                 sound = false;
@@ -48,8 +48,8 @@ pub fn run() -> bool {
             }
         }
     }
-    for slots in SMALL_SIZES {
-        for kind in KINDS {
+    for slots in EDITED_SIZES {
+        for kind in every_kind() {
             let inputs = inputs_of(&make(kind, slots));
             for number in 0..EDITS {
                 let mut random = Random::new(SEED + slots as u64, number);

@@ -2,7 +2,7 @@
 // A ratio is ours divided by the other version, medians of the same rounds; below 1 ours is the faster.
 
 use crate::inputs::{inputs_of, perform, Input, Lent};
-use crate::tables::{make, Kind, KINDS};
+use crate::tables::{every_kind, make, Kind, HOSTILE};
 use crate::versions::{versions, Call, Version, CALLS, GCC, OURS, REFERENCE, SAFE, UNCHECKED};
 use crate::SIZES;
 use std::hint::black_box;
@@ -29,7 +29,7 @@ pub fn run(rounds: usize) {
     println!("Medians of {rounds} rounds, all versions in turn. Ratios are ours / other.\n");
     for slots in SIZES {
         let mut rows = Vec::new();
-        for kind in KINDS {
+        for kind in every_kind() {
             for input in inputs_of(&make(kind, slots)) {
                 rows.push(Timed { call: input.call, kind, medians: medians(&versions, &input, rounds) });
             }
@@ -82,13 +82,13 @@ fn print_planning(slots: usize, rows: &[Timed]) {
     println!();
 }
 
-/// Every call over all tables: the range of ours, and of each ratio the geometric mean and the range.
+/// Every call over the tables, the hostile ones apart: the range of ours, and of each ratio the geometric mean and the range.
 fn print_calls(slots: usize, rows: &[Timed]) {
-    println!("### Every call, {slots} slots: geometric mean over the tables (least to most)\n");
+    println!("### Every call, {slots} slots: geometric mean over the tables, the hostile ones apart (least to most)\n");
     println!("| Call | ours, µs | / reference | / safe Rust | / unchecked Rust | / gcc -O3 |");
     println!("|---|---|---|---|---|---|");
     for call in CALLS {
-        let of_call: Vec<&Timed> = rows.iter().filter(|row| row.call == call).collect();
+        let of_call: Vec<&Timed> = rows.iter().filter(|row| row.call == call && !HOSTILE.contains(&row.kind)).collect();
         let times: Vec<f64> = of_call.iter().map(|row| row.medians[OURS] / 1000.0).collect();
         let ratios: Vec<String> = OTHERS
             .iter()

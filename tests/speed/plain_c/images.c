@@ -1,6 +1,6 @@
 /* Saving a table as an image and loading an image in C: entries of ten bytes, bodies of forty, big-endian.
    A load builds the table meant apart, checks it there, and then copies it. */
-#include "table.h"
+#include "checks.h"
 
 static void put_16(uint8_t *at, size_t number)
 {
@@ -136,9 +136,10 @@ static check fill(const uint8_t *image, size_t rules, uint64_t *table)
 static check load_checked(const uint8_t *image, size_t rules, uint64_t *table, size_t words)
 {
     uint64_t working[SLOTS_MOST * WORDS] = {0};
+    uint16_t near[NEAR_MOST];
     check made = fill(image, rules, working);
     if (made.number == OK)
-        made = check_pairs(working, words / WORDS);
+        made = check_pairs(working, words / WORDS, near);
     if (made.number == OK)
         memcpy(table, working, words * sizeof *table);
     return made;

@@ -1,6 +1,6 @@
-/* Planning inserts and deletes in C: checks, windows, costs, the choice between the directions, and the chain's words.
-   Position p is slot p going down, and the slot as far from the last one going up. */
-#include "table.h"
+/* Planning inserts and deletes in C: checks, windows by the neighbour list, costs, the choice between the directions, and the
+   chain's words. Position p is slot p going down, and the slot as far from the last one going up. */
+#include "checks.h"
 
 typedef struct choice {
     bool up;
@@ -8,57 +8,18 @@ typedef struct choice {
     size_t position;
 } choice;
 
-/* One past the last slot of a rule's window, going down. */
-static size_t end_down(const uint64_t *table, size_t slots, size_t slot)
+/* One past the last position of a rule's window. */
+static size_t window_end(const uint16_t *near, size_t slots, bool up, size_t slot)
 {
-    const uint64_t *record = table + slot * WORDS;
-    size_t later = slot + 1;
-    for (; later + 3 < slots; later += 4) {
-        const uint64_t *four = table + later * WORDS;
-        if (misordered(four, record))
-            return later + 1;
-        if (misordered(four + WORDS, record))
-            return later + 2;
-        if (misordered(four + 2 * WORDS, record))
-            return later + 3;
-        if (misordered(four + 3 * WORDS, record))
-            return later + 4;
-    }
-    for (; later < slots; later++)
-        if (misordered(table + later * WORDS, record))
-            return later + 1;
-    return slots;
-}
-
-/* The lowest slot of a rule's window, going up. */
-static size_t end_up(const uint64_t *table, size_t slot)
-{
-    const uint64_t *record = table + slot * WORDS;
-    size_t before = slot;
-    for (; before > 3; before -= 4) {
-        const uint64_t *four = table + (before - 4) * WORDS;
-        if (misordered(record, four + 3 * WORDS))
-            return before - 1;
-        if (misordered(record, four + 2 * WORDS))
-            return before - 2;
-        if (misordered(record, four + WORDS))
-            return before - 3;
-        if (misordered(record, four))
-            return before - 4;
-    }
-    for (; before > 0; before--)
-        if (misordered(record, table + (before - 1) * WORDS))
-            return before - 1;
-    return 0;
+    size_t found = near[2 * slot + up];
+    return found >= slots ? slots : up ? slots - found : found + 1;
 }
 
 /* For each position one past its window's last position, or 0 where the slot is empty. */
-static void fill_ends(const uint64_t *table, size_t slots, bool up, uint16_t *ends)
+static void fill_ends(const uint64_t *table, size_t slots, const uint16_t *near, bool up, uint16_t *ends)
 {
     for (size_t slot = 0; slot < slots; slot++) {
-        size_t end = 0;
-        if (id_of(table + slot * WORDS) != 0)
-            end = up ? slots - end_up(table, slot) : end_down(table, slots, slot);
+        size_t end = id_of(table + slot * WORDS) != 0 ? window_end(near, slots, up, slot) : 0;
         ends[up ? slots - 1 - slot : slot] = (uint16_t)end;
     }
 }
@@ -82,10 +43,10 @@ static uint16_t least_in_window(const uint16_t *costs, size_t from, size_t to, s
 
 /* The costs of all positions along one direction, the last position first.
    The least of all is kept, so that no window that runs to the last position is searched. */
-static void fill_costs(const uint64_t *table, size_t slots, bool up, uint16_t *costs)
+static void fill_costs(const uint64_t *table, size_t slots, const uint16_t *near, bool up, uint16_t *costs)
 {
     uint16_t ends[SLOTS_MOST], least = (uint16_t)slots;
-    fill_ends(table, slots, up, ends);
+    fill_ends(table, slots, near, up, ends);
     for (size_t position = slots; position-- > 0;) {
         size_t end = ends[position];
         uint16_t cost = 0;
@@ -161,12 +122,12 @@ static check check_crossed(const uint64_t *table, size_t slots, const uint64_t *
 }
 
 /* Check 11 and the words, for a rule between A and B. */
-static check plan_between(const uint64_t *table, size_t slots, size_t after, size_t dependant, uint32_t *plan,
-                          size_t plan_words, uint32_t *count)
+static check plan_between(const uint64_t *table, size_t slots, const uint16_t *near, size_t after, size_t dependant,
+                          uint32_t *plan, size_t plan_words, uint32_t *count)
 {
     uint16_t down[SLOTS_MOST], up[SLOTS_MOST];
-    fill_costs(table, slots, false, down);
-    fill_costs(table, slots, true, up);
+    fill_costs(table, slots, near, false, down);
+    fill_costs(table, slots, near, true, up);
     choice best_down = best_between(down, slots, false, after, dependant < slots ? dependant + 1 : slots);
     choice best_up = best_between(up, slots, true, slots - dependant, after > 0 ? slots - after + 1 : slots);
     choice made = best_down.cost <= best_up.cost ? best_down : best_up;
@@ -180,14 +141,15 @@ static check plan_between(const uint64_t *table, size_t slots, size_t after, siz
 static check plan_new(const uint64_t *table, size_t words, const uint64_t *new, uint32_t *plan, size_t plan_words,
                       uint32_t *count)
 {
+    uint16_t near[NEAR_MOST];
     size_t slots = words / WORDS, after, dependant;
-    check made = check_table(table, words);
+    check made = check_listed(table, words, near);
     if (made.number == OK)
         made = check_rule(table, slots, new);
     if (made.number == OK)
         made = check_crossed(table, slots, new, &after, &dependant);
     if (made.number == OK)
-        made = plan_between(table, slots, after, dependant, plan, plan_words, count);
+        made = plan_between(table, slots, near, after, dependant, plan, plan_words, count);
     return made;
 }
 

@@ -1,11 +1,9 @@
-// Checks 1 to 4 of a table.
-// Check 3 runs over a column of ids without early exit. Check 4 passes over records that don't overlap, four a step;
-// from an overlap on it asks a stretch of records, four a step by their priorities, since others near it are likely to overlap too.
+// Checks 1 to 4 of a table, and its neighbour list, which comes with check 4.
+// Check 3 asks a column of ids, without early exit, where an earlier id has the same last 13 bits.
 
 use crate::answers::{refuse, Record, Refusal, ORDER, RECORD, SHAPE, SLOTS_MOST, TWICE};
-use crate::records::{id_of, is_fit, is_higher, meets, misordered_by_priority};
-
-const STRETCH: usize = 64;
+use crate::neighbour_lists::{fill_near, Near, NONE};
+use crate::records::{id_of, is_fit};
 
 /// Check 1.
 pub fn records_of(table: &[u64]) -> Result<&[Record], Refusal> {
@@ -28,14 +26,17 @@ pub fn check_slots(table: &[u64]) -> Result<&[Record], Refusal> {
 }
 
 /// Check 3, of records that are empty or sound: an id of 0 is an empty slot's.
-pub fn check_twice(records: &[Record]) -> Result<(), Refusal> {
+fn check_twice(records: &[Record]) -> Result<(), Refusal> {
     let mut ids = [0u32; SLOTS_MOST];
+    let mut seen = [0u64; 128];
     for (slot, record) in records.iter().enumerate() {
         let id = id_of(record);
         ids[slot] = id;
-        if id != 0 && stands_in(&ids[..slot], id) {
+        let place = id as usize % 8192;
+        if seen[place / 64] >> (place % 64) & 1 == 1 && id != 0 && stands_in(&ids[..slot], id) {
             return refuse(TWICE, slot);
         }
+        seen[place / 64] |= 1 << (place % 64);
     }
     Ok(())
 }
@@ -48,57 +49,33 @@ fn stands_in(ids: &[u32], id: u32) -> bool {
     found
 }
 
-/// Check 4.
-pub fn check_order(records: &[Record]) -> Result<(), Refusal> {
-    for (slot, record) in records.iter().enumerate() {
-        if id_of(record) != 0 && disorder_before(&records[..slot], record) {
-            return refuse(ORDER, slot);
-        }
+/// Check 4; where it passes, the table's neighbour list is in the front of the lent one.
+fn check_order(records: &[Record], near: &mut [Near]) -> Result<(), Refusal> {
+    let first = fill_near(records, near);
+    if first < records.len() {
+        return refuse(ORDER, first);
     }
     Ok(())
 }
 
-fn disorder_before(earlier: &[Record], record: &Record) -> bool {
-    let mut left = earlier;
-    while !left.is_empty() {
-        left = from_overlap(left, record);
-        let (stretch, rest) = left.split_at(left.len().min(STRETCH));
-        if disorder_in(stretch, record) {
-            return true;
-        }
-        left = rest;
-    }
-    false
+pub fn new_list() -> [Near; SLOTS_MOST] {
+    [Near { next: NONE, before: NONE }; SLOTS_MOST]
 }
 
-/// Four records of higher priorities are passed over in one step.
-fn disorder_in(stretch: &[Record], record: &Record) -> bool {
-    let (fours, rest) = stretch.as_chunks::<4>();
-    let disorder = |four: &[Record; 4]| {
-        let [first, second, third, fourth] = four;
-        let all_higher =
-            is_higher(first, record) && is_higher(second, record) && is_higher(third, record) && is_higher(fourth, record);
-        !all_higher && four.iter().any(|one| misordered_by_priority(one, record))
-    };
-    fours.iter().any(disorder) || rest.iter().any(|one| misordered_by_priority(one, record))
+/// Checks 3 and 4, with the list.
+pub fn check_pairs(records: &[Record], near: &mut [Near]) -> Result<(), Refusal> {
+    check_twice(records)?;
+    check_order(records, near)
 }
 
-/// The records without the fours at the front that have no rule that overlaps this one.
-fn from_overlap<'a>(records: &'a [Record], record: &Record) -> &'a [Record] {
-    let mut left = records;
-    while let Some(([first, second, third, fourth], rest)) = left.split_first_chunk() {
-        if meets(first, record) || meets(second, record) || meets(third, record) || meets(fourth, record) {
-            break;
-        }
-        left = rest;
-    }
-    left
+/// Checks 1 to 4, with the list.
+pub fn check_listed<'a>(table: &'a [u64], near: &mut [Near]) -> Result<&'a [Record], Refusal> {
+    let records = check_slots(table)?;
+    check_pairs(records, near)?;
+    Ok(records)
 }
 
 /// Checks 1 to 4.
 pub fn check_table(table: &[u64]) -> Result<&[Record], Refusal> {
-    let records = check_slots(table)?;
-    check_twice(records)?;
-    check_order(records)?;
-    Ok(records)
+    check_listed(table, &mut new_list())
 }

@@ -2,7 +2,7 @@
 // A load builds the table meant apart, checks it there, and then copies it.
 
 use crate::answers::{refuse, Record, Refusal, IMAGE, PRIORITY_MOST, SHORT, SLOTS_MOST};
-use crate::checks::{check_order, check_table, check_twice, records_of};
+use crate::checks::{check_pairs, check_table, new_list, records_of};
 use crate::records::id_of;
 
 type Entry = [u8; 10];
@@ -48,8 +48,7 @@ pub fn load(image: &[u8], table: &mut [u64]) -> Result<(), Refusal> {
     let mut working = [[0; 6]; SLOTS_MOST];
     let meant = &mut working[..slots];
     fill(entries, bodies, meant)?;
-    check_twice(meant)?;
-    check_order(meant)?;
+    check_pairs(meant, &mut new_list())?;
     table.copy_from_slice(meant.as_flattened());
     Ok(())
 }

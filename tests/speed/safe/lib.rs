@@ -3,9 +3,11 @@
 
 #[path = "../answers.rs"]
 mod answers;
+mod bitmaps;
 mod checks;
 mod images;
 mod lookups;
+mod neighbour_lists;
 mod planner;
 mod plans;
 mod records;

@@ -1,8 +1,9 @@
-// Windows, costs, the choice between the directions, and the chain's words.
+// Windows by the neighbour list, costs, the choice between the directions, and the chain's words.
 // Position p is slot p going down, and the slot as far from the last one going up.
 
 use crate::answers::{Record, PUT_IN, SLOTS_MOST};
-use crate::records::{id_of, misordered};
+use crate::neighbour_lists::Near;
+use crate::records::id_of;
 
 pub type Column = [u16; SLOTS_MOST];
 
@@ -12,54 +13,21 @@ pub struct Choice {
     pub position: usize,
 }
 
-/// How many slots after a rule its window has, going down.
-fn window_down(later: &[Record], record: &Record) -> usize {
-    let (fours, rest) = later.as_chunks::<4>();
-    for (step, [first, second, third, fourth]) in fours.iter().enumerate() {
-        if misordered(first, record) {
-            return 4 * step + 1;
-        }
-        if misordered(second, record) {
-            return 4 * step + 2;
-        }
-        if misordered(third, record) {
-            return 4 * step + 3;
-        }
-        if misordered(fourth, record) {
-            return 4 * step + 4;
-        }
+/// One past the last position of a rule's window.
+fn window_end(near: &[Near], slots: usize, up: bool, slot: usize) -> usize {
+    match usize::from(if up { near[slot].before } else { near[slot].next }) {
+        found if found >= slots => slots,
+        found if up => slots - found,
+        found => found + 1,
     }
-    let place = rest.iter().position(|one| misordered(one, record));
-    place.map_or(later.len(), |place| 4 * fours.len() + place + 1)
-}
-
-/// How many slots before a rule its window has, going up.
-fn window_up(earlier: &[Record], record: &Record) -> usize {
-    let (rest, fours) = earlier.as_rchunks::<4>();
-    for (step, [first, second, third, fourth]) in fours.iter().rev().enumerate() {
-        if misordered(record, fourth) {
-            return 4 * step + 1;
-        }
-        if misordered(record, third) {
-            return 4 * step + 2;
-        }
-        if misordered(record, second) {
-            return 4 * step + 3;
-        }
-        if misordered(record, first) {
-            return 4 * step + 4;
-        }
-    }
-    let place = rest.iter().rev().position(|one| misordered(record, one));
-    place.map_or(earlier.len(), |place| 4 * fours.len() + place + 1)
 }
 
 /// For each position one past its window's last position, or 0 where the slot is empty.
-fn fill_ends(records: &[Record], up: bool, ends: &mut Column) {
+fn fill_ends(records: &[Record], near: &[Near], up: bool, ends: &mut Column) {
+    let slots = records.len();
     for (slot, record) in records.iter().enumerate() {
-        let position = if up { records.len() - 1 - slot } else { slot };
-        let window = || if up { window_up(&records[..slot], record) } else { window_down(&records[slot + 1..], record) };
-        ends[position] = if id_of(record) == 0 { 0 } else { (position + 1 + window()) as u16 };
+        let position = if up { slots - 1 - slot } else { slot };
+        ends[position] = if id_of(record) == 0 { 0 } else { window_end(near, slots, up, slot) as u16 };
     }
 }
 
@@ -77,10 +45,10 @@ fn least_in_window(window: &[u16], top: usize) -> u16 {
 
 /// The costs of all positions along one direction, the last position first.
 /// The least of all is kept, so that no window that runs to the last position is searched.
-pub fn costs_along(records: &[Record], up: bool) -> Column {
+pub fn costs_along(records: &[Record], near: &[Near], up: bool) -> Column {
     let slots = records.len();
     let mut ends = [0; SLOTS_MOST];
-    fill_ends(records, up, &mut ends);
+    fill_ends(records, near, up, &mut ends);
     let mut costs = [0; SLOTS_MOST];
     let mut least = slots as u16;
     for position in (0..slots).rev() {

@@ -2,16 +2,17 @@
 // A and B are found once.
 
 use crate::answers::{refuse, Record, Refusal, CROSSED, EMPTYING, FULL, KNOWN, RULE, SHORT, TIE, UNKNOWN};
-use crate::checks::check_table;
+use crate::checks::{check_listed, check_table, new_list};
 use crate::planner::{choose, costs_along, write_plan};
 use crate::records::{id_of, is_sound, precedes, tied};
 
 pub fn plan_insert(table: &[u64], new: &Record, plan: &mut [u32]) -> Result<u32, Refusal> {
-    let records = check_table(table)?;
+    let mut near = new_list();
+    let records = check_listed(table, &mut near)?;
     let slots = records.len();
     let (after, dependant) = check_new(records, new)?;
-    let down = costs_along(records, false);
-    let up = costs_along(records, true);
+    let down = costs_along(records, &near, false);
+    let up = costs_along(records, &near, true);
     let choice = choose(&down, &up, slots, after, dependant);
     let count = choice.cost + 1;
     if plan.len() < count {

@@ -40,24 +40,9 @@ fn distinct(first: &Record, second: &Record) -> bool {
     id_of(first) != 0 && id_of(second) != 0 && id_of(first) != id_of(second)
 }
 
-/// Whether a rule that overlaps another stands in the first record; the other is a rule.
-pub fn meets(first: &Record, second: &Record) -> bool {
-    overlap(first, second) && id_of(first) != 0
-}
-
-/// Whether the first rule, standing before the second, is out of order; most pairs are told apart by their patterns.
-pub fn misordered(first: &Record, second: &Record) -> bool {
-    overlap(first, second) && distinct(first, second) && first[5] <= second[5]
-}
-
-/// Whether the first record's priority is the higher one.
-pub fn is_higher(first: &Record, second: &Record) -> bool {
-    first[5] > second[5]
-}
-
-/// The same as `misordered`, where most pairs are told by their priorities.
-pub fn misordered_by_priority(first: &Record, second: &Record) -> bool {
-    first[5] <= second[5] && distinct(first, second) && overlap(first, second)
+/// Whether the records hold two rules of different ids that overlap; patterns tell most pairs apart.
+pub fn rules_overlap(first: &Record, second: &Record) -> bool {
+    overlap(first, second) && distinct(first, second)
 }
 
 pub fn tied(first: &Record, second: &Record) -> bool {

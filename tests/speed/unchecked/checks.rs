@@ -1,11 +1,9 @@
-// Checks 1 to 4 of a table.
-// Check 3 runs over a column of ids without early exit. Check 4 passes over records that don't overlap, four a step;
-// from an overlap on it asks a stretch of records, four a step by their priorities, since others near it are likely to overlap too.
+// Checks 1 to 4 of a table, and its neighbour list, which comes with check 4.
+// Check 3 asks a column of ids, without early exit, where an earlier id has the same last 13 bits.
 
 use crate::answers::{refuse, Record, Refusal, ORDER, RECORD, SHAPE, SLOTS_MOST, TWICE};
-use crate::records::{at, id_of, is_fit, is_higher, meets, misordered_by_priority, put};
-
-const STRETCH: usize = 64;
+use crate::neighbour_lists::{fill_near, Near};
+use crate::records::{at, id_of, is_fit, put};
 
 /// Check 1: the table's words as records.
 pub fn records_of(table: &[u64]) -> Result<&[Record], Refusal> {
@@ -31,15 +29,19 @@ pub fn check_slots(table: &[u64]) -> Result<&[Record], Refusal> {
 }
 
 /// Check 3, of records that are empty or sound: an id of 0 is an empty slot's.
-pub fn check_twice(records: &[Record]) -> Result<(), Refusal> {
+fn check_twice(records: &[Record]) -> Result<(), Refusal> {
     let mut ids = [0u32; SLOTS_MOST];
+    let mut seen = [0u64; 128];
     let mut slot = 0;
     while slot < records.len() {
         let id = id_of(unsafe { records.get_unchecked(slot) });
         unsafe { put(&mut ids, slot, id) };
-        if id != 0 && unsafe { stands_before(&ids, slot, id) } {
+        let place = id as usize % 8192;
+        let word = unsafe { at(&seen, place / 64) };
+        if word >> (place % 64) & 1 == 1 && id != 0 && unsafe { stands_before(&ids, slot, id) } {
             return refuse(TWICE, slot);
         }
+        unsafe { put(&mut seen, place / 64, word | 1 << (place % 64)) };
         slot += 1;
     }
     Ok(())
@@ -55,82 +57,29 @@ unsafe fn stands_before(ids: &[u32; SLOTS_MOST], slot: usize, id: u32) -> bool {
     found
 }
 
-/// Check 4.
-pub fn check_order(records: &[Record]) -> Result<(), Refusal> {
-    let mut slot = 0;
-    while slot < records.len() {
-        if unsafe { disorder_before(records, slot) } {
-            return refuse(ORDER, slot);
-        }
-        slot += 1;
+/// Check 4; where it passes, the table's neighbour list is in the front of the lent one.
+fn check_order(records: &[Record], near: &mut Near) -> Result<(), Refusal> {
+    let first = unsafe { fill_near(records, near) };
+    if first < records.len() {
+        return refuse(ORDER, first);
     }
     Ok(())
 }
 
-unsafe fn disorder_before(records: &[Record], slot: usize) -> bool {
-    let record: *const Record = records.get_unchecked(slot);
-    if id_of(&*record) == 0 {
-        return false;
-    }
-    let mut earlier = records.as_ptr();
-    while earlier != record {
-        earlier = from_overlap(earlier, record);
-        let end = earlier.add(record.offset_from_unsigned(earlier).min(STRETCH));
-        if disorder_in(earlier, end, record) {
-            return true;
-        }
-        earlier = end;
-    }
-    false
+/// Checks 3 and 4, with the list.
+pub fn check_pairs(records: &[Record], near: &mut Near) -> Result<(), Refusal> {
+    check_twice(records)?;
+    check_order(records, near)
 }
 
-/// Four records of higher priorities are passed over in one step.
-unsafe fn disorder_in(from: *const Record, end: *const Record, record: *const Record) -> bool {
-    let mut earlier = from;
-    let fours = from.add(end.offset_from_unsigned(from) & !3);
-    while earlier != fours {
-        let all_higher = is_higher(&*earlier, &*record)
-            && is_higher(&*earlier.add(1), &*record)
-            && is_higher(&*earlier.add(2), &*record)
-            && is_higher(&*earlier.add(3), &*record);
-        if !all_higher && disorder_among(earlier, earlier.add(4), record) {
-            return true;
-        }
-        earlier = earlier.add(4);
-    }
-    disorder_among(earlier, end, record)
-}
-
-unsafe fn disorder_among(from: *const Record, end: *const Record, record: *const Record) -> bool {
-    let mut earlier = from;
-    while earlier != end {
-        if misordered_by_priority(&*earlier, &*record) {
-            return true;
-        }
-        earlier = earlier.add(1);
-    }
-    false
-}
-
-/// Past the fours of records, up to this one, that have no rule that overlaps it.
-unsafe fn from_overlap(from: *const Record, record: *const Record) -> *const Record {
-    let mut earlier = from;
-    let fours = from.add(record.offset_from_unsigned(from) & !3);
-    while earlier != fours
-        && !meets(&*earlier, &*record)
-        && !meets(&*earlier.add(1), &*record)
-        && !meets(&*earlier.add(2), &*record)
-        && !meets(&*earlier.add(3), &*record)
-    {
-        earlier = earlier.add(4);
-    }
-    earlier
+/// Checks 1 to 4, with the list.
+pub fn check_listed<'a>(table: &'a [u64], near: &mut Near) -> Result<&'a [Record], Refusal> {
+    let records = check_slots(table)?;
+    check_pairs(records, near)?;
+    Ok(records)
 }
 
 /// Checks 1 to 4.
 pub fn check_table(table: &[u64]) -> Result<&[Record], Refusal> {
-    let records = check_slots(table)?;
-    check_twice(records)?;
-    check_order(records)?;
-    Ok(records)
+    check_listed(table, &mut [0; 2 * SLOTS_MOST])
 }

@@ -2,7 +2,7 @@
 // A load builds the table meant apart, checks it there, and then copies it.
 
 use crate::answers::{refuse, Record, Refusal, IMAGE, PRIORITY_MOST, SHORT, SLOTS_MOST};
-use crate::checks::{check_order, check_table, check_twice, records_of};
+use crate::checks::{check_pairs, check_table, records_of};
 use crate::records::{id_of, put};
 
 /// Stores a number's bytes at an offset that has room for them.
@@ -65,8 +65,7 @@ pub fn load(image: &[u8], table: &mut [u64]) -> Result<(), Refusal> {
         check_entries(image, slots, rules)?;
         fill(image, rules, &mut working)?;
         let meant = working.get_unchecked(..slots);
-        check_twice(meant)?;
-        check_order(meant)?;
+        check_pairs(meant, &mut [0; 2 * SLOTS_MOST])?;
         std::ptr::copy_nonoverlapping(meant.as_ptr().cast::<u64>(), table.as_mut_ptr(), 6 * slots);
     }
     Ok(())

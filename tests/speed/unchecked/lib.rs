@@ -1,11 +1,13 @@
-// A hand-written Rust version of the same algorithms without bounds checks: `get_unchecked`, and pointers in the loops over pairs.
+// A hand-written Rust version of the same algorithms without bounds checks, by `get_unchecked`.
 // Slots are counted once, by check 1; each unchecked index stands below that count or below the length just tested.
 
 #[path = "../answers.rs"]
 mod answers;
+mod bitmaps;
 mod checks;
 mod images;
 mod lookups;
+mod neighbour_lists;
 mod planner;
 mod plans;
 mod records;

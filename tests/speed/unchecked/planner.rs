@@ -1,8 +1,9 @@
-// Windows, costs, the choice between the directions, and the chain's words.
+// Windows by the neighbour list, costs, the choice between the directions, and the chain's words.
 // Position p is slot p going down, and the slot as far from the last one going up.
 
 use crate::answers::{Record, PUT_IN, SLOTS_MOST};
-use crate::records::{at, id_of, misordered, put};
+use crate::neighbour_lists::Near;
+use crate::records::{at, id_of, put};
 
 pub type Column = [u16; SLOTS_MOST];
 
@@ -12,81 +13,22 @@ pub struct Choice {
     pub position: usize,
 }
 
-/// How many slots after a rule its window has, going down.
-unsafe fn window_down(records: &[Record], slot: usize) -> usize {
-    let record: *const Record = records.get_unchecked(slot);
-    let mut later = record.add(1);
-    let count = records.len() - slot - 1;
-    let fours = later.add(count & !3);
-    let reached = |later: *const Record| later.offset_from_unsigned(record);
-    while later != fours {
-        if misordered(&*later, &*record) {
-            return reached(later);
-        }
-        if misordered(&*later.add(1), &*record) {
-            return reached(later) + 1;
-        }
-        if misordered(&*later.add(2), &*record) {
-            return reached(later) + 2;
-        }
-        if misordered(&*later.add(3), &*record) {
-            return reached(later) + 3;
-        }
-        later = later.add(4);
+/// One past the last position of a rule's window.
+unsafe fn window_end(near: &Near, slots: usize, up: bool, slot: usize) -> usize {
+    match usize::from(at(near, 2 * slot + usize::from(up))) {
+        found if found >= slots => slots,
+        found if up => slots - found,
+        found => found + 1,
     }
-    let end = record.add(1 + count);
-    while later != end {
-        if misordered(&*later, &*record) {
-            return reached(later);
-        }
-        later = later.add(1);
-    }
-    count
-}
-
-/// How many slots before a rule its window has, going up.
-unsafe fn window_up(records: &[Record], slot: usize) -> usize {
-    let record: *const Record = records.get_unchecked(slot);
-    let mut before = record;
-    let fours = record.sub(slot & !3);
-    let reached = |before: *const Record| record.offset_from_unsigned(before);
-    while before != fours {
-        if misordered(&*record, &*before.sub(1)) {
-            return reached(before) + 1;
-        }
-        if misordered(&*record, &*before.sub(2)) {
-            return reached(before) + 2;
-        }
-        if misordered(&*record, &*before.sub(3)) {
-            return reached(before) + 3;
-        }
-        before = before.sub(4);
-        if misordered(&*record, &*before) {
-            return reached(before);
-        }
-    }
-    while before != records.as_ptr() {
-        before = before.sub(1);
-        if misordered(&*record, &*before) {
-            return reached(before);
-        }
-    }
-    slot
 }
 
 /// For each position one past its window's last position, or 0 where the slot is empty.
-unsafe fn fill_ends(records: &[Record], up: bool, ends: &mut Column) {
+unsafe fn fill_ends(records: &[Record], near: &Near, up: bool, ends: &mut Column) {
     let slots = records.len();
     let mut slot = 0;
     while slot < slots {
         let position = if up { slots - 1 - slot } else { slot };
-        let end = if id_of(records.get_unchecked(slot)) == 0 {
-            0
-        } else if up {
-            position + 1 + window_up(records, slot)
-        } else {
-            position + 1 + window_down(records, slot)
-        };
+        let end = if id_of(records.get_unchecked(slot)) == 0 { 0 } else { window_end(near, slots, up, slot) };
         put(ends, position, end as u16);
         slot += 1;
     }
@@ -115,9 +57,9 @@ unsafe fn least_in_window(costs: &Column, from: usize, to: usize, top: usize) ->
 ///
 /// # Safety
 /// There are 1 to 1,024 records.
-pub unsafe fn fill_costs(records: &[Record], up: bool, ends: &mut Column, costs: &mut Column) {
+pub unsafe fn fill_costs(records: &[Record], near: &Near, up: bool, ends: &mut Column, costs: &mut Column) {
     let slots = records.len();
-    fill_ends(records, up, ends);
+    fill_ends(records, near, up, ends);
     let mut position = slots;
     let mut least = slots as u16;
     while position > 0 {

@@ -2,20 +2,21 @@
 // A and B are found once.
 
 use crate::answers::{refuse, Record, Refusal, CROSSED, EMPTYING, FULL, KNOWN, RULE, SHORT, SLOTS_MOST, TIE, UNKNOWN};
-use crate::checks::check_table;
+use crate::checks::{check_listed, check_table};
 use crate::planner::{choose, fill_costs, write_plan};
 use crate::records::{id_of, is_sound, precedes, put, tied};
 
 pub fn plan_insert(table: &[u64], new: &Record, plan: &mut [u32]) -> Result<u32, Refusal> {
-    let records = check_table(table)?;
+    let mut near = [0; 2 * SLOTS_MOST];
+    let records = check_listed(table, &mut near)?;
     let slots = records.len();
     let (after, dependant) = check_new(records, new)?;
     let mut ends = [0; SLOTS_MOST];
     let mut down = [0; SLOTS_MOST];
     let mut up = [0; SLOTS_MOST];
     unsafe {
-        fill_costs(records, false, &mut ends, &mut down);
-        fill_costs(records, true, &mut ends, &mut up);
+        fill_costs(records, &near, false, &mut ends, &mut down);
+        fill_costs(records, &near, true, &mut ends, &mut up);
         let choice = choose(&down, &up, slots, after, dependant);
         let count = choice.cost + 1;
         if plan.len() < count {

@@ -57,33 +57,15 @@ pub fn overlap(first: &Record, second: &Record) -> bool {
     (first[0] ^ second[0]) & first[2] & second[2] == 0 && (first[1] ^ second[1]) & first[3] & second[3] == 0
 }
 
-/// Whether a rule that overlaps another stands in the first record; the other is a rule.
-#[inline(always)]
-pub fn meets(first: &Record, second: &Record) -> bool {
-    overlap(first, second) && id_of(first) != 0
-}
-
 #[inline(always)]
 fn distinct(first: &Record, second: &Record) -> bool {
     id_of(first) != 0 && id_of(second) != 0 && id_of(first) != id_of(second)
 }
 
-/// Whether the first rule, standing before the second, is out of order; most pairs are told apart by their patterns.
+/// Whether the records hold two rules of different ids that overlap; patterns tell most pairs apart.
 #[inline(always)]
-pub fn misordered(first: &Record, second: &Record) -> bool {
-    overlap(first, second) && distinct(first, second) && first[5] <= second[5]
-}
-
-/// Whether the first record's priority is the higher one.
-#[inline(always)]
-pub fn is_higher(first: &Record, second: &Record) -> bool {
-    first[5] > second[5]
-}
-
-/// The same as `misordered`, where most pairs are told by their priorities.
-#[inline(always)]
-pub fn misordered_by_priority(first: &Record, second: &Record) -> bool {
-    first[5] <= second[5] && distinct(first, second) && overlap(first, second)
+pub fn rules_overlap(first: &Record, second: &Record) -> bool {
+    overlap(first, second) && distinct(first, second)
 }
 
 #[inline(always)]
