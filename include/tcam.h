@@ -93,19 +93,19 @@
  * No call but tcam_carry_out and tcam_load changes the table, and none keeps anything for later. Each call but
  * tcam_load checks the whole table first, so its time grows with the number of slots. tcam_load looks at the
  * table's length only, and checks the whole image before it writes. The time of the planning calls, of tcam_save
- * and of tcam_load grows with the square of the slots, since they compare rules in pairs.
+ * and of tcam_load grows faster, at worst with the square of the slots, since they compare rules in pairs.
  *
  * STACK, measured on this build at 1,024 slots, rounded up, with the arguments that the caller pushes:
  *
  *     tcam_lookup, tcam_slot_record   128 bytes
- *     tcam_plan_delete                4,480 bytes
+ *     tcam_plan_delete                24,064 bytes
  *     tcam_carry_out                  192 bytes
- *     tcam_plan_insert                10,752 bytes, or 6,656 and 96 for each word of the plan, where that is more
- *     tcam_save                       4,480 bytes
- *     tcam_load                       53,760 bytes
+ *     tcam_plan_insert                30,336 bytes, or 10,752 and 96 for each word of the plan, where that is more
+ *     tcam_save                       24,064 bytes
+ *     tcam_load                       73,216 bytes
  *
- * The longest plan, of 1,024 words, takes 104,960 bytes, 102.5 KiB. A plan that does not fit its buffer is
- * not written out, so that a buffer of n words bounds the stack at 6,656 + 96 * n bytes, or at 10,752 where
+ * The longest plan, of 1,024 words, takes 109,056 bytes, 106.5 KiB. A plan that does not fit its buffer is
+ * not written out, so that a buffer of n words bounds the stack at 10,752 + 96 * n bytes, or at 30,336 where
  * that is more.
  */
 #ifndef TCAM_H
