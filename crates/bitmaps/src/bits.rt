@@ -53,20 +53,20 @@ pub fn clear_bit(word: u64, s: usize) -> u64
     lacking(word, one_bit(s))
 }
 
-// Whether bit s of a word is set.
-pub fn has_bit(word: u64, s: usize) -> bool
-    requires { ⌜ s < 64 ⌝ }
-    ensures { λ r. ⌜ r ≡ on word s ⌝ }
-{
-    (word >> s) & 1 == 1
-}
-
 // Bit s of a word, as a number.
 pub fn digit(word: u64, s: usize) -> u64
     requires { ⌜ s < 64 ⌝ }
     ensures { λ r. ⌜ (r ≡ bit word s) × (r < 2) ⌝ }
 {
     (word >> s) & 1
+}
+
+// Whether bit s of a word is set.
+pub fn has_bit(word: u64, s: usize) -> bool
+    requires { ⌜ s < 64 ⌝ }
+    ensures { λ r. ⌜ r ≡ on word s ⌝ }
+{
+    digit(word, s) == 1
 }
 
 // The place of the highest set bit.

@@ -10,10 +10,11 @@ use native.Mathlib.Omega.{arith}
 use lib.Dec.{ltb}
 use borrow.Author.Tests.{lt-ltb, le-ltb}
 use Rattle.search.specs.Search.{least, Least, afterLast, AfterLast}
-use Rattle.search.specs.SearchLaws.{least-law, least-unique, after-last-law, after-last-unique}
+use Rattle.search.specs.SearchLaws.{least-law, after-last-law}
 use Rattle.layout.specs.Order.{Higher, Lower}
 use Rattle.records.specs.Order.{slots}
 use Rattle.neighbour_lists.specs.Lists.{firstFrom, lastBelow, nextDependant, lastPreceding}
+use Rattle.neighbour_lists.specs.ListsLaws.{first-from-none, first-from-at, last-below-none, last-below-at}
 use Rattle.insert_plans.specs.Nearest.{dependsAt, precedesAt, Nearest}
 
 -- of n slots, fewer than 65,535, the first after slot i at which a test holds
@@ -35,9 +36,7 @@ module _ (p : ℕ → Bool) (n i : ℕ) (few : n ≤ 65535) (h : i < n) where
       to (no a) e = absurd (let q : 65535 ≡ d = sym (ap (λ (b : Bool). cond b m 65535) (le-ltb m n (omega arith))) ∙ e in omega (arith, q))
 
       from : (i < d) × (p d ≡ true) × ((y : ℕ) → i < y → y < d → p y ≡ false) → cond (ltb m n) m 65535 ≡ d
-      from z =
-          let q : m ≡ d = least-unique first-law (record { low = z .0; high = omega arith; before = λ y u v. z .2 y u v; hit = λ u. z .1 }) in
-          ap (λ (b : Bool). cond b m 65535) (lt-ltb m n (omega (arith, q))) ∙ q
+      from z = first-from-at p (suc i) n d (z .0) l (z .1) (z .2)
 
   first-none : (firstFrom p (suc i) n ≡ 65535) ↔ ((y : ℕ) → i < y → y < n → p y ≡ false)
   unfolding firstFrom
@@ -48,9 +47,7 @@ module _ (p : ℕ → Bool) (n i : ℕ) (few : n ≤ 65535) (h : i < n) where
       to (no a) e y u v = first-law .before y u (omega arith)
 
       from : ((y : ℕ) → i < y → y < n → p y ≡ false) → cond (ltb m n) m 65535 ≡ 65535
-      from f =
-          let q : m ≡ n = least-unique first-law (record { low = omega arith; high = omega arith; before = λ y u v. f y u v; hit = λ u. absurd (omega arith) }) in
-          ap (λ (b : Bool). cond b m 65535) (le-ltb m n (omega (arith, q)))
+      from f = first-from-none p (suc i) n (omega arith) f
 
 -- of the slots below slot i, fewer than 65,535, the last at which a test holds
 module _ (p : ℕ → Bool) (i : ℕ) (few : i ≤ 65535) where
@@ -71,9 +68,7 @@ module _ (p : ℕ → Bool) (i : ℕ) (few : i ≤ 65535) where
       to (no b) e = absurd (let q : 65535 ≡ d = sym (ap (λ (c : Bool). cond c (a - 1) 65535) (le-ltb 0 a (omega arith))) ∙ e in omega (arith, q))
 
       from : (d < i) × (p d ≡ true) × ((y : ℕ) → d < y → y < i → p y ≡ false) → cond (ltb 0 a) (a - 1) 65535 ≡ d
-      from z =
-          let q : a ≡ suc d = after-last-unique last-law (record { high = z .0; after = λ y u v. z .2 y u v; hit = λ y g. (let f : y ≡ d = omega (arith, g) in ap p f ∙ z .1) }) in
-          ap (λ (c : Bool). cond c (a - 1) 65535) (lt-ltb 0 a (omega (arith, q))) ∙ omega (arith, q)
+      from z = last-below-at p i d (z .0) (z .1) (z .2)
 
   last-none : (lastBelow p i ≡ 65535) ↔ ((y : ℕ) → y < i → p y ≡ false)
   unfolding lastBelow
@@ -84,9 +79,7 @@ module _ (p : ℕ → Bool) (i : ℕ) (few : i ≤ 65535) where
       to (no b) e y v = last-law .after y (omega arith) v
 
       from : ((y : ℕ) → y < i → p y ≡ false) → cond (ltb 0 a) (a - 1) 65535 ≡ 65535
-      from f =
-          let q : a ≡ 0 = after-last-unique last-law (record { high = omega arith; after = λ y u v. f y v; hit = λ y g. absurd (omega (arith, g)) }) in
-          ap (λ (c : Bool). cond c (a - 1) 65535) (le-ltb 0 a (omega (arith, q)))
+      from f = last-below-none p i f
 
 -- the numbers of a slot of any table of at most 65,535 slots
 module _ (w : ℕ) (t : List ℕ) (few : slots w t ≤ 65535) (i : ℕ) (h : i < slots w t) where

@@ -6,7 +6,7 @@ use mathlib.Core.Logic._⊎_.{inl, inr}
 use Prim.Native.Nat.{ℕ, zero, suc, _+_, _-_, _<_, _≤_}
 use native.Mathlib.Decide.{ℕ-discrete}
 use native.Mathlib.Omega.{arith}
-use lib.Dec.{eqb, ltb}
+use lib.Dec.{eqb}
 use borrow.Author.Tests.{eq-eqb, eqb-true, lt-ltb, le-ltb}
 use Rattle.search.specs.Search.{least, afterLast}
 use Rattle.search.specs.SearchLaws.{decided, and-both, and-left, and-right, least-law, least-unique, after-last-law, after-last-unique}
@@ -29,6 +29,23 @@ last-below-at p n m h t f =
     = after-last-unique (after-last-law p n)
     (record { high = h; after = λ i l u. f i l u; hit = λ i q. (let g : i ≡ m = omega arith in ap p g ∙ t) }) in
     rw (lt-ltb 0 (afterLast p n) (omega arith)) (omega arith)
+
+-- the first index from a start at which a test holds, likewise
+pub first-from-none : (p : ℕ → Bool) (from to : ℕ) → from ≤ to → ((i : ℕ) → from ≤ i → i < to → p i ≡ false) → firstFrom p from to ≡ 65535
+unfolding firstFrom
+first-from-none p from to l f =
+    let q : least p (to - from) from ≡ to
+    = least-unique (least-law p (to - from) from)
+    (record { low = l; high = omega arith; before = λ i a b. f i a b; hit = λ u. absurd (omega arith) }) in
+    rw (le-ltb (least p (to - from) from) to (omega arith))
+
+pub first-from-at : (p : ℕ → Bool) (from to m : ℕ) → from ≤ m → m < to → p m ≡ true → ((i : ℕ) → from ≤ i → i < m → p i ≡ false) → firstFrom p from to ≡ m
+unfolding firstFrom
+first-from-at p from to m a b t f =
+    let q : least p (to - from) from ≡ m
+    = least-unique (least-law p (to - from) from)
+    (record { low = a; high = omega arith; before = λ i x y. f i x y; hit = λ u. t }) in
+    rw (lt-ltb (least p (to - from) from) to (omega arith)) q
 
 -- before any index is asked there is none
 pub seen-start : (p : ℕ → Bool) (i : ℕ) → firstSeen p (i + 1) (i + 1 - (i + 1)) ≡ 65535
@@ -60,21 +77,11 @@ seen-law p from (suc k) h = step (seen-law p from k (omega arith)) (decided (p (
 
 -- a walk to the end has kept the first
 pub seen-first : (p : ℕ → Bool) (from to : ℕ) → from ≤ to → to ≤ 65535 → firstSeen p from (to - from) ≡ firstFrom p from to
-unfolding firstFrom
 seen-first p from to l h = by (seen-law p from (to - from) (omega arith))
   where
-    by : Seen p from (to - from) (firstSeen p from (to - from))
-        → firstSeen p from (to - from) ≡ cond (ltb (least p (to - from) from) to) (least p (to - from) from) 65535
-    by (none e f) =
-        let q : least p (to - from) from ≡ to
-        = least-unique (least-law p (to - from) from)
-        (record { low = l; high = omega arith; before = λ i a b. f i a (omega arith); hit = λ u. absurd (omega arith) }) in
-        rw (le-ltb (least p (to - from) from) to (omega arith)) e
-    by (found a b c f) =
-        let q : least p (to - from) from ≡ firstSeen p from (to - from)
-        = least-unique (least-law p (to - from) from)
-        (record { low = a; high = omega arith; before = λ i x y. f i x y; hit = λ u. c }) in
-        rw (lt-ltb (least p (to - from) from) to (omega arith)) (sym q)
+    by : Seen p from (to - from) (firstSeen p from (to - from)) → firstSeen p from (to - from) ≡ firstFrom p from to
+    by (none e f) = e ∙ sym (first-from-none p from to l (λ i a b. f i a (omega arith)))
+    by (found a b c f) = sym (first-from-at p from to (firstSeen p from (to - from)) a (omega arith) c f)
 
 -- a search from 0 over one index more, as a loop goes on with it: while nothing is found the index itself is the answer
 pub least-grows : (p : ℕ → Bool) (n m : ℕ) (bad : Bool) → m ≡ least p n 0 → bad ≡ p n → eqb m n && not bad ≡ true → m + 1 ≡ least p (n + 1) 0

@@ -1,23 +1,18 @@
 -- Laws on windows: their ends as the code tells them, empty positions, and an array filled from the front.
-use mathlib.Core.Path.{_≡_, sym, ap, _∙_}
+use mathlib.Core.Path.{_≡_, sym}
 use mathlib.Core.Bool.{Bool, true, false, cond}
 use mathlib.Core.List.{List, _++_}
-use Prim.Native.Nat.{ℕ, suc, _+_, _-_, _*_, _≤_, _<_, min}
+use Prim.Native.Nat.{ℕ, suc, _+_, _-_, _≤_, _<_, min}
 use native.Mathlib.Omega.{arith}
 use native.Mathlib.Numerals.{add-one}
-use lib.Dec.{eqb}
 use lib.ListN.{length, getD, set, drop}
 use lib.Seq.{drop-cons, set-at, append-snoc}
 use borrow.Author.Tests.{lt-ltb, le-ltb}
 use Rattle.search.specs.Search.{least}
 use Rattle.ternary.specs.Pattern.{Words}
 use Rattle.positions.specs.Positions.{slotAt}
-use Rattle.positions.specs.PositionsLaws.{slot-below}
 use Rattle.records.specs.Record.{slotWords, empty, listed}
 use Rattle.records.specs.Order.{slots}
-use Rattle.records.specs.Checks.{tableChecks}
-use Rattle.records.specs.Laws.{slot-checks-law, table-checks-law, id-word}
-use Rattle.records.specs.declared.Check.the-variants.{Pass}
 use Rattle.records.specs.RulesLaws.{length-listed}
 use Rattle.windows.specs.Windows.{endAt, windowEndAt, misplacedAt, endAfter, endBefore}
 
@@ -49,14 +44,6 @@ end-high w t up p = pick (empty w (slotWords w t (slotAt (slots w t) up p)))
     pick : (b : Bool) → cond b 0 (min (suc (least (misplacedAt w t up p) (slots w t - suc p) (suc p))) (slots w t)) ≤ slots w t
     pick true = omega arith
     pick false = omega arith
-
--- a position is empty exactly where its slot's word of id and action is 0
-pub position-empty : (w : ℕ) (t : List ℕ) → tableChecks w t ≡ Pass → (up : Bool) (p : ℕ) → p < slots w t → (slot told : ℕ) → slot ≡ slotAt (slots w t) up p
-    → told ≡ slotWords w t slot (2 * w) → empty w (slotWords w t (slotAt (slots w t) up p)) ≡ eqb told 0
-position-empty w t checks up p h slot told e f =
-    let records = slot-checks-law w t .0 (table-checks-law w t .0 checks .0) .1 in
-    sym (id-word w t (slotAt (slots w t) up p) records (slot-below (slots w t) up p h))
-    ∙ ap (λ (x : ℕ). eqb x 0) (sym (f ∙ ap (λ (s : ℕ). slotWords w t s (2 * w)) e))
 
 -- a position that is empty, and one that is not
 pub end-empty : (w : ℕ) (t : List ℕ) (up : Bool) (p : ℕ) → empty w (slotWords w t (slotAt (slots w t) up p)) ≡ true → endAt w t up p ≡ 0

@@ -1,7 +1,7 @@
 // The windows of a table's rules along one direction, by positions, for the planner.
 // They are told by the table's neighbour list; the numbers go into a lent array.
 use positions::slot_at;
-use slots::slot_word;
+use slots::slot_vacant;
 ghost use mathlib.Core.Path.{_≡_};
 ghost use mathlib.Core.List.{_++_};
 ghost use Prim.Native.Nat.{_+_, _-_, _*_, _≤_, _<_, _/_};
@@ -53,7 +53,7 @@ fn end_at(table: &[u64], near: &[u16], up: bool, position: usize) -> u16
 {
     let slots = table.len() / 6;
     let slot = slot_at(slots, up, position);
-    if slot_word(table, slot, 4) == 0 {
+    if slot_vacant(table, slot) {
         return 0;
     }
     window_end(near, slots, up, position) as u16
