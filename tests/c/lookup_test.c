@@ -406,7 +406,15 @@ static void empty_slots(void)
     LOOKUP(table, SLOTS(4), 0, 1, MISS);
     LOOKUP(table, SLOTS(2), 0, 0, MISS);
 
+    /* an empty slot before a rule that matches every key: the empty one's mask is 0 too, and the rule answers */
+    clear();
+    put(1, 0, 0, 0, 0, 1, 7, 5);
+    LOOKUP(table, SLOTS(2), 0, 0, HIT(1, 1, 7));
+    LOOKUP(table, SLOTS(2), ALL, ALL, HIT(1, 1, 7));
+    LOOKUP(table, SLOTS(1), 0, 0, MISS);
+
     /* ids and actions at their ends */
+    clear();
     put(2, 0, 0, ALL, ALL, UINT32_MAX, UINT32_MAX, 65535);
     LOOKUP(table, SLOTS(4), 0, 0, HIT(2, UINT32_MAX, UINT32_MAX));
     put(2, 0, 0, ALL, ALL, 1, UINT32_MAX, 65535);

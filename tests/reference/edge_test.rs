@@ -1,4 +1,4 @@
-// Document 01's tables at the edge and its traps, on the reference.
+// Document 01's tables at the edge and its traps, and tables for requests of document 02, on the reference.
 // Tables are written as lists of slots with rules by id, priority and pattern.
 
 use crate::carry::{carry_out, Carried, Progress};
@@ -145,6 +145,15 @@ fn known_tie_crossed() {
     assert_eq!(plan_of(&[Some(low), Some(high), None], &rule(3, 3, "1")), refused(TIE, 0));
     assert_eq!(plan_of(&[Some(low), Some(high), None], &rule(3, 5, "1")), refused(CROSSED, 1));
     assert_eq!(plan_of(&[Some(low), Some(high)], &rule(3, 5, "1")), refused(FULL, 0));
+}
+
+#[test]
+fn an_empty_slot_matches_no_key() {
+    let every_key = Rule { action: 7, ..rule(1, 5, "") };
+    let words = words_of(&[None, Some(every_key)]);
+    assert_eq!(lookup(&words, 0), Ok(Found::Hit { slot: 1, id: 1, action: 7 }));
+    assert_eq!(lookup(&words, u128::MAX), Ok(Found::Hit { slot: 1, id: 1, action: 7 }));
+    assert_eq!(lookup(&words[..6], 0), Ok(Found::Miss));
 }
 
 #[test]

@@ -1,3 +1,4 @@
--- What a lookup answers, and which part of the lent table a slot's record is.
+-- What a lookup answers, with an example, and which part of the lent table a slot's record is.
+pub mod Examples
 pub mod Lookup
 pub mod LookupLaws

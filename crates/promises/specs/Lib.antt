@@ -1,9 +1,11 @@
--- Document 01's three demands. Calls: calls one after the other; FirstDemand, SecondDemand, ThirdDemand: the statements; their theorems are
--- in the files of laws of the same names.
+-- Document 01's three demands, and document 02's requests where a theorem of their own states them. Calls: calls one after the other; FirstDemand,
+-- SecondDemand, ThirdDemand, KeysOfSlot: the statements; their theorems are in the files of laws of the same names.
 pub mod Calls
 pub mod CallsLaws
 pub mod FirstDemand
 pub mod FirstDemandLaws
+pub mod KeysOfSlot
+pub mod KeysOfSlotLaws
 pub mod SecondDemand
 pub mod SecondDemandLaws
 pub mod ThirdDemand

@@ -2,13 +2,14 @@
 -- A check is a row of the refusal table: it passes, or fails with its cause and spot.
 use mathlib.Core.Path.{_≡_}
 use mathlib.Core.Bool.{Bool, true, false, not, cond, _&&_}
+use mathlib.Core.Logic.{_⊎_}
 use mathlib.Core.List.{List, [], _∷_}
 use Prim.Native.Nat.{ℕ, _%_, _*_, _≤_}
 use lib.Dec.{eqb, ltb, leb}
 use lib.ListN.{length}
 use Rattle.search.specs.Search.{any, least}
 use Rattle.ternary.specs.Pattern.{Words}
-use Rattle.records.specs.Record.{recordWords, slotWords, occupied, sound, slotMatches}
+use Rattle.records.specs.Record.{recordWords, slotWords, empty, occupied, sound, patternMatches, slotMatches}
 use Rattle.records.specs.Order.{slots, sameId, misordered}
 use Rattle.records.specs.declared.Cause.{Cause}
 use Rattle.records.specs.declared.Cause.the-variants.{Shape, Record, Twice, Order, Rule, Known, Unknown, Tie, Full, Crossed, Short, Write, Line}
@@ -73,6 +74,10 @@ checkShape w t = cond (shaped w t) Pass (Fail Shape 0)
 unfoldable pub unsoundAt : ℕ → List ℕ → ℕ → Bool
 unsoundAt w t i = not (sound w (slotWords w t i)) && occupied w (slotWords w t i)
 
+-- what it asks of each slot's record
+abbrev pub EmptyOrSound : ℕ → Words → Type 0
+EmptyOrSound w x = (empty w x ≡ true) ⊎ (sound w x ≡ true)
+
 unfoldable pub checkRecords : ℕ → List ℕ → Check
 checkRecords w t = lowest Record (unsoundAt w t) (slots w t)
 
@@ -104,6 +109,10 @@ matchesAt w t key i = slotMatches w key (slotWords w t i)
 -- the lowest-numbered slot that matches a key; the number of slots where none does
 unfoldable pub firstMatch : ℕ → List ℕ → Words → ℕ
 firstMatch w t key = least (matchesAt w t key) (slots w t) 0
+
+-- what the comparison finds of slot i, by its pattern and its word of id and action alone: of an empty slot or a sound rule, whether it matches
+unfoldable pub comparedAt : ℕ → List ℕ → Words → ℕ → Bool
+comparedAt w t key i = patternMatches w key (slotWords w t i) && not (eqb (slotWords w t i (2 * w)) 0)
 
 -- check 1: a record's words for each of 1 to 1,024 slots
 abbrev pub Shaped : ℕ → List ℕ → Type 0

@@ -21,7 +21,7 @@ use Rattle.records.specs.Record.{word, listed, recordWords, slotWords, v
 use Rattle.records.specs.Record.{slotMatches, recordOf}
 use Rattle.records.specs.Order.{slots, overlapping, sameId, distinct, misordered, InOrder}
 use Rattle.records.specs.Checks.{checkShape, checkTwice, checkOrder}
-use Rattle.records.specs.Laws.{shape-law, empty-law, twice-law, same-id-law, misordered-law, ordered-law, order-law}
+use Rattle.records.specs.Laws.{shape-law, empty-law, ident-not-empty, twice-law, same-id-law, misordered-law, ordered-law, order-law}
 use Rattle.records.specs.declared.Check.the-variants.{Pass}
 use Rattle.records.specs.declared.Rule.{Rule}
 use Rattle.records.specs.RulesLaws.{length-listed, word-listed, record-ident}
@@ -202,8 +202,7 @@ shaped-slots w t e =
 
 -- a record whose id is not 0 is occupied; so is that of a rule whose id is not 0
 pub ident-occupied : (w : ℕ) (x : Words) → (ident w x ≡ 0 → ⊥) → occupied w x ≡ true
-ident-occupied w x f =
-    ap not (refuted (λ e. f (ap (λ (n : ℕ). n / 4294967296) (empty-law w x .0 e (2 * w) (omega arith)))))
+ident-occupied w x f = ap not (ident-not-empty w x f)
 
 pub rule-occupied : (w : ℕ) (r : Rule) → (r .id ≡ 0 → ⊥) → r .action < 4294967296 → entryOccupied w (recordOf w r) ≡ true
 rule-occupied w r f h = ident-occupied w (word (recordOf w r)) (λ e. f (sym (record-ident w r h) ∙ e))

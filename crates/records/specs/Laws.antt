@@ -1,7 +1,7 @@
 -- End theorems on the checks, in document 01's words: shape, records, ids and order, each exactly, and each spot the lowest.
 -- These are the sentences a reader goes by; callers cite them and not the text of the definitions.
 use mathlib.Core.Path.{_≡_, refl, sym, ap, _∙_, fun-ext}
-use mathlib.Core.Bool.{Bool, true, false, not, cond, _&&_, false≢true, true≢false}
+use mathlib.Core.Bool.{Bool, true, false, not, cond, _&&_, and-comm, false≢true, true≢false}
 use mathlib.Core.Logic.{_↔_, _⊎_, ⊎-elim}
 use mathlib.Core.Logic._⊎_.{inl, inr}
 use mathlib.Core.List.{List, [], _∷_}
@@ -13,15 +13,15 @@ use lib.Arith.{digits-div, digits-mod}
 use lib.Dec.{eqb, ltb, leb}
 use lib.ListN.{length, getD}
 use borrow.Author.Tests.{eqb-true, eqb-false, eq-eqb, ne-eqb, leb-true, le-leb, lt-ltb, ltb-true, ltb-false, not-true}
-use Rattle.search.specs.Search.{all, least, Least, any}
-use Rattle.search.specs.SearchLaws.{all-law, all-not, least-law, any-no, any-none, decided, and-law, and-left, and-right, and-both}
+use Rattle.search.specs.Search.{least, Least, any}
+use Rattle.search.specs.SearchLaws.{all-law, all-not, least-law, least-cong, any-no, any-none, decided, and-law, and-left, and-right, and-both}
 use Rattle.ternary.specs.Pattern.{Words, Matches, Within, within}
 use Rattle.ternary.specs.PatternLaws.{overlaps-law, matches-law, matches-cong, within-law}
 use Rattle.records.specs.Record.{recordWords, slotWords, value, mask, ident, rank, empty, occupied, sound, soundParts, slotMatches}
 use Rattle.records.specs.Record.{patternMatches}
 use Rattle.records.specs.Order.{slots, overlapping, sameId, distinct, precedes, tied, misordered, Ordered, InOrder, Overlapping}
 use Rattle.records.specs.Checks.{causeNumber, Told, refusal, unless, orElse, lowest, shaped, checkShape, slotChecks, tableChecks, unsoundAt}
-use Rattle.records.specs.Checks.{checkRecords, twiceAt, checkTwice, disorderAt, checkOrder, firstMatch, Shaped}
+use Rattle.records.specs.Checks.{checkRecords, twiceAt, checkTwice, disorderAt, checkOrder, firstMatch, EmptyOrSound, comparedAt, Shaped}
 use Rattle.records.specs.declared.Cause.{Cause}
 use Rattle.records.specs.declared.Cause.the-variants.{Shape, Record, Twice, Order, Rule, Known, Unknown, Tie, Full, Crossed, Short, Write, Line}
 use Rattle.records.specs.declared.Cause.the-variants.{Image}
@@ -220,6 +220,11 @@ slot-matches-law w key x =
     let l = matches-law w key (value x) (mask w x) in
     (λ e. (and-right a (occupied w x) e, l .0 (and-left a (occupied w x) e)), λ s. and-both a (occupied w x) (l .1 (s .1)) (s .0))
 
+-- an empty slot matches no key
+pub empty-matches-none : (w : ℕ) (key x : Words) → empty w x ≡ true → slotMatches w key x ≡ false
+unfolding slotMatches
+empty-matches-none w key x e = and-comm (patternMatches w key x) (occupied w x) ∙ ap (λ (b : Bool). not b && patternMatches w key x) e
+
 -- the first match is the lowest-numbered slot that matches, or the number of slots
 pub first-match-law : (w : ℕ) (t : List ℕ) (key : Words)
     → Least (λ (i : ℕ). slotMatches w key (slotWords w t i)) 0 (slots w t) (firstMatch w t key)
@@ -241,7 +246,7 @@ slot-within w t i h =
 
 -- check 2 passes exactly when each slot is empty or a sound rule
 pub records-law : (w : ℕ) (t : List ℕ)
-    → (checkRecords w t ≡ Pass) ↔ ((i : ℕ) → i < slots w t → (empty w (slotWords w t i) ≡ true) ⊎ (sound w (slotWords w t i) ≡ true))
+    → (checkRecords w t ≡ Pass) ↔ ((i : ℕ) → i < slots w t → EmptyOrSound w (slotWords w t i))
 unfolding checkRecords unsoundAt
 records-law w t =
     let l = lowest-pass Record (unsoundAt w t) (slots w t) in
@@ -258,22 +263,44 @@ records-law w t =
     from false false (inl h) = absurd (false≢true h)
     from false false (inr h) = absurd (false≢true h)
 
--- where it passes, a slot is empty exactly when its word of id and action is 0
-pub id-word : (w : ℕ) (t : List ℕ) (i : ℕ) → checkRecords w t ≡ Pass → i < slots w t → eqb (slotWords w t i (2 * w)) 0 ≡ empty w (slotWords w t i)
-unfolding empty soundParts
-id-word w t i e h = pick (records-law w t .0 e i h)
-  where
-    word-test : ℕ → Bool
-    word-test j = eqb (slotWords w t i j) 0
+-- where the id is not 0, neither is the word of id and action, and the slot is not empty
+ident-word : (w : ℕ) (x : Words) → (ident w x ≡ 0 → ⊥) → eqb (x (2 * w)) 0 ≡ false
+ident-word w x f = ne-eqb (x (2 * w)) 0 (λ z. f (ap (λ (y : ℕ). y / 4294967296) z))
 
-    pick : (all word-test (recordWords w) ≡ true) ⊎ (sound w (slotWords w t i) ≡ true) → word-test (2 * w) ≡ all word-test (recordWords w)
-    pick (inl v) = all-law word-test (recordWords w) .0 v (2 * w) (omega arith) ∙ sym v
-    pick (inr v) =
-        let x = slotWords w t i in
-        let numbers = and-left (not (eqb (ident w x) 0) && leb (rank w x) 65535) (within w (value x) (mask w x)) v in
-        let id = and-left (not (eqb (ident w x) 0)) (leb (rank w x) 65535) numbers in
-        let not-zero : word-test (2 * w) ≡ false = ne-eqb (x (2 * w)) 0 (λ z. eqb-false (ident w x) 0 (not-true (eqb (ident w x) 0) id) (ap (λ (y : ℕ). y / 4294967296) z)) in
-        not-zero ∙ sym (all-not word-test (recordWords w) (2 * w) (omega arith) not-zero)
+pub ident-not-empty : (w : ℕ) (x : Words) → (ident w x ≡ 0 → ⊥) → empty w x ≡ false
+unfolding empty
+ident-not-empty w x f = all-not (λ (j : ℕ). eqb (x j) 0) (recordWords w) (2 * w) (omega arith) (ident-word w x f)
+
+-- that word tells an empty slot from a sound rule
+pub empty-word : (w : ℕ) (x : Words) → EmptyOrSound w x → eqb (x (2 * w)) 0 ≡ empty w x
+empty-word w x (inl v) = eq-eqb (x (2 * w)) 0 (empty-law w x .0 v (2 * w) (omega arith)) ∙ sym v
+empty-word w x (inr s) = let id = sound-law w _ _ _ _ .0 s .0 in ident-word w x id ∙ sym (ident-not-empty w x id)
+
+-- where check 2 passes, a slot is empty exactly when that word is 0
+pub id-word : (w : ℕ) (t : List ℕ) (i : ℕ) → checkRecords w t ≡ Pass → i < slots w t → eqb (slotWords w t i (2 * w)) 0 ≡ empty w (slotWords w t i)
+id-word w t i e h = empty-word w (slotWords w t i) (records-law w t .0 e i h)
+
+-- so the pattern and that word tell which keys a slot matches, and where check 2 passes the first match
+pub compared-match : (w : ℕ) (t : List ℕ) (key : Words) (i : ℕ)
+    → EmptyOrSound w (slotWords w t i)
+    → comparedAt w t key i ≡ slotMatches w key (slotWords w t i)
+unfolding comparedAt slotMatches
+compared-match w t key i m = ap (λ (b : Bool). patternMatches w key (slotWords w t i) && not b) (empty-word w (slotWords w t i) m)
+
+pub first-compared : (w : ℕ) (t : List ℕ) (key : Words) → checkRecords w t ≡ Pass → least (comparedAt w t key) (slots w t) 0 ≡ firstMatch w t key
+unfolding firstMatch
+first-compared w t key e = least-cong (slots w t) 0 (λ i l h. compared-match w t key i (records-law w t .0 e i (omega arith)))
+
+-- a slot that is empty or a sound rule matches exactly the keys that equal that rule's value at every bit position that the rule cares for
+pub rule-matches-law : (w : ℕ) (key x : Words) → EmptyOrSound w x
+    → (slotMatches w key x ≡ true) ↔ ((sound w x ≡ true) × Matches w key (value x) (mask w x))
+rule-matches-law w key x m =
+    let l = slot-matches-law w key x in
+    (λ e. let s = l .0 e in (holds m (s .0), s .1), λ s. l .1 (ap not (ident-not-empty w x (sound-law w _ _ _ _ .0 (s .0) .0)), s .1))
+  where
+    holds : EmptyOrSound w x → occupied w x ≡ true → sound w x ≡ true
+    holds (inl a) o = absurd (true≢false (sym o ∙ ap not a))
+    holds (inr s) o = s
 
 -- a check of each slot against the earlier ones passes exactly when no two slots fail the test
 earlier-law : (cause : Cause) (p : ℕ → ℕ → Bool) (n : ℕ)
@@ -372,17 +399,9 @@ precedes-misordered w a b e =
 -- a hit's id is not 0: so id 0 tells a miss
 pub hit-id : (w : ℕ) (t : List ℕ) (key : Words) → slotChecks w t ≡ Pass → firstMatch w t key < slots w t
     → ident w (slotWords w t (firstMatch w t key)) ≡ 0 → ⊥
-unfolding slotChecks
 hit-id w t key e h =
-    let l = first-match-law w t key in
-    let m = slot-matches-law w key (slotWords w t (firstMatch w t key)) .0 (l .hit h) in
-    let r = records-law w t .0 (or-else-pass (checkShape w t) (checkRecords w t) .0 e .1) (firstMatch w t key) h in
-    pick r (m .0)
-  where
-    pick : (empty w (slotWords w t (firstMatch w t key)) ≡ true) ⊎ (sound w (slotWords w t (firstMatch w t key)) ≡ true)
-        → occupied w (slotWords w t (firstMatch w t key)) ≡ true → ident w (slotWords w t (firstMatch w t key)) ≡ 0 → ⊥
-    pick (inl a) o = absurd (true≢false (sym o ∙ ap not a))
-    pick (inr s) o = sound-law w _ _ _ _ .0 s .0
+    let record-at = records-law w t .0 (slot-checks-law w t .0 e .1) (firstMatch w t key) h in
+    sound-law w _ _ _ _ .0 (rule-matches-law w key (slotWords w t (firstMatch w t key)) record-at .0 (first-match-law w t key .hit h) .0) .0
 
 -- document 01: highest priority match. In a table that passes checks 3 and 4 every other match has a lower priority than the first.
 pub highest-match : (w : ℕ) (t : List ℕ) (key : Words) → checkTwice w t ≡ Pass → checkOrder w t ≡ Pass → (j : ℕ) → j < slots w t

@@ -1,17 +1,17 @@
 // One slot of a table, read in the table itself: empty, sound, matching a key; and a rule's record.
-// A function on a slot asks that it exists, `slot_vacant` and `slot_matches` that check 2 passes; else the table may hold anything.
+// A function on a slot asks that it exists, `slot_vacant` that check 2 passes; else the table may hold anything.
 pub mod rules;
 
 ghost use mathlib.Core.Path.{_≡_};
 ghost use mathlib.Core.Bool.{_&&_};
 ghost use mathlib.Core.List.{[], _∷_};
 ghost use Prim.Native.Nat.{_+_, _<_, _/_};
-ghost use lib.Dec.{leb};
+ghost use lib.Dec.{eqb, leb};
 ghost use lib.ListN.{length};
 ghost use Rattle.ternary.specs.Word.{agree, inside};
 ghost use Rattle.ternary.specs.Pattern.{within};
-ghost use Rattle.records.specs.Record.{word, slotWords, value, mask, rank, empty, ident, soundParts, patternMatches, slotMatches, listed, putSlot};
-ghost use Rattle.records.specs.Checks.{unsoundAt, checkRecords};
+ghost use Rattle.records.specs.Record.{word, slotWords, value, mask, rank, empty, ident, soundParts, patternMatches, listed, putSlot};
+ghost use Rattle.records.specs.Checks.{unsoundAt, checkRecords, comparedAt};
 ghost use Rattle.records.specs.declared.Check.the-variants.{Pass};
 
 // Word `index` of a slot's record.
@@ -97,13 +97,21 @@ pub fn slot_rank(table: &[u64], slot: usize) -> u64
     slot_word(table, slot, 5)
 }
 
+// Whether a slot's word of id and action is 0.
+fn slot_unnamed(table: &[u64], slot: usize) -> bool
+    requires { ⌜ slot < length (now table) / 6 ⌝ }
+    ensures { λ r. ⌜ r ≡ eqb (slotWords 2 (now (table .entry)) slot 4) 0 ⌝ }
+{
+    slot_word(table, slot, 4) == 0
+}
+
 // Whether a slot is empty, told by its word of id and action: that is all it takes where check 2 passes.
 pub fn slot_vacant(table: &[u64], slot: usize) -> bool
     requires { ⌜ slot < length (now table) / 6 ⌝ }
     requires { ⌜ checkRecords 2 (now table) ≡ Pass ⌝ }
     ensures { λ r. ⌜ r ≡ empty 2 (slotWords 2 (now (table .entry)) slot) ⌝ }
 {
-    slot_word(table, slot, 4) == 0
+    slot_unnamed(table, slot)
 }
 
 // Whether a word of a slot's value lies within that word of its mask.
@@ -191,14 +199,14 @@ fn pattern_matches(table: &[u64], slot: usize, key_high: u64, key_low: u64) -> b
     false
 }
 
-// Exactly which keys a slot matches: an empty one none.
+// Document 02, 2026-02: exactly which keys a slot matches, an empty one none. So it is of each slot where check 2 passes
+// (`compared-match`, records/Laws); the equation holds of any words.
 pub fn slot_matches(table: &[u64], slot: usize, key_high: u64, key_low: u64) -> bool
     requires { ⌜ slot < length (now table) / 6 ⌝ }
-    requires { ⌜ checkRecords 2 (now table) ≡ Pass ⌝ }
-    ensures { λ r. ⌜ r ≡ slotMatches 2 (word («key_high» ∷ «key_low» ∷ [])) (slotWords 2 (now (table .entry)) slot) ⌝ }
+    ensures { λ r. ⌜ r ≡ comparedAt 2 (now (table .entry)) (word («key_high» ∷ «key_low» ∷ [])) slot ⌝ }
 {
     if pattern_matches(table, slot, key_high, key_low) {
-        return !slot_vacant(table, slot);
+        return !slot_unnamed(table, slot);
     }
     false
 }

@@ -1,5 +1,5 @@
 // Checks 1 to 4 of a table, each with the lowest slot that fails it, and the first match of a key.
-// A planning call makes all four checks; lookup makes the first two.
+// A planning call makes all four checks; lookup makes the first two, after which the comparison is true of exactly the slots that match.
 pub mod ids;
 
 use crate::ids::fill_ids;
@@ -14,11 +14,11 @@ ghost use mathlib.Core.Bool.{_||_};
 ghost use mathlib.Core.List.{[], _∷_};
 ghost use Prim.Native.Nat.{_+_, _*_, _≤_, _/_};
 ghost use lib.ListN.{length};
-ghost use Rattle.search.specs.Search.{NoneFrom};
+ghost use Rattle.search.specs.Search.{least, NoneFrom};
 ghost use Rattle.records.specs.Record.{word};
 ghost use Rattle.records.specs.declared.Check.the-variants.{Pass};
 ghost use Rattle.neighbour_lists.specs.Lists.{Listed};
-ghost use Rattle.records.specs.Checks.{orElse, checkShape, checkRecords, checkTwice, checkOrder, slotChecks, tableChecks, matchesAt, firstMatch};
+ghost use Rattle.records.specs.Checks.{orElse, checkShape, checkRecords, checkTwice, checkOrder, slotChecks, tableChecks, comparedAt};
 
 // Check 1: the table's words are six for each of 1 to 1,024 slots.
 pub fn check_shape(table: &[u64]) -> Check
@@ -74,14 +74,13 @@ fn check_order(table: &[u64], near: &mut [u16]) -> Check
     Check::Pass
 }
 
-// Whether one of four slots matches a key.
+// Whether the comparison with a key is true of one of four slots.
 fn one_matches(table: &[u64], from: usize, key_high: u64, key_low: u64) -> bool
     requires { ⌜ from + 4 ≤ length (now table) / 6 ⌝ }
-    requires { ⌜ checkRecords 2 (now table) ≡ Pass ⌝ }
-    ensures { λ r. ⌜ r ≡ (matchesAt 2 (now (table .entry)) (word («key_high» ∷ «key_low» ∷ [])) from
-        || matchesAt 2 (now (table .entry)) (word («key_high» ∷ «key_low» ∷ [])) (from + 1)
-        || matchesAt 2 (now (table .entry)) (word («key_high» ∷ «key_low» ∷ [])) (from + 2)
-        || matchesAt 2 (now (table .entry)) (word («key_high» ∷ «key_low» ∷ [])) (from + 3)) ⌝ }
+    ensures { λ r. ⌜ r ≡ (comparedAt 2 (now (table .entry)) (word («key_high» ∷ «key_low» ∷ [])) from
+        || comparedAt 2 (now (table .entry)) (word («key_high» ∷ «key_low» ∷ [])) (from + 1)
+        || comparedAt 2 (now (table .entry)) (word («key_high» ∷ «key_low» ∷ [])) (from + 2)
+        || comparedAt 2 (now (table .entry)) (word («key_high» ∷ «key_low» ∷ [])) (from + 3)) ⌝ }
 {
     if slot_matches(table, from, key_high, key_low) {
         return true;
@@ -95,10 +94,9 @@ fn one_matches(table: &[u64], from: usize, key_high: u64, key_low: u64) -> bool
     slot_matches(table, from + 3, key_high, key_low)
 }
 
-// A slot below which none matches a key: most slots do not, and four at a time are passed over sooner than one by one.
+// A slot below which the comparison is true of none: so it is of most slots, and four at a time are passed over sooner than one by one.
 fn skip_unmatched(table: &[u64], key_high: u64, key_low: u64) -> usize
-    requires { ⌜ checkRecords 2 (now table) ≡ Pass ⌝ }
-    ensures { λ r. ⌜ NoneFrom (matchesAt 2 (now (table .entry)) (word («key_high» ∷ «key_low» ∷ []))) 0 (length (now (table .entry)) / 6) r ⌝ }
+    ensures { λ r. ⌜ NoneFrom (comparedAt 2 (now (table .entry)) (word («key_high» ∷ «key_low» ∷ []))) 0 (length (now (table .entry)) / 6) r ⌝ }
 {
     let mut at = 0;
     let mut fours = table.len() / 6 / 4;
@@ -112,10 +110,9 @@ fn skip_unmatched(table: &[u64], key_high: u64, key_low: u64) -> usize
     at
 }
 
-// The lowest-numbered slot that matches a key, or the number of slots where none does.
+// The lowest-numbered slot of which the comparison is true, or the number of slots where there is none: after check 2 that is `firstMatch`.
 pub fn first_match(table: &[u64], key_high: u64, key_low: u64) -> usize
-    requires { ⌜ checkRecords 2 (now table) ≡ Pass ⌝ }
-    ensures { λ r. ⌜ r ≡ firstMatch 2 (now (table .entry)) (word («key_high» ∷ «key_low» ∷ [])) ⌝ }
+    ensures { λ r. ⌜ r ≡ least (comparedAt 2 (now (table .entry)) (word («key_high» ∷ «key_low» ∷ []))) (length (now (table .entry)) / 6) 0 ⌝ }
 {
     let slots = table.len() / 6;
     let mut slot = skip_unmatched(table, key_high, key_low);

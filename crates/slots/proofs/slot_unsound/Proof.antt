@@ -1,17 +1,16 @@
 -- `slots::slot_unsound` meets its contract.
 -- Without an id the slot is no sound rule; with one its word of id and action is not 0, and the slot not empty.
 use mathlib.Core.Path.{_≡_, sym, ap, _∙_}
-use mathlib.Core.Bool.{Bool, false, not, _&&_, and-true}
+use mathlib.Core.Bool.{Bool, not, _&&_, and-true}
 use mathlib.Core.List.{List}
-use Prim.Native.Nat.{ℕ, _/_}
-use native.Mathlib.Omega.{arith}
+use Prim.Native.Nat.{ℕ}
 use lib.Dec.{eqb, leb}
 use borrow.Author.Needs.{needs}
 use borrow.Author.Tests.{eq-eqb, ne-eqb}
-use Rattle.search.specs.SearchLaws.{all-not}
-use Rattle.ternary.specs.Pattern.{Words, within}
-use Rattle.records.specs.Record.{slotWords, value, mask, rank, ident, empty, soundParts}
+use Rattle.ternary.specs.Pattern.{within}
+use Rattle.records.specs.Record.{slotWords, value, mask, rank, ident, soundParts}
 use Rattle.records.specs.Checks.{unsoundAt}
+use Rattle.records.specs.Laws.{ident-not-empty}
 use Rattle.slots.proofs.slot_unsound.Statement.{statement}
 use Rattle.slots.proofs.slot_unsound.Tie as tie
 
@@ -30,11 +29,6 @@ returns c =
     rw (ap (λ (id : ℕ). eqb id 0) (sym (c .before .before .slot-id .ensures)) ∙ eq-eqb _ 0 (c .before .if1 .taken))
     (ap not (c .slot-zero .ensures))
 
--- a record with an id is not empty
-with-id : (x : Words) (id : ℕ) → id ≡ ident 2 x → (id ≡ 0 → ⊥) → empty 2 x ≡ false
-unfolding empty
-with-id x id e present = all-not (λ (j : ℕ). eqb (x j) 0) 6 4 (omega arith) (ne-eqb (x 4) 0 (λ z. present (e ∙ ap (λ (y : ℕ). y / 4294967296) z)))
-
 -- what is left of the definition where the slot has an id
 unsound-with-id : (t : List ℕ) (i id : ℕ) (bounded : Bool)
     → id ≡ ident 2 (slotWords 2 t i)
@@ -43,7 +37,7 @@ unsound-with-id : (t : List ℕ) (i id : ℕ) (bounded : Bool)
     → not bounded ≡ unsoundAt 2 t i
 unfolding unsoundAt soundParts
 unsound-with-id t i id bounded e present b =
-    rw (ap (λ (k : ℕ). eqb k 0) (sym e) ∙ ne-eqb id 0 present, with-id (slotWords 2 t i) id e present, and-true) (ap not b)
+    rw (ap (λ (k : ℕ). eqb k 0) (sym e) ∙ ne-eqb id 0 present, ident-not-empty 2 (slotWords 2 t i) (λ z. present (e ∙ z)), and-true) (ap not b)
 
 returns-2 : tie.Need-returns-2
 returns-2 c =

@@ -5,17 +5,16 @@ use mathlib.Core.Path.{sym, _∙_}
 use mathlib.Core.List.{[], _∷_}
 use native.Mathlib.Omega.{arith}
 use lib.ListN.{length}
-use borrow.Author.Needs.{needs}
 use Rattle.search.specs.SearchLaws.{none-from-start}
 use Rattle.search.specs.PartsLaws.{none-from-four}
 use Rattle.search.specs.Search.{NoneFrom}
 use Rattle.records.specs.Record.{word}
-use Rattle.records.specs.Checks.{matchesAt}
+use Rattle.records.specs.Checks.{comparedAt}
 use Rattle.table_checks.proofs.skip_unmatched.Statement.{statement}
 use Rattle.table_checks.proofs.skip_unmatched.Tie as tie
 
 abbrev Inv-loop : tie.InvT-loop
-Inv-loop table key-high key-low at₀ fours₀ at fours = (at + 4 * fours ≤ length table / 6) × NoneFrom (matchesAt 2 table (word (key-high ∷ key-low ∷ []))) 0 (length table / 6) at
+Inv-loop table key-high key-low at₀ fours₀ at fours = (at + 4 * fours ≤ length table / 6) × NoneFrom (comparedAt 2 table (word (key-high ∷ key-low ∷ []))) 0 (length table / 6) at
 
 abbrev μ-loop : tie.MeasureT-loop
 μ-loop table key-high key-low at₀ fours₀ at fours = fours
@@ -24,7 +23,7 @@ loop-holds : tie.Need-loop-holds Inv-loop μ-loop
 loop-holds c = (omega arith, none-from-start _ _ _ (omega arith))
 
 one-matches-requires : tie.Need-one-matches-requires Inv-loop μ-loop
-one-matches-requires c κs = (omega arith, search needs)
+one-matches-requires c κs = omega arith
 
 returns : tie.Need-returns Inv-loop μ-loop
 returns c = c .before .before .before .loop .inv .1

@@ -2,7 +2,7 @@
 -- A refusal where a check fails; else the answer for the first match, which reads the key's two words.
 use mathlib.Core.Path.{sym, ap, _∙_}
 use borrow.Author.Needs.{needs}
-use Rattle.records.specs.Laws.{told-refused, told-answered, slot-checks-length, slot-checks-law, first-match-cong}
+use Rattle.records.specs.Laws.{told-refused, told-answered, slot-checks-length, slot-checks-law, first-compared, first-match-cong}
 use Rattle.records.specs.RulesLaws.{two-words}
 use Rattle.lookups.specs.Lookup.{lookupAnswer, matchTold}
 use Rattle.lookups.proofs.lookup.lookup.Statement.{statement}
@@ -28,15 +28,19 @@ array-read-first-match-2 : tie.Need-array-read-first-match-2
 array-read-first-match-2 c = search needs
 
 first-match-requires : tie.Need-first-match-requires
-first-match-requires c κs =
-    slot-checks-law 2 (c .before .before .before .before .args .table .now) .0 (sym (c .before .before .check-slots .ensures) ∙ c .enum-told .given .1) .1
+first-match-requires c κs = search needs
 
 match-answer-requires : tie.Need-match-answer-requires
 match-answer-requires c κs = slot-checks-length 2 _ (sym (c .before .before .before .check-slots .ensures) ∙ c .before .enum-told .given .1)
 
 returns-2 : tie.Need-returns-2
 unfolding lookupAnswer
-returns-2 c = told-answered (c .before .before .before .before .check-slots .ensures) (c .before .before .enum-told .given .1) (c .match-answer .ensures ∙ ap (matchTold 2 _) (c .before .first-match .ensures ∙ first-match-cong 2 _ (two-words (c .before .before .before .before .before .before .args .t2))))
+returns-2 c =
+    let start = c .before .before .before .before .before .before .args in
+    let check = c .before .before .before .before .check-slots .ensures in
+    let passed = c .before .before .enum-told .given .1 in
+    let first = c .before .first-match .ensures ∙ first-compared 2 (start .table .now) _ (slot-checks-law 2 (start .table .now) .0 (sym check ∙ passed) .1) in
+    told-answered check passed (c .match-answer .ensures ∙ ap (matchTold 2 _) (first ∙ first-match-cong 2 _ (two-words (start .t2))))
 
 pub lookup-spec : {M : Type 1} → statement M
 lookup-spec =

@@ -1,0 +1,16 @@
+-- `slots::slot_unnamed` meets its contract.
+use mathlib.Core.Path.{ap}
+use Prim.Native.Nat.{ℕ}
+use lib.Dec.{eqb}
+use borrow.Author.Needs.{needs}
+use Rattle.slots.proofs.slot_unnamed.Statement.{statement}
+use Rattle.slots.proofs.slot_unnamed.Tie as tie
+
+slot-word-requires : tie.Need-slot-word-requires
+slot-word-requires c κs = search needs
+
+returns : tie.Need-returns
+returns c = ap (λ (x : ℕ). eqb x 0) (c .slot-word .ensures)
+
+pub slot-unnamed-spec : {M : Type 1} → statement M
+slot-unnamed-spec = tie.close (tie.spec slot-word-requires returns)
