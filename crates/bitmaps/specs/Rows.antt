@@ -63,14 +63,17 @@ abbrev pub Spread : List ℕ → ℕ → List ℕ → List ℕ → Type 0
 Spread places count chosen rows = (word t : ℕ) → t < 64 → bit (getD chosen word 0) t ≡ 1
     → (k : ℕ) × (k < count) × (getD rows (64 * word + t) 0 ≡ 32 * k) × (getD places k 0 ≡ 64 * word + t)
 
--- how many bits of a word are set below a place, and how many of the first k words of a list
-unfoldable pub ones : ℕ → ℕ → ℕ
-ones x zero = 0
-ones x (suc i) = ones x i + bit x i
+-- the sum of the first k of a row of numbers
+unfoldable pub sumOf : (ℕ → ℕ) → ℕ → ℕ
+sumOf f zero = 0
+sumOf f (suc k) = sumOf f k + f k
 
-unfoldable pub total : List ℕ → ℕ → ℕ
-total words zero = 0
-total words (suc k) = total words k + ones (getD words k 0) 64
+-- how many bits of a word are set below a place, and how many of the first k words of a list
+abbrev pub ones : ℕ → ℕ → ℕ
+ones x = sumOf (bit x)
+
+abbrev pub total : List ℕ → ℕ → ℕ
+total words = sumOf (λ (word : ℕ). ones (getD words word 0) 64)
 
 -- in the middle of a walk over the set bits of a word, the highest first: what is left are bits of the word below a place, and
 -- there is room for the rows used so far and for one of each bit below that place

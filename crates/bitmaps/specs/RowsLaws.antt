@@ -22,7 +22,7 @@ use Rattle.ternary.specs.PatternLaws.{overlaps-law}
 use Rattle.records.specs.Record.{slotWords, value, mask}
 use Rattle.bitmaps.specs.Flags.{withBit, turned, Top}
 use Rattle.bitmaps.specs.FlagsLaws.{bit-high, with-was, with-other, turned-same, turned-other}
-use Rattle.bitmaps.specs.Rows.{gathered, noted, Says, Mark, Screen, Own, Other, Both, RowsOf, Spread, ones, total, Walk}
+use Rattle.bitmaps.specs.Rows.{gathered, noted, Says, Mark, Screen, Own, Other, Both, RowsOf, Spread, sumOf, ones, total, Walk}
 
 pub gathered-more : (maps rows : List ℕ) (block k x : ℕ) → x ≡ gathered maps rows block k
     → bitOr x (getD maps (getD rows k 0 + block) 0) ≡ gathered maps rows block (k + 1)
@@ -180,98 +180,81 @@ filled-bit w t places count j chosen rows others own word s v used ho hw l h spr
     (filled-more w t places count j others own (found .0) v used ho hw (found .1) h
     (rw (found .3) (record { cares = rw (p, q) (both .0); valued = rw (p, q) e })) old)
 
--- more places have no fewer bits, and a word joined by and no more than either has
-ones-more : (x i k : ℕ) → i ≤ k → ones x i ≤ ones x k
-unfolding ones
-ones-more x i zero h = let e : i ≡ 0 = omega arith in rw e (omega arith)
-ones-more x i (suc k) h = pick (ones-more x i k) (ℕ-discrete i (suc k))
+-- sums: of one number more, of more numbers, of larger ones, of zeros, and of numbers of which one is at most one larger
+sum-next : (f : ℕ → ℕ) (k : ℕ) → sumOf f (suc k) ≡ sumOf f k + f k
+unfolding sumOf
+sum-next f k = refl
+
+sum-more : (f : ℕ → ℕ) (i k : ℕ) → i ≤ k → sumOf f i ≤ sumOf f k
+unfolding sumOf
+sum-more f i zero h = let e : i ≡ 0 = omega arith in rw e (omega arith)
+sum-more f i (suc k) h = pick (sum-more f i k) (ℕ-discrete i (suc k))
   where
-    pick : (i ≤ k → ones x i ≤ ones x k) → Dec (i ≡ suc k) → ones x i ≤ ones x k + bit x k
+    pick : (i ≤ k → sumOf f i ≤ sumOf f k) → Dec (i ≡ suc k) → sumOf f i ≤ sumOf f k + f k
     pick ih (yes e) = rw e (omega arith)
     pick ih (no n) = let l = ih (omega arith) in omega arith
 
+sum-larger : (f g : ℕ → ℕ) (k : ℕ) → ((j : ℕ) → f j ≤ g j) → sumOf f k ≤ sumOf g k
+unfolding sumOf
+sum-larger f g zero h = omega arith
+sum-larger f g (suc k) h = let l = sum-larger f g k h in let e = h k in omega arith
+
+sum-none : (f : ℕ → ℕ) (k : ℕ) → ((j : ℕ) → f j ≡ 0) → sumOf f k ≡ 0
+unfolding sumOf
+sum-none f zero h = refl
+sum-none f (suc k) h = let l = sum-none f k h in let e = h k in omega arith
+
+sum-before : (f g : ℕ → ℕ) (s k : ℕ) → k ≤ s → ((j : ℕ) → (j ≡ s → ⊥) → g j ≡ f j) → sumOf g k ≡ sumOf f k
+unfolding sumOf
+sum-before f g s zero h same = refl
+sum-before f g s (suc k) h same = let l = sum-before f g s k (omega arith) same in let e = same k (λ q. (omega arith)) in omega arith
+
+sum-one-more : (f g : ℕ → ℕ) (s k : ℕ) → ((j : ℕ) → (j ≡ s → ⊥) → g j ≡ f j) → g s ≤ f s + 1 → sumOf g k ≤ sumOf f k + 1
+unfolding sumOf
+sum-one-more f g s zero same h = omega arith
+sum-one-more f g s (suc k) same h = pick (sum-one-more f g s k same h) (ℕ-discrete k s)
+  where
+    pick : sumOf g k ≤ sumOf f k + 1 → Dec (k ≡ s) → sumOf g k + g k ≤ sumOf f k + f k + 1
+    pick ih (yes q) =
+        let l = sum-before f g s k (omega arith) same in
+        let e = ap g q in
+        let d = ap f q in
+        omega arith
+    pick ih (no n) = let e = same k n in omega arith
+
+-- a word joined by and has no more bits than either
 ones-and : (x y i : ℕ) → ones (bitAnd x y) i ≤ ones y i
-unfolding ones
-ones-and x y zero = omega arith
-ones-and x y (suc i) = let l = ones-and x y i in let e = bit-and x y i in omega arith
+ones-and x y i = sum-larger (bit (bitAnd x y)) (bit y) i (λ j. let e = bit-and x y j in omega arith)
 
 -- one bit set adds at most one
-ones-before : (x s i : ℕ) → i ≤ s → ones (withBit x s) i ≡ ones x i
-unfolding ones
-ones-before x s zero h = refl
-ones-before x s (suc i) h =
-    let l = ones-before x s i (omega arith) in
-    let e = with-other x s i (λ q. (omega arith)) in
-    omega arith
-
 ones-with : (x s i : ℕ) → ones (withBit x s) i ≤ ones x i + 1
-unfolding ones
-ones-with x s zero = omega arith
-ones-with x s (suc i) = pick (ones-with x s i) (ℕ-discrete i s)
-  where
-    pick : ones (withBit x s) i ≤ ones x i + 1 → Dec (i ≡ s) → ones (withBit x s) i + bit (withBit x s) i ≤ ones x i + bit x i + 1
-    pick ih (yes q) = let l = ones-before x s i (omega arith) in let b = bit-lt (withBit x s) i in omega arith
-    pick ih (no n) = let e = with-other x s i n in omega arith
-
-total-before : (words : List ℕ) (j x k : ℕ) → k ≤ j → total (set words j x) k ≡ total words k
-unfolding total
-total-before words j x zero h = refl
-total-before words j x (suc k) h =
-    let l = total-before words j x k (omega arith) in
-    let e = ap (λ (y : ℕ). ones y 64) (getD-set-other words j k x 0 (λ q. (omega arith))) in
-    omega arith
+ones-with x s i = sum-one-more (bit x) (bit (withBit x s)) s i (with-other x s) (let b = bit-lt (withBit x s) s in omega arith)
 
 pub total-with : (words : List ℕ) (j s k : ℕ) → j < length words → total (set words j (withBit (getD words j 0) s)) k ≤ total words k + 1
-unfolding total
-total-with words j s zero h = omega arith
-total-with words j s (suc k) h = pick (total-with words j s k h) (ℕ-discrete k j)
-  where
-    set-words : List ℕ
-    set-words = set words j (withBit (getD words j 0) s)
-
-    pick : total set-words k ≤ total words k + 1 → Dec (k ≡ j) → total set-words k + ones (getD set-words k 0) 64 ≤ total words k + ones (getD words k 0) 64 + 1
-    pick ih (yes q) =
-        let l = total-before words j (withBit (getD words j 0) s) k (omega arith) in
-        let e : ones (getD set-words k 0) 64 ≡ ones (withBit (getD words j 0) s) 64
-        = ap (λ (y : ℕ). ones (getD set-words y 0) 64) q ∙ ap (λ (y : ℕ). ones y 64) (getD-set-same words j (withBit (getD words j 0) s) 0 h) in
-        let f : ones (getD words k 0) 64 ≡ ones (getD words j 0) 64 = ap (λ (y : ℕ). ones (getD words y 0) 64) q in
-        let m = ones-with (getD words j 0) s 64 in
-        omega arith
-    pick ih (no n) =
-        let e = ap (λ (y : ℕ). ones y 64) (getD-set-other words j k (withBit (getD words j 0) s) 0 n) in
-        omega arith
+total-with words j s k h =
+    let word : ℕ = withBit (getD words j 0) s in
+    let same = ap (λ (y : ℕ). ones y 64) (getD-set-same words j word 0 h) in
+    sum-one-more (λ (i : ℕ). ones (getD words i 0) 64) (λ (i : ℕ). ones (getD (set words j word) i 0) 64) j k
+    (λ i n. ap (λ (y : ℕ). ones y 64) (getD-set-other words j i word 0 n))
+    (let m = ones-with (getD words j 0) s 64 in omega arith)
 
 pub total-more : (words : List ℕ) (i k : ℕ) → i ≤ k → total words i ≤ total words k
-unfolding total
-total-more words i zero h = let e : i ≡ 0 = omega arith in rw e (omega arith)
-total-more words i (suc k) h = pick (total-more words i k) (ℕ-discrete i (suc k))
-  where
-    pick : (i ≤ k → total words i ≤ total words k) → Dec (i ≡ suc k) → total words i ≤ total words k + ones (getD words k 0) 64
-    pick ih (yes e) = rw e (omega arith)
-    pick ih (no n) = let l = ih (omega arith) in omega arith
+total-more words = sum-more (λ (word : ℕ). ones (getD words word 0) 64)
 
--- words that are all zero have no bit
-ones-none : (i : ℕ) → ones 0 i ≡ 0
-unfolding ones
-ones-none zero = refl
-ones-none (suc i) = let l = ones-none i in let b = bit-zero i in omega arith
-
+-- words that are all zero have none
 pub total-none : (words : List ℕ) → ((word : ℕ) → getD words word 0 ≡ 0) → (k : ℕ) → total words k ≡ 0
-unfolding total
-total-none words z zero = refl
-total-none words z (suc k) =
-    let l = total-none words z k in
-    let e = ap (λ (y : ℕ). ones y 64) (z k) in
-    let o = ones-none 64 in
-    omega arith
+total-none words z k =
+    sum-none (λ (word : ℕ). ones (getD words word 0) 64) k (λ word. ap (λ (y : ℕ). ones y 64) (z word) ∙ sum-none (bit 0) 64 bit-zero)
+
+total-next : (words : List ℕ) (k : ℕ) → total words (k + 1) ≡ total words k + ones (getD words k 0) 64
+total-next words k = ap (total words) (add-one k) ∙ sum-next (λ (word : ℕ). ones (getD words word 0) 64) k
 
 -- a walk's start, its next turn, and room for the bit it is at
 pub walk-start : (words : List ℕ) (x word used : ℕ) → bitAnd x (getD words word 0) < 2 ^ 64 → used ≤ total words word
     → Walk (bitAnd x (getD words word 0)) (bitAnd x (getD words word 0)) used (total words (word + 1))
-unfolding total
 walk-start words x word used h l = record {
   place = 64;
-  fits = (let o = ones-and x (getD words word 0) 64 in rw (add-one word) (omega arith));
+  fits = (let o = ones-and x (getD words word 0) 64 in let n = total-next words word in omega arith);
   none = λ i m. bit-high (bitAnd x (getD words word 0)) i (lt-of-lt-of-le h (pow-mono m));
   was = λ i e. e;
 }
@@ -286,9 +269,9 @@ module _ (word left used room s : ℕ) (walk : Walk word left used room) (top : 
 
   -- the bit it is at is one of those below its place
   next : used + 1 + ones word s ≤ room
-  unfolding ones
   next =
-      let h = ones-more word (suc s) (walk .place) lower in
+      let h = sum-more (bit word) (suc s) (walk .place) lower in
+      let n = sum-next (bit word) s in
       let f = walk .fits in
       let o = walk .was s (top .hit) in
       omega arith
@@ -338,7 +321,9 @@ spread-more places chosen rows k place hc hr e old word t l hit = pick (ℕ-disc
         widen (ap (λ (x : ℕ). bit (getD chosen x 0) t) q ∙ (sym (with-other (getD chosen (place / 64) 0) (place % 64) t o) ∙ (ap (λ (x : ℕ). bit x t) (sym g) ∙ hit))) n
     pick (no n) (no d) = widen (ap (λ (x : ℕ). bit x t) (sym (getD-set-other chosen (place / 64) word _ 0 d)) ∙ hit) n
 
--- no place is chosen in words that are all zero
+-- words that are all zero have no bit set, and no place is chosen in them
+pub no-bit : (words : List ℕ) → ((word : ℕ) → getD words word 0 ≡ 0) → (word t : ℕ) → bit (getD words word 0) t ≡ 1 → ⊥
+no-bit words z word t hit = let n = bit-zero t in let m = ap (λ (x : ℕ). bit x t) (z word) in omega arith
+
 pub spread-none : (places : List ℕ) (count : ℕ) (chosen rows : List ℕ) → ((word : ℕ) → getD chosen word 0 ≡ 0) → Spread places count chosen rows
-spread-none places count chosen rows z word t l hit =
-    absurd (let n = bit-zero t in let m : bit (getD chosen word 0) t ≡ bit 0 t = ap (λ (x : ℕ). bit x t) (z word) in omega arith)
+spread-none places count chosen rows z word t l hit = absurd (no-bit chosen z word t hit)

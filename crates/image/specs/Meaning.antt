@@ -20,11 +20,11 @@ use Rattle.ternary.specs.Pattern.{Words, Within}
 use Rattle.ternary.specs.PatternLaws.{within-cong}
 use Rattle.records.specs.Record.{word, listed, recordWords, slotWords, ident, action, rank, sound, soundParts, value, mask}
 use Rattle.records.specs.Order.{slots}
-use Rattle.records.specs.Laws.{empty-law, sound-law}
+use Rattle.records.specs.Laws.{empty-law, sound-law, ident-occupied}
 use Rattle.records.specs.declared.Check.the-variants.{Pass}
 use Rattle.records.specs.Entries.{SameRecord}
 use Rattle.records.specs.RulesLaws.{length-listed, word-listed, zero-word}
-use Rattle.records.specs.EntriesLaws.{occupied-cong, ident-occupied}
+use Rattle.records.specs.EntriesLaws.{occupied-cong}
 use Rattle.records.specs.PutSlotLaws.{put-length, put-here, put-other}
 use Rattle.image.specs.Bytes.{numberAt, Bytes}
 use Rattle.image.specs.Indices.{indices}

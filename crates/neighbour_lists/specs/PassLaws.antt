@@ -25,7 +25,7 @@ use Rattle.bitmaps.specs.Flags.{marked}
 use Rattle.bitmaps.specs.FlagsLaws.{Marked, marked-bit}
 use Rattle.bitmaps.specs.FlagsLaws.Marked.{new, old}
 use Rattle.bitmaps.specs.Rows.{Screen, Other, RowsOf, noted}
-use Rattle.bitmaps.specs.RowsLaws.{screen-apart, screen-note}
+use Rattle.bitmaps.specs.RowsLaws.{screen-apart, screen-note, no-bit}
 use Rattle.neighbour_lists.specs.Lists.{precedesSlot, misorderedSlots, rankAt, occupiedAt, lastBelow, nextDependant, lastPreceding, Listed}
 use Rattle.neighbour_lists.specs.ListsLaws.{last-below-none, last-below-at, seen-start, seen-first}
 use Rattle.neighbour_lists.specs.Row.{firstSeen, stage, NoneYet, LastIs, OutOfOrder, InOrderBehind, InRow, Marks, Tells}
@@ -198,20 +198,14 @@ taken-start w t places near full free low maps zf zo zm = record {
   nexts = λ i h. absurd (omega arith);
   befores = λ i h. absurd (omega arith);
   marks = record {
-    inside = λ b s e. absurd (off full zf b s e);
+    inside = λ b s e. absurd (no-bit full zf b s e);
     vacant = λ b s l e h. absurd (omega arith);
-    within = λ b s e. absurd (off free zo b s e);
-    listed = λ b s l e f n. off full zf b s e;
-    lowest = λ b s l e. absurd (off full zf b s e);
+    within = λ b s e. absurd (no-bit free zo b s e);
+    listed = λ b s l e f n. no-bit full zf b s e;
+    lowest = λ b s l e. absurd (no-bit full zf b s e);
   };
-  screen = λ a s e. absurd (off maps zm a s e);
+  screen = λ a s e. absurd (no-bit maps zm a s e);
 }
-  where
-    off : (words : List ℕ) → ((b : ℕ) → getD words b 0 ≡ 0) → (b s : ℕ) → bit (getD words b 0) s ≡ 1 → ⊥
-    off words z b s e =
-        let n = bit-zero s in
-        let m : bit (getD words b 0) s ≡ bit 0 s = ap (λ (x : ℕ). bit x s) (z b) in
-        omega arith
 
 -- a row that is done tells whether its slot is out of order
 pub row-told : (w : ℕ) (t near : List ℕ) (j : ℕ) (bad : Bool) → InRow (precedesSlot w t) (misorderedSlots w t) near j 0 0 bad → bad ≡ disorderAt w t j

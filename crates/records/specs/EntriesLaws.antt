@@ -21,7 +21,7 @@ use Rattle.records.specs.Record.{word, listed, recordWords, slotWords, v
 use Rattle.records.specs.Record.{slotMatches, recordOf}
 use Rattle.records.specs.Order.{slots, overlapping, sameId, distinct, misordered, InOrder}
 use Rattle.records.specs.Checks.{checkShape, checkTwice, checkOrder}
-use Rattle.records.specs.Laws.{shape-law, empty-law, ident-not-empty, twice-law, same-id-law, misordered-law, ordered-law, order-law}
+use Rattle.records.specs.Laws.{shape-law, empty-law, ident-occupied, twice-law, same-id-law, misordered-law, ordered-law, order-law}
 use Rattle.records.specs.declared.Check.the-variants.{Pass}
 use Rattle.records.specs.declared.Rule.{Rule}
 use Rattle.records.specs.RulesLaws.{length-listed, word-listed, record-ident}
@@ -200,9 +200,6 @@ shaped-slots w t e =
     let count : slots w t ≡ n = ap (λ (x : ℕ). x / recordWords w) whole ∙ digits-div n pos in
     (omega (arith, s .1), omega (arith, s .2), s .3 ∙ ap (λ (x : ℕ). x * recordWords w) (sym count))
 
--- a record whose id is not 0 is occupied; so is that of a rule whose id is not 0
-pub ident-occupied : (w : ℕ) (x : Words) → (ident w x ≡ 0 → ⊥) → occupied w x ≡ true
-ident-occupied w x f = ap not (ident-not-empty w x f)
-
+-- the record of a rule whose id is not 0 is occupied
 pub rule-occupied : (w : ℕ) (r : Rule) → (r .id ≡ 0 → ⊥) → r .action < 4294967296 → entryOccupied w (recordOf w r) ≡ true
 rule-occupied w r f h = ident-occupied w (word (recordOf w r)) (λ e. f (sym (record-ident w r h) ∙ e))

@@ -21,7 +21,7 @@ use Rattle.records.specs.Record.{recordWords, slotWords, value, mask, id
 use Rattle.records.specs.Record.{patternMatches}
 use Rattle.records.specs.Order.{slots, overlapping, sameId, distinct, precedes, tied, misordered, Ordered, InOrder, Overlapping}
 use Rattle.records.specs.Checks.{causeNumber, Told, refusal, unless, orElse, lowest, shaped, checkShape, slotChecks, tableChecks, unsoundAt}
-use Rattle.records.specs.Checks.{checkRecords, twiceAt, checkTwice, disorderAt, checkOrder, firstMatch, EmptyOrSound, comparedAt, Shaped}
+use Rattle.records.specs.Checks.{checkRecords, twiceAt, checkTwice, disorderAt, checkOrder, matchesAt, firstMatch, EmptyOrSound, comparedAt, Shaped}
 use Rattle.records.specs.declared.Cause.{Cause}
 use Rattle.records.specs.declared.Cause.the-variants.{Shape, Record, Twice, Order, Rule, Known, Unknown, Tie, Full, Crossed, Short, Write, Line}
 use Rattle.records.specs.declared.Cause.the-variants.{Image}
@@ -263,27 +263,28 @@ records-law w t =
     from false false (inl h) = absurd (false≢true h)
     from false false (inr h) = absurd (false≢true h)
 
--- where the id is not 0, neither is the word of id and action, and the slot is not empty
-ident-word : (w : ℕ) (x : Words) → (ident w x ≡ 0 → ⊥) → eqb (x (2 * w)) 0 ≡ false
-ident-word w x f = ne-eqb (x (2 * w)) 0 (λ z. f (ap (λ (y : ℕ). y / 4294967296) z))
+-- where the id is not 0, neither is the word of id and action, and the slot is occupied
+named-word : (w : ℕ) (x : Words) → (ident w x ≡ 0 → ⊥) → eqb (x (2 * w)) 0 ≡ false
+named-word w x f = ne-eqb (x (2 * w)) 0 (λ z. f (ap (λ (y : ℕ). y / 4294967296) z))
 
 pub ident-not-empty : (w : ℕ) (x : Words) → (ident w x ≡ 0 → ⊥) → empty w x ≡ false
 unfolding empty
-ident-not-empty w x f = all-not (λ (j : ℕ). eqb (x j) 0) (recordWords w) (2 * w) (omega arith) (ident-word w x f)
+ident-not-empty w x f = all-not (λ (j : ℕ). eqb (x j) 0) (recordWords w) (2 * w) (omega arith) (named-word w x f)
+
+pub ident-occupied : (w : ℕ) (x : Words) → (ident w x ≡ 0 → ⊥) → occupied w x ≡ true
+ident-occupied w x f = ap not (ident-not-empty w x f)
 
 -- that word tells an empty slot from a sound rule
 pub empty-word : (w : ℕ) (x : Words) → EmptyOrSound w x → eqb (x (2 * w)) 0 ≡ empty w x
 empty-word w x (inl v) = eq-eqb (x (2 * w)) 0 (empty-law w x .0 v (2 * w) (omega arith)) ∙ sym v
-empty-word w x (inr s) = let id = sound-law w _ _ _ _ .0 s .0 in ident-word w x id ∙ sym (ident-not-empty w x id)
+empty-word w x (inr s) = let id = sound-law w _ _ _ _ .0 s .0 in named-word w x id ∙ sym (ident-not-empty w x id)
 
 -- where check 2 passes, a slot is empty exactly when that word is 0
 pub id-word : (w : ℕ) (t : List ℕ) (i : ℕ) → checkRecords w t ≡ Pass → i < slots w t → eqb (slotWords w t i (2 * w)) 0 ≡ empty w (slotWords w t i)
 id-word w t i e h = empty-word w (slotWords w t i) (records-law w t .0 e i h)
 
 -- so the pattern and that word tell which keys a slot matches, and where check 2 passes the first match
-pub compared-match : (w : ℕ) (t : List ℕ) (key : Words) (i : ℕ)
-    → EmptyOrSound w (slotWords w t i)
-    → comparedAt w t key i ≡ slotMatches w key (slotWords w t i)
+pub compared-match : (w : ℕ) (t : List ℕ) (key : Words) (i : ℕ) → EmptyOrSound w (slotWords w t i) → comparedAt w t key i ≡ matchesAt w t key i
 unfolding comparedAt slotMatches
 compared-match w t key i m = ap (λ (b : Bool). patternMatches w key (slotWords w t i) && not b) (empty-word w (slotWords w t i) m)
 
@@ -296,7 +297,7 @@ pub rule-matches-law : (w : ℕ) (key x : Words) → EmptyOrSound w x
     → (slotMatches w key x ≡ true) ↔ ((sound w x ≡ true) × Matches w key (value x) (mask w x))
 rule-matches-law w key x m =
     let l = slot-matches-law w key x in
-    (λ e. let s = l .0 e in (holds m (s .0), s .1), λ s. l .1 (ap not (ident-not-empty w x (sound-law w _ _ _ _ .0 (s .0) .0)), s .1))
+    (λ e. let s = l .0 e in (holds m (s .0), s .1), λ s. l .1 (ident-occupied w x (sound-law w _ _ _ _ .0 (s .0) .0), s .1))
   where
     holds : EmptyOrSound w x → occupied w x ≡ true → sound w x ≡ true
     holds (inl a) o = absurd (true≢false (sym o ∙ ap not a))

@@ -94,7 +94,7 @@ fn one_matches(table: &[u64], from: usize, key_high: u64, key_low: u64) -> bool
     slot_matches(table, from + 3, key_high, key_low)
 }
 
-// A slot below which the comparison is true of none: so it is of most slots, and four at a time are passed over sooner than one by one.
+// A slot below which the comparison is true of none: of most slots it is false, and four at a time are passed over sooner than one by one.
 fn skip_unmatched(table: &[u64], key_high: u64, key_low: u64) -> usize
     ensures { λ r. ⌜ NoneFrom (comparedAt 2 (now (table .entry)) (word («key_high» ∷ «key_low» ∷ []))) 0 (length (now (table .entry)) / 6) r ⌝ }
 {
