@@ -35,11 +35,12 @@ share left score h =
     let most : left / 1024 * (2 * score) ≤ left / 1024 * 512 = mul-le-mul-left (left / 1024) (omega arith) in
     omega arith
 
--- the product of two numbers of slots among 32
-pub product : (ones zeros : ℕ) → ones ≤ 32 → zeros ≤ 32 → ones * zeros ≤ 1024
+-- the product of two counts of six bits
+pub product : (ones zeros : ℕ) → ones < 64 → zeros < 64 → ones * zeros < 4096
 product ones zeros h l =
-    let most : ones * zeros ≤ 32 * 32 = mul-le-mul h l in
-    omega arith
+    let first : ones ≤ 63 = omega arith in
+    let second : zeros ≤ 63 = omega arith in
+    omega (arith, mul-le-mul first second)
 
 -- two tests made together, and the last of a row
 pub less : (a b c d : ℕ) → ltb a b && ltb c d ≡ true → (a < b) × (c < d)

@@ -10,8 +10,8 @@ use native.Mathlib.Decide.{ℕ-discrete, decLt}
 use native.Mathlib.Nat.{lt-of-lt-of-le}
 use native.Mathlib.Numerals.{add-one}
 use native.Mathlib.Omega.{arith}
-use lib.ListN.{length, getD, set, length-set}
-use lib.Seq.{getD-set-same, getD-set-other}
+use lib.ListN.{length, getD, set, take, drop, length-set, length-drop}
+use lib.Seq.{getD-set-same, getD-set-other, getD-drop, take-all}
 use lib.Bits.{bitAnd, bitOr}
 use lib.Pow.{pow-mono}
 use Rattle.search.specs.SearchLaws.{decided}
@@ -24,10 +24,14 @@ use Rattle.bitmaps.specs.Flags.{withBit, turned, Top}
 use Rattle.bitmaps.specs.FlagsLaws.{bit-high, with-was, with-other, turned-same, turned-other}
 use Rattle.bitmaps.specs.Rows.{gathered, noted, Says, Mark, Screen, Own, Other, Both, RowsOf, Spread, sumOf, ones, total, Walk}
 
+-- one row more joined, its word read from the part of the maps that starts at the block
 pub gathered-more : (maps rows : List ℕ) (block k x : ℕ) → x ≡ gathered maps rows block k
-    → bitOr x (getD maps (getD rows k 0 + block) 0) ≡ gathered maps rows block (k + 1)
+    → bitOr x (getD (take (length maps - block) (drop block maps)) (getD rows k 0) 0) ≡ gathered maps rows block (k + 1)
 unfolding gathered
-gathered-more maps rows block k x e = rw (add-one k, e)
+gathered-more maps rows block k x e =
+    let all = take-all (length maps - block) (drop block maps) (omega (arith, length-drop block maps)) in
+    let at : block + getD rows k 0 ≡ getD rows k 0 + block = omega arith in
+    rw (add-one k, e, all, getD-drop block maps (getD rows k 0) 0, at)
 
 -- a bit set in the join is set in one of the rows
 pub gathered-bit : (maps rows : List ℕ) (block k s : ℕ) → bit (gathered maps rows block k) s ≡ 1

@@ -4,28 +4,17 @@ use crate::bits::digit;
 use crate::bits::drop_bit;
 use crate::bits::set_bit;
 use crate::bits::top;
+use records::NARROW;
+use records::WIDE;
 use slots::mask_word;
 use slots::value_word;
 ghost use mathlib.Core.Path.{_≡_};
-ghost use Prim.Native.Nat.{ℕ, _+_, _/_, _%_, _<_, _≤_};
+ghost use Prim.Native.Nat.{ℕ, _+_, _*_, _/_, _%_, _<_, _≤_};
 ghost use lib.ListN.{length, getD};
-ghost use Rattle.records.specs.Record.{slotWords, value, mask};
-ghost use Rattle.bitmaps.specs.Rows.{placed, gathered, noted, RowsOf, Spread, total};
-
-// A slot's bit at a place of its value, and of its mask.
-pub fn value_bit(table: &[u64], slot: usize, place: usize) -> u64
-    requires { ⌜ (slot < length (now table) / 6) × (place < 128) ⌝ }
-    ensures { λ r. ⌜ (r ≡ placed (value (slotWords 2 (now (table .entry)) slot)) place) × (r < 2) ⌝ }
-{
-    digit(value_word(table, slot, place / 64), place % 64)
-}
-
-pub fn mask_bit(table: &[u64], slot: usize, place: usize) -> u64
-    requires { ⌜ (slot < length (now table) / 6) × (place < 128) ⌝ }
-    ensures { λ r. ⌜ (r ≡ placed (mask 2 (slotWords 2 (now (table .entry)) slot)) place) × (r < 2) ⌝ }
-{
-    digit(mask_word(table, slot, place / 64), place % 64)
-}
+ghost use Rattle.records.specs.Record.{mostSlots};
+ghost use Rattle.records.specs.Order.{slots};
+ghost use Rattle.records.specs.Widths.{Width};
+ghost use Rattle.bitmaps.specs.Rows.{gathered, noted, RowsOf, Spread, total};
 
 // The slots of a block that one of the rows has.
 pub fn apart_in(maps: &[u64], rows: &[usize], used: usize, block: usize) -> u64
@@ -33,22 +22,28 @@ pub fn apart_in(maps: &[u64], rows: &[usize], used: usize, block: usize) -> u64
     requires { ⌜ ((m : ℕ) → m < used → getD (now rows) m 0 + 16 ≤ length (now maps)) ⌝ }
     ensures { λ r. ⌜ r ≡ gathered (now (maps .entry)) (now (rows .entry)) block used ⌝ }
 {
+    // Without rows the maps need not reach the block.
+    if used == 0 {
+        return 0;
+    }
+    // At a row's first place stands its word for the block.
+    let words = &maps[block..maps.len()];
     let mut apart = 0u64;
     let mut k = 0;
     // Two rows a turn: the loop's own instructions are paid once for both.
     while k + 1 < used {
-        apart = apart | maps[rows[k] + block] | maps[rows[k + 1] + block];
+        apart = apart | words[rows[k]] | words[rows[k + 1]];
         k += 2;
     }
     if k < used {
-        apart = apart | maps[rows[k] + block];
+        apart = apart | words[rows[k]];
     }
     apart
 }
 
 // A slot noted in rows.
 pub fn note_rows(maps: &mut [u64], own: &[usize], used: usize, slot: usize)
-    requires { ⌜ (used ≤ length (now own)) × (slot < 1024) ⌝ }
+    requires { ⌜ (used ≤ length (now own)) × (slot < mostSlots) ⌝ }
     requires { ⌜ ((m : ℕ) → m < used → getD (now own) m 0 + 16 ≤ length (now maps)) ⌝ }
     ensures { λ _. ⌜ now (maps .exit) ≡ noted (now (maps .entry)) (now (own .entry)) (slot / 64) (slot % 64) used ⌝ }
 {
@@ -70,23 +65,24 @@ fn fill_word(
     places: &[usize],
     count: usize,
     chosen: &[u64],
-    starts: &[usize],
+    starts: &[u16],
     others: &mut [usize],
     own: &mut [usize],
     before: usize,
+    width: usize,
 ) -> usize
-    requires { ⌜ (slot < length (now table) / 6) × (word < 2) × (count ≤ 64) × (2 ≤ length (now chosen)) × (128 ≤ length (now starts)) × (count ≤ length (now others)) × (count ≤ length (now own)) × (before ≤ total (now chosen) word) ⌝ }
-    requires { ⌜ (total (now chosen) 2 ≤ count) × Spread (now places) count (now chosen) (now starts) ⌝ }
-    requires { ⌜ RowsOf 2 (now table) (now places) count slot (now others) (now own) before ⌝ }
-    ensures { λ r. ⌜ (r ≤ total (now (chosen .entry)) (word + 1)) × RowsOf 2 (now (table .entry)) (now (places .entry)) count slot (now (others .exit)) (now (own .exit)) r ⌝ }
+    requires { ⌜ (Width width) × (slot < slots width (now table)) × (word < width) × (count ≤ 64) × (width ≤ length (now chosen)) × (64 * width ≤ length (now starts)) × (count ≤ length (now others)) × (count ≤ length (now own)) × (before ≤ total (now chosen) word) ⌝ }
+    requires { ⌜ (total (now chosen) width ≤ count) × Spread (now places) count (now chosen) (now starts) ⌝ }
+    requires { ⌜ RowsOf width (now table) (now places) count slot (now others) (now own) before ⌝ }
+    ensures { λ r. ⌜ (r ≤ total (now (chosen .entry)) (word + 1)) × RowsOf width (now (table .entry)) (now (places .entry)) count slot (now (others .exit)) (now (own .exit)) r ⌝ }
 {
-    let value = value_word(table, slot, word);
-    let mut left = mask_word(table, slot, word) & chosen[word];
+    let value = value_word(table, slot, word, width);
+    let mut left = mask_word(table, slot, word, width) & chosen[word];
     let mut used = before;
     while left != 0 {
         let t = top(left);
         let v = digit(value, t) as usize;
-        let row = starts[64 * word + t];
+        let row = starts[64 * word + t] as usize;
         others[used] = row + 16 * (1 - v);
         own[used] = row + 16 * v;
         used += 1;
@@ -96,42 +92,84 @@ fn fill_word(
 }
 
 // For each chosen place that a slot cares for, the row with the other value and the row with its own; how many.
+fn fill_rows_by(
+    table: &[u64],
+    slot: usize,
+    places: &[usize],
+    count: usize,
+    chosen: &[u64],
+    starts: &[u16],
+    others: &mut [usize],
+    own: &mut [usize],
+    width: usize,
+) -> usize
+    requires { ⌜ (Width width) × (slot < slots width (now table)) × (count ≤ 64) × (width ≤ length (now chosen)) × (64 * width ≤ length (now starts)) × (count ≤ length (now others)) × (count ≤ length (now own)) ⌝ }
+    requires { ⌜ (total (now chosen) width ≤ count) × Spread (now places) count (now chosen) (now starts) ⌝ }
+    ensures { λ r. ⌜ (r ≤ count) × RowsOf width (now (table .entry)) (now (places .entry)) count slot (now (others .exit)) (now (own .exit)) r ⌝ }
+{
+    let mut used = 0;
+    let mut word = 0;
+    while word < width {
+        used = fill_word(
+            table,
+            slot,
+            word,
+            places,
+            count,
+            chosen,
+            starts,
+            others,
+            own,
+            used,
+            width,
+        );
+        word += 1;
+    }
+    used
+}
+
+// The same, with the width a constant for the compiler: it makes a copy for each.
 pub fn fill_rows(
     table: &[u64],
     slot: usize,
     places: &[usize],
     count: usize,
     chosen: &[u64],
-    starts: &[usize],
+    starts: &[u16],
     others: &mut [usize],
     own: &mut [usize],
+    width: usize,
 ) -> usize
-    requires { ⌜ (slot < length (now table) / 6) × (count ≤ 64) × (2 ≤ length (now chosen)) × (128 ≤ length (now starts)) × (count ≤ length (now others)) × (count ≤ length (now own)) ⌝ }
-    requires { ⌜ (total (now chosen) 2 ≤ count) × Spread (now places) count (now chosen) (now starts) ⌝ }
-    ensures { λ r. ⌜ (r ≤ count) × RowsOf 2 (now (table .entry)) (now (places .entry)) count slot (now (others .exit)) (now (own .exit)) r ⌝ }
+    requires { ⌜ (Width width) × (slot < slots width (now table)) × (count ≤ 64) × (width ≤ length (now chosen)) × (64 * width ≤ length (now starts)) × (count ≤ length (now others)) × (count ≤ length (now own)) ⌝ }
+    requires { ⌜ (total (now chosen) width ≤ count) × Spread (now places) count (now chosen) (now starts) ⌝ }
+    ensures { λ r. ⌜ (r ≤ count) × RowsOf width (now (table .entry)) (now (places .entry)) count slot (now (others .exit)) (now (own .exit)) r ⌝ }
 {
-    let first = fill_word(
+    // Small tables have no maps.
+    if count == 0 {
+        return 0;
+    }
+    if width == NARROW {
+        return fill_rows_by(
+            table,
+            slot,
+            places,
+            count,
+            chosen,
+            starts,
+            others,
+            own,
+            NARROW,
+        );
+    }
+    fill_rows_by(
         table,
         slot,
-        0,
         places,
         count,
         chosen,
         starts,
         others,
         own,
-        0,
-    );
-    fill_word(
-        table,
-        slot,
-        1,
-        places,
-        count,
-        chosen,
-        starts,
-        others,
-        own,
-        first,
+        WIDE,
     )
 }

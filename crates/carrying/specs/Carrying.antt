@@ -1,5 +1,5 @@
 -- Document 01, "Carrying out": what a step answers, and the table and the writes done after it, for every table, plan, rule and progress.
--- The step's contract is an equation with these definitions, at two words of value.
+-- The step's contract is an equation with these definitions, at the width that the call names.
 use mathlib.Core.Bool.{Bool, true, not, cond, _&&_}
 use mathlib.Core.List.{List, [], _∷_}
 use Prim.Native.Nat.{ℕ, _+_}
@@ -7,8 +7,9 @@ use lib.Dec.{eqb, leb}
 use lib.ListN.{length, getD}
 use Rattle.layout.specs.Write.{Write, copy, put, clear}
 use Rattle.plan_words.specs.PlanWords.{writeOf}
-use Rattle.records.specs.Record.{soundRule}
+use Rattle.records.specs.Record.{word, soundRule, ruleOf}
 use Rattle.records.specs.Checks.{Told, success, refusal, unless, passes, orElse, slotChecks}
+use Rattle.records.specs.Widths.{checkRule, leaves}
 use Rattle.records.specs.Writes.{fitsWrite, applyWord}
 use Rattle.records.specs.declared.Rule.{Rule}
 use Rattle.records.specs.declared.Cause.the-variants.{Rule as RuleCause, Write as WriteCause}
@@ -56,3 +57,13 @@ stepTable w t plan rule done total = cond (stepWrites w t plan rule done total) 
 -- the writes done afterwards: one more, or as many as before
 unfoldable pub stepDone : ℕ → List ℕ → List ℕ → Rule → ℕ → ℕ → ℕ
 stepDone w t plan rule done total = cond (stepWrites w t plan rule done total) (done + 1) done
+
+-- document 02: the call, on a rule as it is lent, a record; another width or another number of words is 1, and changes nothing
+abbrev pub stepCall : ℕ → List ℕ → List ℕ → List ℕ → ℕ → ℕ → Told
+stepCall w t plan rule done total = unless (checkRule w (length rule)) (stepAnswer w t plan (ruleOf w (word rule)) done total)
+
+abbrev pub stepCallTable : ℕ → List ℕ → List ℕ → List ℕ → ℕ → ℕ → List ℕ
+stepCallTable w t plan rule done total = leaves (checkRule w (length rule)) (stepTable w t plan (ruleOf w (word rule)) done total) t
+
+abbrev pub stepCallDone : ℕ → List ℕ → List ℕ → List ℕ → ℕ → ℕ → ℕ
+stepCallDone w t plan rule done total = leaves (checkRule w (length rule)) (stepDone w t plan (ruleOf w (word rule)) done total) done

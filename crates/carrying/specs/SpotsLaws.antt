@@ -9,7 +9,9 @@ use lib.ListN.{length, getD}
 use borrow.Author.Tests.{ltb-true}
 use Rattle.search.specs.Search.{least}
 use Rattle.plan_words.specs.PlanWords.{writeOf}
+use Rattle.records.specs.Record.{word, recordWords, ruleOf}
 use Rattle.records.specs.Order.{slots}
+use Rattle.records.specs.Widths.{known, checkWidth, checkWords, checkRule}
 use Rattle.records.specs.Checks.{Told, success, refusal, unless, orElse, lowest, shaped, checkShape, unsoundAt, checkRecords, slotChecks}
 use Rattle.records.specs.Laws.{cause-not-zero}
 use Rattle.records.specs.Writes.{fitsWrite}
@@ -19,7 +21,7 @@ use Rattle.records.specs.declared.Cause.{Cause}
 use Rattle.records.specs.declared.Cause.the-variants.{Shape, Record, Rule as RuleCause, Write as WriteCause}
 use Rattle.records.specs.declared.Check.{Check}
 use Rattle.records.specs.declared.Check.the-variants.{Pass, Fail}
-use Rattle.carrying.specs.Carrying.{progressChecks, putSound, writeChecks, stepAnswer}
+use Rattle.carrying.specs.Carrying.{progressChecks, putSound, writeChecks, stepAnswer, stepCall}
 
 -- the spot is below n, of a check that fails and of a refusal that is told
 abbrev Below : ℕ → Check → Type 0
@@ -50,11 +52,10 @@ unless-below n Pass told a b = b
 unless-below n (Fail cause spot) told a b = λ e. a
 
 -- below every number that is above the slots and the writes done
-pub step-spot : (w : ℕ) (t plan : List ℕ) (rule : Rule) (done total n : ℕ) → 1024 ≤ n → done < n → (cause : Cause) (spot : ℕ)
-    → refusal cause spot ≡ stepAnswer w t plan rule done total → spot < n
+step-below : (w : ℕ) (t plan : List ℕ) (rule : Rule) (done total n : ℕ) → 1024 ≤ n → done < n → ToldBelow n (stepAnswer w t plan rule done total)
 unfolding stepAnswer progressChecks writeChecks slotChecks checkShape checkRecords
-step-spot w t plan rule done total n large few cause spot e =
-    subst (ToldBelow n) (sym e) (unless-below n (progressChecks w t (length plan) done total) _ progress (finished (eqb done total))) (cause-not-zero cause)
+step-below w t plan rule done total n large few =
+    unless-below n (progressChecks w t (length plan) done total) _ progress (finished (eqb done total))
   where
     progress : Below n (progressChecks w t (length plan) done total)
     progress =
@@ -73,3 +74,16 @@ step-spot w t plan rule done total n large few cause spot e =
     finished : (b : Bool) → ToldBelow n (cond b (success []) (unless (writeChecks w t rule (getD plan done 0) done) (success ((done + 1) ∷ []))))
     finished true = λ f. absurd (true≢false f)
     finished false = unless-below n (writeChecks w t rule (getD plan done 0) done) (success ((done + 1) ∷ [])) write (λ f. absurd (true≢false f))
+
+-- so is the spot of a call's refusal: that of its width and its rule's words is 0
+pub call-spot : (w : ℕ) (t plan rule : List ℕ) (done total n : ℕ) → 1024 ≤ n → done < n → (cause : Cause) (spot : ℕ)
+    → refusal cause spot ≡ stepCall w t plan rule done total → spot < n
+unfolding checkRule checkWidth checkWords
+call-spot w t plan rule done total n large few cause spot e =
+    subst (ToldBelow n) (sym e) (unless-below n (checkRule w (length rule)) _ lent (step-below w t plan (ruleOf w (word rule)) done total n large few))
+    (cause-not-zero cause)
+  where
+    lent : Below n (checkRule w (length rule))
+    lent =
+        or-else-below n (checkWidth w) (checkWords (length rule) (recordWords w)) (cond-below n (known w) Shape 0 (omega arith))
+        (λ s. cond-below n (eqb (length rule) (recordWords w)) Shape 0 (omega arith))

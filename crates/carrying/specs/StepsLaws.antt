@@ -13,21 +13,24 @@ use borrow.Author.Tests.{eq-eqb, ne-eqb, leb-true, not-true, not-false}
 use Rattle.search.specs.SearchLaws.{decided, and-left, and-right}
 use Rattle.layout.specs.Write.{Write, copy, put, clear}
 use Rattle.plan_words.specs.PlanWords.{writeOf, SlotsBelow}
-use Rattle.records.specs.Record.{slotWords, empty, occupied, putSlot, listed, recordWords, word}
+use Rattle.records.specs.Record.{slotWords, empty, occupied, sound, soundRule, ruleOf, putSlot, recordWords, word}
 use Rattle.records.specs.Order.{slots}
 use Rattle.records.specs.Checks.{Told, success, refusal, unless, passes, slotChecks}
 use Rattle.records.specs.Laws.{or-else-pass, pass-law, cause-not-zero, cause-number-once}
+use Rattle.records.specs.Widths.{Width, checkRule, leaves}
+use Rattle.records.specs.WidthsLaws.{rule-law, lent-words}
 use Rattle.records.specs.Writes.{standsElsewhere, freeAt, fitsWrite, fitsWord, applyWrite, applyWord}
 use Rattle.records.specs.declared.Rule.{Rule}
 use Rattle.records.specs.declared.Cause.{Cause}
 use Rattle.records.specs.declared.Cause.the-variants.{Rule as RuleCause, Write as WriteCause}
 use Rattle.records.specs.declared.Check.{Check}
 use Rattle.records.specs.declared.Check.the-variants.{Pass, Fail}
-use Rattle.records.specs.RulesLaws.{listed-words}
+use Rattle.records.specs.RulesLaws.{rule-sound, given-record}
 use Rattle.records.specs.WritesLaws.{fits-below}
 use Rattle.carrying.specs.declared.StepAnswer.{StepAnswer}
 use Rattle.carrying.specs.declared.StepAnswer.the-variants.{Wrote, Finished, Refused}
 use Rattle.carrying.specs.Carrying.{stepTold, progressChecks, putSound, writeChecks, stepAnswer, stepWrites, stepTable, stepDone}
+use Rattle.carrying.specs.Carrying.{stepCall, stepCallTable, stepCallDone}
 use Rattle.carrying.specs.Steps.{StepEnds}
 
 -- a slot is free where it is empty, or where its id stands elsewhere
@@ -64,12 +67,6 @@ pub copy-stopped : (w : ℕ) (t : List ℕ) (from to : ℕ) {x : Bool} → x ≡
 copy-stopped w t from to e h =
     ap (λ (b : Bool). b && fitsWrite w t (put to)) (sym (ap (λ (b : Bool). not (eqb from to) && b) (sym e) ∙ h)) ∙ sym (copy-tests w t from to)
 
--- a record of as many words as a slot has is stored whole
-pub record-stored : (w : ℕ) (t : List ℕ) (i : ℕ) {words x after : List ℕ} → after ≡ putSlot w t i (listed (recordWords w) (word words)) → words ≡ x
-    → length x ≡ recordWords w → after ≡ putSlot w t i x
-record-stored w t i {words} {x} e f n =
-    e ∙ ap (putSlot w t i) (ap (λ (l : List ℕ). listed (recordWords w) (word l)) f ∙ listed-words (recordWords w) x n)
-
 -- the write of a word, by the value that the code has taken it apart to
 module _ (w : ℕ) (t : List ℕ) (n : ℕ) {x : Write} (e : x ≡ writeOf n) where
   pub write-fitting : fitsWrite w t x ≡ fitsWord w t n
@@ -81,6 +78,18 @@ module _ (w : ℕ) (t : List ℕ) (n : ℕ) {x : Write} (e : x ≡ writeOf n) wh
   -- the slots of a write that fits exist
   pub write-below : fitsWord w t n ≡ true → SlotsBelow (slots w t) x
   write-below f = subst (SlotsBelow (slots w t)) (sym e) (fits-below w t (writeOf n) f)
+
+-- a sound rule that is lent as a record is put in as it is lent
+pub rule-put : (w : ℕ) (t rule : List ℕ) (n to : ℕ) → put to ≡ writeOf n → length rule ≡ recordWords w
+    → putSound w (ruleOf w (word rule)) (writeOf n) ≡ true → putSlot w t to rule ≡ applyWord w t (ruleOf w (word rule)) n
+rule-put w t rule n to e size f =
+    ap (putSlot w t to)
+    (sym (given-record w rule size (sym (rule-sound w (word rule)) ∙ (ap (putSound w (ruleOf w (word rule))) e ∙ f))))
+    ∙ write-made w t n e (ruleOf w (word rule))
+
+-- and it is sound where the one slot of it is
+pub lent-sound : (w : ℕ) (rule : List ℕ) → sound w (slotWords w rule 0) ≡ soundRule w (ruleOf w (word rule))
+lent-sound w rule = ap (sound w) (lent-words w rule) ∙ sym (rule-sound w (word rule))
 
 -- how the checks of the next write end
 module _ (w : ℕ) (t : List ℕ) (n : ℕ) (rule : Rule) (done : ℕ) {s : Bool} (e : s ≡ putSound w rule (writeOf n)) where
@@ -163,6 +172,13 @@ checked-fits w t rule n done e =
     pass-law WriteCause done (fitsWord w t n) .0
     (or-else-pass (cond (putSound w rule (writeOf n)) Pass (Fail RuleCause 0)) (cond (fitsWord w t n) Pass (Fail WriteCause done)) .0 e .1)
 
+-- and a rule that it puts in is sound
+pub checked-sound : (w : ℕ) (t : List ℕ) (rule : Rule) (n done : ℕ) → writeChecks w t rule n done ≡ Pass → putSound w rule (writeOf n) ≡ true
+unfolding writeChecks
+checked-sound w t rule n done e =
+    pass-law RuleCause 0 (putSound w rule (writeOf n)) .0
+    (or-else-pass (cond (putSound w rule (writeOf n)) Pass (Fail RuleCause 0)) (cond (fitsWord w t n) Pass (Fail WriteCause done)) .0 e .0)
+
 -- a progress that passes its check: done ≤ in all ≤ the plan's words
 pub progress-within : (w : ℕ) (t : List ℕ) (words done total : ℕ) → progressChecks w t words done total ≡ Pass → (done ≤ total) × (total ≤ words)
 unfolding progressChecks
@@ -202,3 +218,38 @@ step-moved w t plan rule done total next e = pick (decided (stepWrites w t plan 
     pick (inr f) =
         let same : next ≡ done = e ∙ ap (λ (x : Bool). cond x (done + 1) done) f in
         (λ l. absurd (omega arith), λ l. f)
+
+-- the call on a rule as it is lent: its check of the width and of the rule's words, and behind that the step
+module _ (w : ℕ) (t plan rule : List ℕ) (done total : ℕ) where
+  -- another width, or another number of words: refused, and the table is as it was
+  pub call-declined : {x : Check} {cause : Cause} {spot : ℕ} → x ≡ checkRule w (length rule) → x ≡ Fail cause spot
+      → (refusal cause spot ≡ stepCall w t plan rule done total) × (t ≡ stepCallTable w t plan rule done total)
+  call-declined e f =
+      let g = sym f ∙ e in (
+        ap (λ (z : Check). unless z (stepAnswer w t plan (ruleOf w (word rule)) done total)) g,
+        ap (λ (z : Check). leaves z (stepTable w t plan (ruleOf w (word rule)) done total) t) g,
+      )
+
+  -- else the call ends as the step of the rule does
+  pub call-checked : checkRule w (length rule) ≡ Pass
+      → StepEnds w t plan (ruleOf w (word rule)) done total
+      (stepCall w t plan rule done total) (stepCallTable w t plan rule done total) (stepCallDone w t plan rule done total)
+  call-checked e = (
+    ap (λ (z : Check). unless z (stepAnswer w t plan (ruleOf w (word rule)) done total)) e,
+    ap (λ (z : Check). leaves z (stepTable w t plan (ruleOf w (word rule)) done total) t) e,
+    ap (λ (z : Check). leaves z (stepDone w t plan (ruleOf w (word rule)) done total) done) e,
+  )
+
+  pub call-known : Width w → length rule ≡ recordWords w
+      → StepEnds w t plan (ruleOf w (word rule)) done total
+      (stepCall w t plan rule done total) (stepCallTable w t plan rule done total) (stepCallDone w t plan rule done total)
+  call-known known size = call-checked (rule-law w (length rule) .1 (known, size))
+
+  -- its answer tells the writes done after it
+  pub call-done-told : doneTold (stepCall w t plan rule done total) done ≡ stepCallDone w t plan rule done total
+  call-done-told = turn (checkRule w (length rule))
+    where
+      turn : (x : Check)
+          → doneTold (unless x (stepAnswer w t plan (ruleOf w (word rule)) done total)) done ≡ leaves x (stepDone w t plan (ruleOf w (word rule)) done total) done
+      turn Pass = done-told w t plan (ruleOf w (word rule)) done total
+      turn (Fail cause spot) = done-refused cause spot done

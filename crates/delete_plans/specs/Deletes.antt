@@ -10,7 +10,8 @@ use Rattle.layout.specs.Write.{clear}
 use Rattle.plan_words.specs.PlanWords.{writeWord}
 use Rattle.records.specs.Record.{slotWords, ident, occupied, putSlot}
 use Rattle.records.specs.Order.{slots}
-use Rattle.records.specs.Checks.{Told, orElse, tableChecks}
+use Rattle.records.specs.Checks.{Told, unless, orElse, tableChecks}
+use Rattle.records.specs.Widths.{checkWidth, leaves}
 use Rattle.records.specs.Entries.{vacant}
 use Rattle.records.specs.Writes.{applyWords, fitsWord}
 use Rattle.records.specs.declared.Rule.{Rule}
@@ -47,6 +48,13 @@ deleteAnswer w t id room = bufferAnswer (deleteChecks w t id) 1 room
 
 abbrev pub deletePlan : ℕ → List ℕ → ℕ → List ℕ → List ℕ
 deletePlan w t id plan = bufferAfter (deleteChecks w t id) (deleteWords w t id) plan
+
+-- document 02: the call; another width is 1
+abbrev pub deleteCall : ℕ → List ℕ → ℕ → ℕ → Told
+deleteCall w t id room = unless (checkWidth w) (deleteAnswer w t id room)
+
+abbrev pub deleteCallPlan : ℕ → List ℕ → ℕ → List ℕ → List ℕ
+deleteCallPlan w t id plan = leaves (checkWidth w) (deletePlan w t id plan) plan
 
 -- What a delete that passes its checks plans: the table is sound, the slot holds the rule, its one word empties that slot, and the write fits.
 pub record DeletePlanned (w : ℕ) (t : List ℕ) (id : ℕ) : Type 0 where

@@ -12,13 +12,13 @@ use Rattle.plan_words.specs.PlanWords.{writeWord, writeOf}
 use Rattle.plan_words.specs.PlanWordsLaws.{write-of-word}
 use Rattle.records.specs.Record.{slotWords, ident}
 use Rattle.records.specs.Order.{slots}
-use Rattle.records.specs.Checks.{orElse, checkShape, tableChecks}
-use Rattle.records.specs.Laws.{or-else-pass, pass-law, slot-checks-law, table-checks-law, table-checks-length}
+use Rattle.records.specs.Checks.{orElse, tableChecks}
+use Rattle.records.specs.Laws.{or-else-pass, pass-law}
 use Rattle.records.specs.Writes.{applyWrite, fitsWord}
 use Rattle.records.specs.declared.Cause.the-variants.{Rule as RuleCause, Unknown}
 use Rattle.records.specs.declared.Check.{Check}
 use Rattle.records.specs.declared.Check.the-variants.{Pass, Fail}
-use Rattle.records.specs.EntriesLaws.{shaped-slots}
+use Rattle.table_checks.specs.SlotsLaws.{table-few}
 use Rattle.delete_plans.specs.Deletes.{hasId, DeletePlanned, checkId, deleteChecks, slotOfId, checkUnknown}
 
 -- the code's tests of the id
@@ -39,11 +39,11 @@ unfolding checkUnknown
 id-absent w t id slot e h = rw (← e, le-ltb slot (slots w t) h)
 
 -- where the checks pass the slot is one of at most 1,024
-pub delete-small : (t : List ℕ) (id : ℕ) → deleteChecks 2 t id ≡ Pass → slotOfId 2 t id ≤ 1024
+pub delete-small : (w : ℕ) (t : List ℕ) (id : ℕ) → deleteChecks w t id ≡ Pass → slotOfId w t id ≤ 1024
 unfolding deleteChecks slotOfId
-delete-small t id e =
-    let l = least-law (hasId 2 t id) (slots 2 t) 0 in
-    let h = table-checks-length 2 t (or-else-pass (tableChecks 2 t) (orElse (checkId id) (checkUnknown 2 t id)) .0 e .0) in
+delete-small w t id e =
+    let l = least-law (hasId w t id) (slots w t) 0 in
+    let few = table-few w t (or-else-pass (tableChecks w t) (orElse (checkId id) (checkUnknown w t id)) .0 e .0) in
     omega (arith, l .high)
 
 pub delete-planned : (w : ℕ) (t : List ℕ) (id : ℕ) → deleteChecks w t id ≡ Pass → DeletePlanned w t id
@@ -53,9 +53,6 @@ delete-planned w t id e = record { table = checks .0; exists = exists; holds = h
     checks : (tableChecks w t ≡ Pass) × (orElse (checkId id) (checkUnknown w t id) ≡ Pass)
     checks = or-else-pass (tableChecks w t) (orElse (checkId id) (checkUnknown w t id)) .0 e
 
-    shape : checkShape w t ≡ Pass
-    shape = slot-checks-law w t .0 (table-checks-law w t .0 (checks .0) .0) .0
-
     exists : slotOfId w t id < slots w t
     exists = ltb-true (slotOfId w t id) (slots w t) (pass-law Unknown 0 _ .0 (or-else-pass (checkId id) (checkUnknown w t id) .0 (checks .1) .1))
 
@@ -63,7 +60,7 @@ delete-planned w t id e = record { table = checks .0; exists = exists; holds = h
     holds = least-law (hasId w t id) (slots w t) 0 .hit (omega (arith, exists))
 
     write : writeOf (writeWord (clear (slotOfId w t id))) ≡ clear (slotOfId w t id)
-    write = write-of-word (clear (slotOfId w t id)) (omega (arith, exists, shaped-slots w t shape .1))
+    write = write-of-word (clear (slotOfId w t id)) (omega (arith, exists, table-few w t (checks .0)))
 
     fits : fitsWord w t (writeWord (clear (slotOfId w t id))) ≡ true
     fits = rw (write, lt-ltb (slotOfId w t id) (slots w t) exists) (and-right (eqb (ident w (slotWords w t (slotOfId w t id))) id) _ holds)

@@ -5,17 +5,23 @@ ghost use lib.ListN.{length};
 use buffers::PlanAnswer;
 use delete_plans::plan_delete;
 use insert_plans::plan_insert;
+use insert_plans::plan_rule;
 use lookups::LookupAnswer;
 use lookups::lookup::lookup;
 use lookups::lookup::slot_record;
 use records::Cause;
 use records::Check;
+use records::Mode;
+use records::NARROW;
 use records::Rule;
+use records::WIDE;
+use records::WIDE_TABLE;
 use records::cause_number;
 use slots::put_record;
 use slots::rules::record_of;
 use slots::rules::rule_of;
 use slots::rules::rule_sound;
+use slots::slot_count;
 use table_checks::check_table;
 
 fn number(value: u64) {
@@ -30,9 +36,9 @@ fn refused(cause: Cause, spot: u32) {
     io::write_all(1, b"\n");
 }
 
-// Looks a key up and prints the answer.
-fn show_lookup(table: &[u64], key: [u64; 2]) {
-    match lookup(table, key) {
+// Looks a key up at a width and prints the answer.
+fn show_lookup_at(table: &[u64], key: &[u64], width: usize) {
+    match lookup(table, key, width) {
         LookupAnswer::Found(hit) => {
             io::write_all(1, b"A");
             number(hit.slot as u64);
@@ -47,9 +53,14 @@ fn show_lookup(table: &[u64], key: [u64; 2]) {
     }
 }
 
+// The same of a key of two words.
+fn show_lookup(table: &[u64], key: [u64; 2]) {
+    show_lookup_at(table, &key, NARROW);
+}
+
 // Makes checks 1 to 4 and prints the answer.
 fn show_checks(table: &[u64]) {
-    match check_table(table) {
+    match check_table(table, Mode { width: NARROW }) {
         Check::Pass => {
             io::write_all(1, b"C\n");
         }
@@ -59,7 +70,7 @@ fn show_checks(table: &[u64]) {
 
 // Prints how many words the part for a slot's record has, and the last of them where there are any.
 fn show_record(table: &[u64], slot: usize) {
-    let part = slot_record(table, slot);
+    let part = slot_record(table, slot, NARROW);
     io::write_all(1, b"W");
     number(part.len() as u64);
     if 5 < part.len() {
@@ -70,8 +81,9 @@ fn show_record(table: &[u64], slot: usize) {
 
 // Puts a rule into a slot, if the table has it.
 fn put(table: &mut [u64], slot: usize, rule: Rule) {
-    if slot < table.len() / 6 {
-        put_record(table, slot, record_of(rule));
+    if slot < slot_count(table, NARROW) {
+        let words = record_of(rule);
+        put_record(table, slot, &words, NARROW);
     }
 }
 
@@ -201,23 +213,23 @@ fn show_plan(answer: PlanAnswer, plan: &[u32]) {
 
 fn show_insert(table: &[u64], given: Rule) {
     let mut plan = [7u32; 2];
-    let answer = plan_insert(table, given, &mut plan);
+    let answer = plan_rule(table, given, &mut plan);
     show_plan(answer, &plan);
 }
 
 fn show_delete(table: &[u64], id: u32) {
     let mut plan = [7u32; 2];
-    let answer = plan_delete(table, id, &mut plan);
+    let answer = plan_delete(table, id, &mut plan, Mode { width: NARROW });
     show_plan(answer, &plan);
 }
 
 // Buffers of one word and of none.
 fn short_buffers(table: &[u64], given: Rule) {
     let mut one = [7u32; 1];
-    let answer = plan_insert(table, given, &mut one);
+    let answer = plan_rule(table, given, &mut one);
     show_plan(answer, &one);
     let mut none = [7u32; 0];
-    let deleted = plan_delete(table, 2, &mut none);
+    let deleted = plan_delete(table, 2, &mut none, Mode { width: NARROW });
     show_plan(deleted, &none);
 }
 
@@ -282,6 +294,42 @@ fn large_table(table: &mut [u64]) {
     before_last_slot(table);
 }
 
+// Five words: 1,024 slots and 1,025.
+fn wide_shapes(table: &[u64])
+    requires { ⌜ length (now table) ≡ 12300 ⌝ }
+{
+    io::write_all(1, b"five words\n");
+    let key = [0u64; WIDE];
+    show_lookup_at(&table[0..WIDE_TABLE], &key, WIDE);
+    show_lookup_at(&table[0..12300], &key, WIDE);
+}
+
+// A key of another number of words, the other width's key, and another width.
+fn other_words(table: &[u64]) {
+    let key = [0u64; WIDE];
+    show_lookup_at(table, &key[0..4], WIDE);
+    show_lookup_at(table, &key, NARROW);
+    show_lookup_at(table, &key[0..3], 3);
+}
+
+// A rule that cares for the last bit of the fifth word alone, planned with a record of its words and with one word less.
+fn wide_plans(table: &[u64]) {
+    let new = [0u64, 0, 0, 0, 1, 0, 0, 0, 0, 1, 12884901897, 25];
+    let mut plan = [7u32; 2];
+    let answer = plan_insert(table, &new, &mut plan, Mode { width: WIDE });
+    show_plan(answer, &plan);
+    let mut other = [7u32; 2];
+    let refusal = plan_insert(table, &new[0..11], &mut other, Mode { width: WIDE });
+    show_plan(refusal, &other);
+}
+
+fn wide_tables() {
+    let empty = [0u64; 12300];
+    wide_shapes(&empty);
+    other_words(&empty[0..24]);
+    wide_plans(&empty[0..24]);
+}
+
 fn main() {
     let mut table = [0u64; 6150];
     shapes(&table);
@@ -289,4 +337,5 @@ fn main() {
     small_plans();
     large_table(&mut table[0..6144]);
     small_tables();
+    wide_tables();
 }

@@ -5,6 +5,7 @@ use mathlib.Core.List.{List, [], _∷_}
 use Prim.Native.Nat.{ℕ}
 use lib.ListN.{length}
 use Rattle.records.specs.Checks.{Told, success, refusal, unless, passes, tableChecks}
+use Rattle.records.specs.Widths.{checkWidth, leaves}
 use Rattle.buffers.specs.Buffers.{bufferAnswer, bufferAfter}
 use Rattle.image.specs.Format.{imageBytes, ruleCount, imageOf}
 use Rattle.image.specs.Checks.{meant, loadChecks}
@@ -35,3 +36,16 @@ loadAnswer w b t = unless (loadChecks w b t) (success [])
 
 unfoldable pub loadTable : ℕ → List ℕ → List ℕ → List ℕ
 loadTable w b t = cond (passes (loadChecks w b t)) (meant w b (length t)) t
+
+-- document 02: the calls; another width is 1, and leaves the buffer, or the table, as it was
+abbrev pub saveCall : ℕ → List ℕ → ℕ → Told
+saveCall w t room = unless (checkWidth w) (saveAnswer w t room)
+
+abbrev pub saveCallBuffer : ℕ → List ℕ → List ℕ → List ℕ
+saveCallBuffer w t image = leaves (checkWidth w) (saveBuffer w t image) image
+
+abbrev pub loadCall : ℕ → List ℕ → List ℕ → Told
+loadCall w b t = unless (checkWidth w) (loadAnswer w b t)
+
+abbrev pub loadCallTable : ℕ → List ℕ → List ℕ → List ℕ
+loadCallTable w b t = leaves (checkWidth w) (loadTable w b t) t

@@ -5,6 +5,7 @@ use mathlib.Core.List.{List, [], _∷_, _++_, append-assoc, append-nil}
 use Prim.Native.Nat.{ℕ, zero, suc, _+_, _-_, _*_, _/_, _%_, _^_, _≤_, _<_}
 use native.Mathlib.Nat.{div-add-mod', add-zero, pow-suc, pow-zero, div-lt-iff-lt-mul, pow-le-pow-right, mul-le-mul-right, add-assoc, zero-add}
 use native.Mathlib.Nat.{suc-mul, zero-mul, mod-lt}
+use native.Mathlib.Numerals.{add-one}
 use native.Mathlib.Omega.{arith}
 use native.Mathlib.Decide.{decLt}
 use lib.Arith.{digits-div, digits-mod, digits-lt}
@@ -188,6 +189,13 @@ store-next b at next bytes more h e =
 pub store-then : (b : List ℕ) (at next : ℕ) (bytes more : List ℕ) {c d : List ℕ} → at ≤ length b → next ≡ at + length bytes
     → c ≡ store b at bytes → d ≡ store c next more → d ≡ store b at (bytes ++ more)
 store-then b at next bytes more h e f g = g ∙ (ap (λ (x : List ℕ). store x next more) f ∙ store-next b at next bytes more h e)
+
+-- one element stored
+pub store-one : (b : List ℕ) (at n : ℕ) → at < length b → set b at n ≡ store b at (n ∷ [])
+unfolding store
+store-one b at n h =
+    set-split b at n h
+    ∙ (sym (append-snoc (take at b) n (drop (suc at) b)) ∙ ap (λ (i : ℕ). take at b ++ (n ∷ []) ++ drop i b) (sym (add-one at)))
 
 -- stores at places apart may be made in either order
 pub store-swap : (b : List ℕ) (at to : ℕ) (bytes more : List ℕ) → at + length bytes ≤ to → to + length more ≤ length b

@@ -1,4 +1,5 @@
--- Worked examples: the definitions computed on a table of three slots: its image byte by byte, the image loaded, and fields of it made wrong one by one.
+-- Worked examples: the definitions computed on a table of three slots: its image byte by byte, the image loaded, and fields of it made wrong one by one;
+-- and on one of five words a value.
 -- Each is checked by computation alone.
 use mathlib.Core.Path.{_≡_, refl}
 use mathlib.Core.List.{List, [], _∷_}
@@ -10,12 +11,13 @@ use Rattle.ternary.specs.Pattern.{within, overlaps}
 use Rattle.records.specs.Record.{listed, empty, soundParts, putSlot}
 use Rattle.records.specs.Order.{distinct, sameId, misordered}
 use Rattle.records.specs.Checks.{Told, success, refusal, lowest, shaped, checkShape, twiceAt, checkTwice, disorderAt, checkOrder}
-use Rattle.records.specs.declared.Cause.the-variants.{Order, Image}
+use Rattle.records.specs.Widths.{known, checkWidth}
+use Rattle.records.specs.declared.Cause.the-variants.{Shape, Order, Image}
 use Rattle.image.specs.Bytes.{bytesOf, numberAt, pieces}
 use Rattle.image.specs.Indices.{indices}
 use Rattle.image.specs.Format.{entryOf, bodyOf, entryBytes, ruleBytes, imageOf, recordAt}
 use Rattle.image.specs.Checks.{inTurn, checkHeader, checkEntry, checkBody, checkContents, checkBodies, imageChecks, rulesPut, meant, loadChecks}
-use Rattle.image.specs.Answers.{loadAnswer, loadTable}
+use Rattle.image.specs.Answers.{loadAnswer, loadTable, loadCall}
 
 -- slot 0: rule 258, action 3, priority 30, that cares for the lowest bit; slot 2: rule 7, action 9, priority 20, that cares for none
 abbrev table : List ℕ
@@ -98,3 +100,28 @@ slot-before-offset = refl
 entries-before-bodies : both-wrong 17 0 31 1 ≡ refusal Image 14
 unfolding both-wrong loadAnswer loadTable loadChecks checkShape shaped imageChecks checkHeader checkContents checkBodies inTurn checkEntry checkBody numberAt recordAt listed soundParts within all inside meant rulesPut putSlot checkTwice twiceAt lowest least any sameId empty checkOrder disorderAt misordered overlaps distinct agree both
 entries-before-bodies = refl
+
+-- five words: rule 7, action 9, priority 20, that cares for the lowest bit, which stands in the fifth word
+abbrev wide-table : List ℕ
+wide-table = 0 ∷ 0 ∷ 0 ∷ 0 ∷ 1 ∷ 0 ∷ 0 ∷ 0 ∷ 0 ∷ 1 ∷ 30064771081 ∷ 20 ∷ []
+
+abbrev wide-image : List ℕ
+wide-image = 0 ∷ 1 ∷ 0 ∷ 1 ∷ 0 ∷ 0 ∷ 0 ∷ 7 ∷ 0 ∷ 0 ∷ 0 ∷ 0 ∷ 0 ∷ 14 ∷ 0 ∷ 0 ∷ 0 ∷ 0 ∷ 0 ∷ 0 ∷ 0 ∷ 0 ∷ 0 ∷ 0 ∷ 0 ∷ 0 ∷ 0 ∷ 0 ∷ 0 ∷ 0 ∷ 0 ∷ 0 ∷ 0 ∷ 0 ∷ 0 ∷ 0 ∷ 0 ∷ 0 ∷ 0 ∷ 0 ∷ 0 ∷ 0 ∷ 0 ∷ 0 ∷ 0 ∷ 0 ∷ 0 ∷ 0 ∷ 0 ∷ 0 ∷ 0 ∷ 0 ∷ 0 ∷ 1 ∷ 0 ∷ 0 ∷ 0 ∷ 0 ∷ 0 ∷ 0 ∷ 0 ∷ 0 ∷ 0 ∷ 0 ∷ 0 ∷ 0 ∷ 0 ∷ 0 ∷ 0 ∷ 0 ∷ 0 ∷ 0 ∷ 0 ∷ 0 ∷ 0 ∷ 0 ∷ 0 ∷ 0 ∷ 0 ∷ 0 ∷ 0 ∷ 0 ∷ 0 ∷ 0 ∷ 0 ∷ 0 ∷ 0 ∷ 0 ∷ 0 ∷ 0 ∷ 0 ∷ 0 ∷ 0 ∷ 1 ∷ 0 ∷ 0 ∷ 0 ∷ 20 ∷ 0 ∷ 0 ∷ 0 ∷ 9 ∷ []
+
+wide-saved : imageOf 5 wide-table ≡ wide-image
+unfolding imageOf indices empty all entryBytes ruleBytes entryOf bodyOf pieces bytesOf
+wide-saved = refl
+
+wide-loaded : loadTable 5 wide-image (replicate 12 5) ≡ wide-table
+unfolding loadAnswer loadTable loadChecks checkShape shaped imageChecks checkHeader checkContents checkBodies inTurn checkEntry checkBody numberAt recordAt listed soundParts within all inside meant rulesPut putSlot checkTwice twiceAt lowest least any sameId empty checkOrder disorderAt misordered overlaps distinct agree both
+wide-loaded = refl
+
+-- an image of the other width has the wrong length for its rules
+other-width : loadAnswer 2 wide-image (replicate 6 5) ≡ refusal Image 2
+unfolding loadAnswer loadTable loadChecks checkShape shaped imageChecks checkHeader checkContents checkBodies inTurn checkEntry checkBody numberAt recordAt listed soundParts within all inside meant rulesPut putSlot checkTwice twiceAt lowest least any sameId empty checkOrder disorderAt misordered overlaps distinct agree both
+other-width = refl
+
+-- a width that there is not
+no-width : loadCall 3 wide-image (replicate 8 5) ≡ refusal Shape 0
+unfolding checkWidth known
+no-width = refl

@@ -71,10 +71,14 @@ entrySlot b k = numberAt b (entryPlace k + 4) 2
 abbrev pub offsetAt : List ℕ → ℕ → ℕ
 offsetAt b k = numberAt b (entryPlace k + 6) 4
 
+-- the words of a body that starts at an offset, value and then mask
+abbrev pub bodyWord : List ℕ → ℕ → Words
+bodyWord b at j = numberAt b (at + j * 8) 8
+
 -- the record that entry and body k mean, in an image of e rules
 unfoldable pub recordAt : ℕ → List ℕ → ℕ → ℕ → List ℕ
 recordAt w b e k =
-    listed (2 * w) (λ j. numberAt b (bodyPlace w e k + j * 8) 8)
+    listed (2 * w) (bodyWord b (bodyPlace w e k))
     ++ (idAt b k * 4294967296 + numberAt b (bodyPlace w e k + (2 * w * 8 + 4)) 4) ∷ numberAt b (bodyPlace w e k + 2 * w * 8) 4 ∷ []
 
 module _ (w : ℕ) (t : List ℕ) where

@@ -1,21 +1,22 @@
 -- End theorems on loading: how a load ends, and that of the lent table only the length counts.
 use mathlib.Core.Path.{_≡_, refl, sym, ap, ap₂, _∙_}
 use mathlib.Core.Bool.{cond}
-use mathlib.Core.List.{List, [], _∷_}
-use Prim.Native.Nat.{ℕ, zero, suc, _+_, _-_, _*_, _/_, _≤_}
+use mathlib.Core.List.{List, [], _∷_, _++_}
+use Prim.Native.Nat.{ℕ, zero, suc, _+_, _-_, _*_, _/_, _≤_, _<_}
 use native.Mathlib.Nat.{sub-zero}
 use native.Mathlib.Omega.{arith}
-use lib.ListN.{length, take, replicate, length-append}
-use Rattle.records.specs.Record.{recordWords, listed}
+use lib.ListN.{length, take, drop, replicate, length-append}
+use Rattle.records.specs.Record.{recordWords, listed, putSlot}
 use Rattle.records.specs.Order.{slots}
 use Rattle.records.specs.Checks.{success, refusal, unless, passes, orElse, checkShape, checkTwice, checkOrder}
-use Rattle.records.specs.Laws.{or-else-pass, failed, passed, shape-same}
+use Rattle.records.specs.Laws.{or-else-pass, failed, passed, shape-same, slot-within}
 use Rattle.records.specs.declared.Cause.{Cause}
 use Rattle.records.specs.declared.Check.{Check}
 use Rattle.records.specs.declared.Check.the-variants.{Pass, Fail}
 use Rattle.records.specs.RulesLaws.{length-listed}
-use Rattle.image.specs.Bytes.{numberAt}
-use Rattle.image.specs.Format.{bodyPlace, rulesIn, idAt, recordAt}
+use Rattle.image.specs.Bytes.{numberAt, store}
+use Rattle.image.specs.BytesLaws.{store-then}
+use Rattle.image.specs.Format.{bodyPlace, bodyWord, rulesIn, idAt, recordAt}
 use Rattle.image.specs.Checks.{imageChecks, rulesPut, meant, loadChecks, Sound}
 use Rattle.image.specs.Answers.{loadAnswer, loadTable}
 use Rattle.image.specs.ChecksLaws.{image-law}
@@ -26,6 +27,21 @@ record-at-length w b e k =
     let words = listed (2 * w) (λ j. numberAt b (bodyPlace w e k + j * 8) 8) in
     length-append words ((idAt b k * 4294967296 + numberAt b (bodyPlace w e k + (2 * w * 8 + 4)) 4) ∷ numberAt b (bodyPlace w e k + 2 * w * 8) 4 ∷ [])
     ∙ omega (arith, length-listed (2 * w) (λ j. numberAt b (bodyPlace w e k + j * 8) 8))
+
+-- a record put into a slot, its pattern first and then the two words behind it
+pub record-put : (w : ℕ) (b : List ℕ) (e k : ℕ) (t : List ℕ) (slot : ℕ) {first second : List ℕ} → slot < slots w t
+    → first ≡ store t (slot * recordWords w) (listed (2 * w) (bodyWord b (bodyPlace w e k)))
+    → second ≡ store first (slot * recordWords w + 2 * w)
+    ((idAt b k * 4294967296 + numberAt b (bodyPlace w e k + (2 * w * 8 + 4)) 4) ∷ numberAt b (bodyPlace w e k + 2 * w * 8) 4 ∷ [])
+    → second ≡ putSlot w t slot (recordAt w b e k)
+unfolding recordAt putSlot store
+record-put w b e k t slot h f s =
+    let at = slot * recordWords w in
+    let words = listed (2 * w) (bodyWord b (bodyPlace w e k)) in
+    let rest = (idAt b k * 4294967296 + numberAt b (bodyPlace w e k + (2 * w * 8 + 4)) 4) ∷ numberAt b (bodyPlace w e k + 2 * w * 8) 4 ∷ [] in
+    let size = length-listed (2 * w) (bodyWord b (bodyPlace w e k)) in
+    store-then t at (at + 2 * w) words rest (omega (arith, slot-within w t slot h)) (omega arith) f s
+    ∙ ap (λ (n : ℕ). take at t ++ (words ++ rest) ++ drop (at + n) t) (length-append words rest ∙ omega arith)
 
 -- the working table after every rule of the image is the table meant
 pub meant-built : (w : ℕ) (b : List ℕ) (size : ℕ) {e : ℕ} {working after : List ℕ} → e ≡ rulesIn b → working ≡ replicate size 0

@@ -28,7 +28,7 @@ use Rattle.records.specs.EntriesLaws.{occupied-cong}
 use Rattle.records.specs.PutSlotLaws.{put-length, put-here, put-other}
 use Rattle.image.specs.Bytes.{numberAt, Bytes}
 use Rattle.image.specs.Indices.{indices}
-use Rattle.image.specs.Format.{bodyPlace, rulesIn, idAt, entrySlot, recordAt, holds, ruleCount, ruleSlot}
+use Rattle.image.specs.Format.{bodyPlace, bodyWord, rulesIn, idAt, entrySlot, recordAt, holds, ruleCount, ruleSlot}
 use Rattle.image.specs.Checks.{checkBody, rulesPut, meant, Sound}
 use Rattle.image.specs.LoadLaws.{record-at-length}
 use Rattle.image.specs.BytesLaws.{number-small}
@@ -80,24 +80,27 @@ module _ (w : ℕ) (b : List ℕ) (e k : ℕ) where
           let last : j ≡ 2 * w + 1 = omega arith in
           omega (arith, ap (word (recordAt w b e k)) last, loaded-rank, number-small 4 b (bodyPlace w e k + 2 * w * 8) h)
 
+  -- whether the record is sound is told by the image's own numbers
+  pub body-sound : Bytes b
+      → sound w (word (recordAt w b e k)) ≡ soundParts w (idAt b k) (numberAt b (bodyPlace w e k + 2 * w * 8) 4) (bodyWord b (bodyPlace w e k)) (mask w (bodyWord b (bodyPlace w e k)))
+  unfolding soundParts
+  body-sound h =
+      let x = word (recordAt w b e k) in
+      ap₂ (λ (i p : ℕ). soundParts w i p (value x) (mask w x)) (loaded-ident h) loaded-rank
+      ∙ ap (λ (q : Bool). not (eqb (idAt b k) 0) && leb (numberAt b (bodyPlace w e k + 2 * w * 8) 4) 65535 && q)
+      (within-cong w (λ j l. record-word j (omega arith)) (λ j l. record-word (w + j) (omega arith)))
+
   -- document 01: an unsound value or priority, in a body whose entry has an id
   pub body-law : Bytes b → (idAt b k ≡ 0 → ⊥)
       → (checkBody w b e k ≡ Pass)
-      ↔ ((numberAt b (bodyPlace w e k + 2 * w * 8) 4 ≤ 65535)
-      × Within w (λ j. numberAt b (bodyPlace w e k + j * 8) 8) (λ j. numberAt b (bodyPlace w e k + (w + j) * 8) 8))
-  unfolding checkBody soundParts
+      ↔ ((numberAt b (bodyPlace w e k + 2 * w * 8) 4 ≤ 65535) × Within w (bodyWord b (bodyPlace w e k)) (mask w (bodyWord b (bodyPlace w e k))))
+  unfolding checkBody
   body-law h named =
-      let x = word (recordAt w b e k) in
-      let value-words : Words = λ j. numberAt b (bodyPlace w e k + j * 8) 8 in
-      let mask-words : Words = λ j. numberAt b (bodyPlace w e k + (w + j) * 8) 8 in
-      let priority = numberAt b (bodyPlace w e k + 2 * w * 8) 4 in
-      let same : sound w x ≡ soundParts w (idAt b k) priority value-words mask-words =
-      ap₂ (λ (i p : ℕ). soundParts w i p (value x) (mask w x)) (loaded-ident h) loaded-rank
-      ∙ ap (λ (q : Bool). not (eqb (idAt b k) 0) && leb priority 65535 && q)
-      (within-cong w (λ j l. record-word j (omega arith)) (λ j l. record-word (w + j) (omega arith))) in
-      let law = sound-law w (idAt b k) priority value-words mask-words in (
-        λ p. let s = law .0 (sym same ∙ field-law (sound w x) (bodyPlace w e k) .0 p) in (s .1, s .2),
-        λ f. field-law (sound w x) (bodyPlace w e k) .1 (same ∙ law .1 (named, f .0, f .1)),
+      let same = body-sound h in
+      let law = sound-law w (idAt b k) (numberAt b (bodyPlace w e k + 2 * w * 8) 4) (bodyWord b (bodyPlace w e k)) (mask w (bodyWord b (bodyPlace w e k))) in
+      let right = sound w (word (recordAt w b e k)) in (
+        λ p. let s = law .0 (sym same ∙ field-law right (bodyPlace w e k) .0 p) in (s .1, s .2),
+        λ f. field-law right (bodyPlace w e k) .1 (same ∙ law .1 (named, f .0, f .1)),
       )
 
 -- an image's slots rise

@@ -18,11 +18,13 @@ use Rattle.records.specs.declared.Cause.the-variants.{Short}
 use Rattle.records.specs.declared.Check.{Check}
 use Rattle.records.specs.declared.Check.the-variants.{Pass, Fail}
 use Rattle.records.specs.EntriesLaws.{shaped-slots}
+use Rattle.records.specs.Widths.{Width, checkWidth, leaves}
+use Rattle.records.specs.WidthsLaws.{width-law}
 use Rattle.buffers.specs.Buffers.{checkRoom, bufferAnswer}
 use Rattle.buffers.specs.BuffersLaws.{buffer-accepted, buffer-short, buffer-written}
 use Rattle.image.specs.Format.{imageBytes, ruleCount, imageOf, slotsIn}
 use Rattle.image.specs.Checks.{imageChecks, meant, loadChecks, Sound}
-use Rattle.image.specs.Answers.{saveAnswer, saveBuffer, loadAnswer, loadTable}
+use Rattle.image.specs.Answers.{saveAnswer, saveBuffer, loadAnswer, loadTable, saveCall, saveCallBuffer, loadCall, loadCallTable}
 use Rattle.image.specs.SaveLaws.{save-answer}
 use Rattle.image.specs.LoadLaws.{load-written}
 use Rattle.image.specs.Meaning.{meant-length}
@@ -35,9 +37,9 @@ use Rattle.image.specs.ResavingLaws.{image-back, meant-records, meant-wo
 use Rattle.image.specs.RoundTrip.{Loads}
 
 -- which answers are successes: the number alone tells
-unless-zero : (check : Check) (values : List ℕ) → 0 ≡ unless check (success values) .number → check ≡ Pass
-unless-zero Pass values e = refl
-unless-zero (Fail cause spot) values e = absurd (true≢false (ap (λ (n : ℕ). eqb n 0) e ∙ cause-not-zero cause))
+unless-zero : (check : Check) (answer : Told) → 0 ≡ unless check answer .number → check ≡ Pass
+unless-zero Pass answer e = refl
+unless-zero (Fail cause spot) answer e = absurd (true≢false (ap (λ (n : ℕ). eqb n 0) e ∙ cause-not-zero cause))
 
 -- a save succeeds exactly on a sound table with room for its image, and then tells the image's bytes
 pub save-succeeds : (w : ℕ) (t image : List ℕ) (bytes : ℕ)
@@ -62,7 +64,7 @@ pub save-number : (w : ℕ) (t : List ℕ) (room : ℕ) → 0 ≡ saveAnswer w t
 unfolding bufferAnswer
 save-number w t room e =
     let needed = imageBytes w (ruleCount w t) in
-    ap (λ (check : Check). unless check (success (needed ∷ []))) (unless-zero (orElse (tableChecks w t) (checkRoom needed room)) (needed ∷ []) e)
+    ap (λ (check : Check). unless check (success (needed ∷ []))) (unless-zero (orElse (tableChecks w t) (checkRoom needed room)) (success (needed ∷ [])) e)
 
 -- a load succeeds exactly where the lent table's shape is good, every field of the image is right, and the table meant passes 3 and 4
 pub load-succeeds : (w : ℕ) (b lent : List ℕ)
@@ -75,7 +77,7 @@ load-succeeds w b lent =
     let image = imageChecks w b (slots w lent) in
     let twice = checkTwice w (meant w b (length lent)) in
     let order = checkOrder w (meant w b (length lent)) in (
-      λ told. let halves = or-else-pass (orElse shape image) (orElse twice order) .0 (unless-zero (loadChecks w b lent) [] (sym (ap (λ (x : Told). x .number) told))) in
+      λ told. let halves = or-else-pass (orElse shape image) (orElse twice order) .0 (unless-zero (loadChecks w b lent) (success []) (sym (ap (λ (x : Told). x .number) told))) in
           let fields = or-else-pass shape image .0 (halves .0) in
           let pairs = or-else-pass twice order .0 (halves .1) in
           (fields .0, image-law w b (slots w lent) .0 (fields .1), pairs .0, pairs .1),
@@ -83,9 +85,9 @@ load-succeeds w b lent =
           (sym (or-else-pass twice order .1 (f .2, f .3))) refl .0),
     )
 
--- document 01's tables are narrow enough: an image of two words a value has at most 51,204 bytes
-pub narrow-two : Numbered 2
-narrow-two = omega arith
+-- the widths that there are are narrow enough: an image has at most 51,204 bytes at two words a value, and 100,356 at five
+pub width-numbered : {w : ℕ} → Width w → Numbered w
+width-numbered h = omega arith
 
 -- Demand 2: a saved image loads, into any lent table of as many slots, to the table it was saved from.
 pub saved-loads : (w : ℕ) (t image : List ℕ) (bytes : ℕ) → Numbered w → Words64 t → saveAnswer w t (length image) ≡ success (bytes ∷ [])
@@ -163,3 +165,49 @@ pub one-table : (w : ℕ) (b c lent other : List ℕ) → Bytes b → Bytes c �
     → loadTable w b lent ≡ loadTable w c other → b ≡ c
 one-table w b c lent other left right p q same =
     sym (load-leaves w b lent left p .image) ∙ (ap (imageOf w) same ∙ load-leaves w c other right q .image)
+
+-- Document 02's calls, at any width. One that succeeds is made at a width that there is, and answers and leaves as stated above.
+module _ (w : ℕ) where
+  call-passes : (answer : Told) → 0 ≡ unless (checkWidth w) answer .number → checkWidth w ≡ Pass
+  call-passes answer e = unless-zero (checkWidth w) answer e
+
+  call-answer : checkWidth w ≡ Pass → (answer : Told) → unless (checkWidth w) answer ≡ answer
+  call-answer p answer = ap (λ (check : Check). unless check answer) p
+
+  call-leaves : checkWidth w ≡ Pass → (after before : List ℕ) → leaves (checkWidth w) after before ≡ after
+  call-leaves p after before = ap (λ (check : Check). leaves check after before) p
+
+  -- the number that a save tells is enough
+  pub save-call-number : (t : List ℕ) (room : ℕ) → 0 ≡ saveCall w t room .number → saveCall w t room ≡ success (imageBytes w (ruleCount w t) ∷ [])
+  save-call-number t room e =
+      let p = call-passes (saveAnswer w t room) e in
+      let same = call-answer p (saveAnswer w t room) in
+      same ∙ save-number w t room (e ∙ ap (λ (x : Told). x .number) same)
+
+  -- Demand 2: what a successful save left loads, into any lent table of as many slots, to the table that was saved.
+  pub saved-loads-call : (t image : List ℕ) (bytes : ℕ) → Words64 t → saveCall w t (length image) ≡ success (bytes ∷ [])
+      → (lent : List ℕ) → length lent ≡ length t
+      → (loadCall w (take bytes (saveCallBuffer w t image)) lent ≡ success []) × (loadCallTable w (take bytes (saveCallBuffer w t image)) lent ≡ t)
+  saved-loads-call t image bytes sixty-four e lent size =
+      let p = call-passes (saveAnswer w t (length image)) (sym (ap (λ (x : Told). x .number) e)) in
+      let told = sym (call-answer p (saveAnswer w t (length image))) ∙ e in
+      let loads = saved-loads w t image bytes (width-numbered (width-law w .0 p)) sixty-four told lent size in
+      let saved = take bytes (saveCallBuffer w t image) in
+      let same : saved ≡ take bytes (saveBuffer w t image) = ap (take bytes) (call-leaves p (saveBuffer w t image) image) in (
+        call-answer p (loadAnswer w saved lent) ∙ (ap (λ (b : List ℕ). loadAnswer w b lent) same ∙ loads .0),
+        call-leaves p (loadTable w saved lent) lent ∙ (ap (λ (b : List ℕ). loadTable w b lent) same ∙ loads .1),
+      )
+
+  -- an image that loads is saved again to the same bytes
+  pub loaded-saves-call : (b lent : List ℕ) → Bytes b → loadCall w b lent ≡ success [] → (image : List ℕ) → length b ≤ length image
+      → (saveCall w (loadCallTable w b lent) (length image) ≡ success (length b ∷ []))
+      × (saveCallBuffer w (loadCallTable w b lent) image ≡ b ++ drop (length b) image)
+  loaded-saves-call b lent bytes e image room =
+      let p = call-passes (loadAnswer w b lent) (sym (ap (λ (x : Told). x .number) e)) in
+      let told = sym (call-answer p (loadAnswer w b lent)) ∙ e in
+      let saves = loaded-saves w b lent bytes told image room in
+      let t = loadCallTable w b lent in
+      let same : t ≡ loadTable w b lent = call-leaves p (loadTable w b lent) lent in (
+        call-answer p (saveAnswer w t (length image)) ∙ (ap (λ (u : List ℕ). saveAnswer w u (length image)) same ∙ saves .0),
+        call-leaves p (saveBuffer w t image) image ∙ (ap (λ (u : List ℕ). saveBuffer w u image) same ∙ saves .1),
+      )

@@ -4,7 +4,7 @@ use mathlib.Core.Path.{_≡_, refl, sym, ap, _∙_}
 use mathlib.Core.Bool.{true}
 use mathlib.Core.List.{List, [], _++_}
 use Prim.Native.Nat.{ℕ, suc, _+_, _*_, _≤_, _<_}
-use native.Mathlib.Nat.{mul-add, suc-mul, zero-add, mul-le-mul-right}
+use native.Mathlib.Nat.{mul-add, suc-mul, zero-add, mul-le-mul-left, mul-le-mul-right}
 use native.Mathlib.Omega.{arith}
 use lib.ListN.{length, drop, length-append}
 use Rattle.ternary.specs.Pattern.{Words}
@@ -73,6 +73,10 @@ image-bytes w e = omega (arith, mul-add e 10 (bodyBytes w))
 -- a body lies within its image
 pub body-within : (w e k : ℕ) → k < e → bodyPlace w e k + bodyBytes w ≤ imageBytes w e
 body-within w e k h = omega (arith, image-bytes w e, mul-le-mul-right (bodyBytes w) h, suc-mul k (bodyBytes w))
+
+-- a rule takes at most 98 bytes at the widths that there are, so that offsets are small
+pub image-small : (w e : ℕ) → w ≤ 5 → imageBytes w e ≤ 4 + e * 98
+image-small w e h = let each : 10 + bodyBytes w ≤ 98 = omega arith in omega (arith, mul-le-mul-left e each)
 
 module _ (w : ℕ) (t : List ℕ) where
   e : ℕ

@@ -9,14 +9,14 @@ use Rattle.plan_words.specs.PlanWords.{emptying}
 use Rattle.records.specs.Record.{recordOf}
 use Rattle.records.specs.Order.{slots}
 use Rattle.records.specs.Checks.{Told}
-use Rattle.records.specs.Laws.{slot-checks-law, table-checks-law}
 use Rattle.records.specs.Entries.{vacant, entries, entryOccupied, entrySame, entryMisordered}
 use Rattle.records.specs.Inserts.{insertChoiceOf}
 use Rattle.records.specs.declared.Rule.{Rule}
 use Rattle.records.specs.declared.Check.the-variants.{Pass}
-use Rattle.records.specs.EntriesLaws.{entries-length, shaped-slots}
+use Rattle.records.specs.EntriesLaws.{entries-length}
 use Rattle.records.specs.InsertsLaws.{ValidPlan, plan-words-count, plan-words-class, plan-words-between, plan-words-placed, plan-words-least}
 use Rattle.buffers.specs.BuffersLaws.{buffer-written}
+use Rattle.table_checks.specs.SlotsLaws.{table-few}
 use Rattle.neighbours.specs.Neighbours.{insertChecks}
 use Rattle.insert_plans.specs.Insertable.{Insertable}
 use Rattle.insert_plans.specs.Inserts.{insertWords, insertAnswer, insertPlan}
@@ -39,7 +39,7 @@ demand-3 w t rule small insertable plan = record { needed = count; few = omega (
     valid = best .valid
 
     low : slots w t ≤ emptying
-    low = omega (arith, shaped-slots w t (slot-checks-law w t .0 (table-checks-law w t .0 (insertable .table) .0) .0) .1)
+    low = omega (arith, table-few w t (insertable .table))
 
     count : length (insertWords w t rule) ≡ suc (insertChoiceOf w t rule .cost)
     count = plan-words-count w t rule low (insertChoiceOf w t rule) valid

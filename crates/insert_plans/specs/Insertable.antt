@@ -4,9 +4,11 @@ use mathlib.Core.Bool.{true, false}
 use mathlib.Core.List.{List}
 use Prim.Native.Nat.{ℕ, _<_}
 use Rattle.ternary.specs.Pattern.{Words}
-use Rattle.records.specs.Record.{word, slotWords, empty, soundRule, recordOf}
+use lib.ListN.{length}
+use Rattle.records.specs.Record.{word, recordWords, slotWords, empty, soundRule, recordOf, ruleOf}
 use Rattle.records.specs.Order.{slots, precedes}
 use Rattle.records.specs.Checks.{tableChecks}
+use Rattle.records.specs.Widths.{Width}
 use Rattle.records.specs.Inserts.{Untied, IdNew}
 use Rattle.records.specs.declared.Rule.{Rule}
 use Rattle.records.specs.declared.Check.the-variants.{Pass}
@@ -25,6 +27,12 @@ pub record Insertable (w : ℕ) (t : List ℕ) (rule : Rule) : Type 0 where
   pub untied : Untied w t rule
   pub room : (e : ℕ) × (e < slots w t) × (empty w (slotWords w t e) ≡ true)
   pub uncrossed : Uncrossed w t (word (recordOf w rule))
+
+-- document 02: the same of a rule as it is lent with a call: the width is 2 or 5, and the rule a record of so many words
+pub record InsertableCall (w : ℕ) (t rule : List ℕ) : Type 0 where
+  pub width : Width w
+  pub words : length rule ≡ recordWords w
+  pub insertable : Insertable w t (ruleOf w (word rule))
 
 -- document 01: a is A, the highest slot holding a rule that precedes the new one, and in some slot before it a rule depends on the new one
 pub record CrossedAt (w : ℕ) (t : List ℕ) (new : Words) (a : ℕ) : Type 0 where

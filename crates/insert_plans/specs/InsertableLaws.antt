@@ -1,21 +1,20 @@
 -- End theorems on the checks of an insert: they pass exactly when it is insertable, and what 10 says when it fails.
-use mathlib.Core.Path.{_≡_, sym, ap, _∙_, fun-ext, subst}
+use mathlib.Core.Path.{_≡_, sym, ap, _∙_, subst}
 use mathlib.Core.Bool.{true, true≢false}
 use mathlib.Core.Logic.{_↔_}
 use mathlib.Core.List.{List}
 use Prim.Native.Nat.{ℕ, suc, _+_, _-_, _≤_, _<_}
-use native.Mathlib.Nat.{zero-mul, zero-add}
 use native.Mathlib.Decide.{decLt}
 use native.Mathlib.Omega.{arith}
-use lib.ListN.{getD}
 use borrow.Author.Tests.{ltb-false}
 use Rattle.search.specs.Search.{any, Least, AfterLast}
 use Rattle.search.specs.SearchLaws.{any-yes, least-law, after-last-law, after-last-unique}
 use Rattle.ternary.specs.Pattern.{Words}
-use Rattle.records.specs.Record.{word, recordWords, slotWords, empty, soundRule, recordOf}
+use Rattle.records.specs.Record.{word, slotWords, empty, soundRule, recordOf}
 use Rattle.records.specs.Order.{slots, sameId, tied, precedes}
 use Rattle.records.specs.Checks.{orElse, tableChecks}
 use Rattle.records.specs.Laws.{or-else-pass, lowest-pass, pass-law, cond-pass, precedes-law}
+use Rattle.records.specs.WidthsLaws.{lent-words}
 use Rattle.records.specs.declared.Rule.{Rule}
 use Rattle.records.specs.declared.Cause.the-variants.{Rule as RuleCause, Known, Tie, Full, Crossed}
 use Rattle.records.specs.declared.Check.the-variants.{Pass, Fail}
@@ -23,9 +22,9 @@ use Rattle.neighbours.specs.Neighbours.{checkRule, checkKnown, checkTie, checkF
 use Rattle.neighbours.specs.NeighboursLaws.{room-at, crossed-yes, crossed-no}
 use Rattle.insert_plans.specs.Insertable.{CrossedAt, Insertable, Uncrossed}
 
--- a rule as a table of one slot has its record's words
+-- a rule has its record's words
 pub rule-words : (w : ℕ) (rule : Rule) → ruleWords w rule ≡ word (recordOf w rule)
-rule-words w rule = fun-ext (λ j. ap (λ (k : ℕ). getD (recordOf w rule) k 0) (ap (λ (k : ℕ). k + j) (zero-mul (recordWords w)) ∙ zero-add j))
+rule-words w rule = lent-words w (recordOf w rule)
 
 -- what A + 1 and B are
 pub after-a-law : (w : ℕ) (t : List ℕ) (new : Words) → AfterLast (λ (i : ℕ). precedes w (slotWords w t i) new) (slots w t) (afterA w t new)

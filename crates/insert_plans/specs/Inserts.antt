@@ -7,8 +7,9 @@ use Prim.Native.Nat.{ℕ, _+_, _-_, _<_}
 use lib.ListN.{length}
 use Rattle.ternary.specs.Pattern.{Words}
 use Rattle.layout.specs.Plan.{Choice, choose}
-use Rattle.records.specs.Order.{slots}
-use Rattle.records.specs.Checks.{Told}
+use Rattle.records.specs.Record.{word, ruleOf}
+use Rattle.records.specs.Checks.{Told, unless}
+use Rattle.records.specs.Widths.{checkRule, leaves}
 use Rattle.records.specs.Entries.{vacant, entries, entryOccupied, entryMisordered}
 use Rattle.records.specs.Inserts.{insertChoiceOf, planWords}
 use Rattle.records.specs.declared.Rule.{Rule}
@@ -30,6 +31,13 @@ insertAnswer w t rule room = bufferAnswer (insertChecks w t rule) (length (inser
 abbrev pub insertPlan : ℕ → List ℕ → Rule → List ℕ → List ℕ
 insertPlan w t rule plan = bufferAfter (insertChecks w t rule) (insertWords w t rule) plan
 
+-- document 02: the call, on a rule as it is lent, a record; another width or another number of words is 1
+abbrev pub insertCall : ℕ → List ℕ → List ℕ → ℕ → Told
+insertCall w t rule room = unless (checkRule w (length rule)) (insertAnswer w t (ruleOf w (word rule)) room)
+
+abbrev pub insertCallPlan : ℕ → List ℕ → List ℕ → List ℕ → List ℕ
+insertCallPlan w t rule plan = leaves (checkRule w (length rule)) (insertPlan w t (ruleOf w (word rule)) plan) plan
+
 -- the layout's choice between A and B, by A + 1 and B
 unfoldable pub choiceBetween : ℕ → List ℕ → ℕ → ℕ → Choice
 choiceBetween w t after dependant =
@@ -40,8 +48,8 @@ choiceBetween w t after dependant =
 abbrev pub recordChoice : ℕ → List ℕ → Words → Choice
 recordChoice w t new = choiceBetween w t (afterA w t new) (slotB w t new)
 
--- a choice in numbers that is a layout's: its cost is finite, its walk stays among the slots, and its words are the plan's
-pub record Joined (w : ℕ) (t : List ℕ) (planned : Choice) (down up : List ℕ) (choice : PositionChoice) : Type 0 where
-  pub finite : choice .cost < slots w t
-  pub stays : Stays (costOf (cond (choice .up) up down)) (slots w t) (choice .position) (choice .cost)
-  pub words : choiceWords (costOf (cond (choice .up) up down)) (slots w t) choice ≡ planWords planned
+-- a choice in numbers, of n slots, that is a layout's: its cost is finite, its walk stays among the slots, and its words are the plan's
+pub record Joined (n : ℕ) (planned : Choice) (down up : List ℕ) (choice : PositionChoice) : Type 0 where
+  pub finite : choice .cost < n
+  pub stays : Stays (costOf (cond (choice .up) up down)) n (choice .position) (choice .cost)
+  pub words : choiceWords (costOf (cond (choice .up) up down)) n choice ≡ planWords planned

@@ -9,7 +9,7 @@ use Rattle.search.specs.Search.{least, afterLast}
 use Rattle.ternary.specs.Pattern.{Words}
 use Rattle.layout.specs.Plan.{Choice, Range, afterPreceding, firstDependant, rangeDown, rangeUp, choose, insertChoice}
 use Rattle.layout.specs.Insert.{LeastPlan}
-use Rattle.records.specs.Record.{slotWords, soundRule, recordOf, listed}
+use Rattle.records.specs.Record.{word, recordWords, slotWords, sound, soundRule, recordOf, ruleOf, listed}
 use Rattle.records.specs.Order.{slots, precedes}
 use Rattle.records.specs.Checks.{success, refusal, tableChecks}
 use Rattle.records.specs.Laws.{passed, sound-law, table-checks-law}
@@ -19,6 +19,8 @@ use Rattle.records.specs.declared.Rule.{Rule}
 use Rattle.records.specs.declared.Cause.the-variants.{Short}
 use Rattle.records.specs.declared.Check.{Check}
 use Rattle.records.specs.declared.Check.the-variants.{Pass, Fail}
+use Rattle.records.specs.RulesLaws.{rule-sound, given-record}
+use Rattle.records.specs.WidthsLaws.{lent-words}
 use Rattle.records.specs.EntriesLaws.{entries-length}
 use Rattle.records.specs.InsertsLaws.{newMisordered, misorderedNew, uncrossed-apart, insert-words, after-preceding-precedes, first-dependant-precedes}
 use Rattle.records.specs.InsertsLaws.{after-preceding-slots, first-dependant-slots}
@@ -37,7 +39,7 @@ use Rattle.insert_plans.specs.Insertable.{Insertable}
 use Rattle.insert_plans.specs.Joined.{Costed}
 use Rattle.insert_plans.specs.InsertableLaws.{insertable-law, rule-words, uncrossed-numbers}
 use Rattle.insert_plans.specs.JoinedLaws.{ends-listed, ends-down as ends-down-law, ends-up as ends-up-law}
-use Rattle.insert_plans.specs.Inserts.{insertWords, choiceBetween, recordChoice, Joined}
+use Rattle.insert_plans.specs.Inserts.{insertWords, insertAnswer, insertPlan, choiceBetween, recordChoice, Joined}
 
 module _ (w : ℕ) (t : List ℕ) (rule : Rule) (p : Insertable w t rule) where
   -- A + 1 and B of the table are those of its layout
@@ -110,28 +112,30 @@ cond-costs true u d = refl
 cond-costs false u d = refl
 
 -- where the choice between two numbers has a finite cost, costs of both directions are all that the planner needs to find it
-pub choice-joined : (w : ℕ) (t : List ℕ) (after dependant : ℕ) → choiceBetween w t after dependant .cost < slots w t → (down up : List ℕ)
+pub choice-joined : (w : ℕ) (t : List ℕ) (n after dependant : ℕ) → n ≡ slots w t → choiceBetween w t after dependant .cost < n → (down up : List ℕ)
     → Costed w t false down → Costed w t true up → (choice : PositionChoice)
-    → choice ≡ choiceOf (costOf down) (costOf up) (slots w t) (record { from = after; to = dependant + 1 }) (record { from = after - 1; to = dependant })
-    → Joined w t (choiceBetween w t after dependant) down up choice
+    → choice ≡ choiceOf (costOf down) (costOf up) n (record { from = after; to = dependant + 1 }) (record { from = after - 1; to = dependant })
+    → Joined n (choiceBetween w t after dependant) down up choice
 unfolding choiceBetween
-choice-joined w t after dependant low down up g h choice f = record {
+choice-joined w t n after dependant same low down up g h choice f = record {
   finite = omega (arith, agrees .cost);
   stays = emits .stays;
   words = plan-law emits;
 }
   where
-    agrees : Agrees (slots w t) (costOf down) (costOf up) choice (choiceBetween w t after dependant)
+    agrees : Agrees n (costOf down) (costOf up) choice (choiceBetween w t after dependant)
     agrees =
-        subst (λ (c : PositionChoice). Agrees (slots w t) (costOf down) (costOf up) c (choiceBetween w t after dependant)) (sym f)
+        subst (λ (c : PositionChoice). Agrees n (costOf down) (costOf up) c (choiceBetween w t after dependant)) (sym f)
+        (subst (λ (k : ℕ). Agrees k (costOf down) (costOf up)
+        (choiceOf (costOf down) (costOf up) k (record { from = after; to = dependant + 1 }) (record { from = after - 1; to = dependant }))
+        (choiceBetween w t after dependant)) (sym same)
         (numbers-law (vacant w) (entryOccupied w) (entryMisordered w) (entries w t) (slots w t) (entries-length w t) (listed (slots w t) (endAt w t false))
         (listed (slots w t) (endAt w t true)) (costOf down) (costOf up) (ends-down-law w t (listed (slots w t) (endAt w t false)) (ends-listed w t false))
         (ends-up-law w t (listed (slots w t) (endAt w t true)) (ends-listed w t true)) g h (record { from = after; to = dependant + 1 })
-        (record { from = after - 1; to = dependant }))
+        (record { from = after - 1; to = dependant })))
 
-    emits : Emits (costOf (cond (choice .up) up down)) (slots w t) choice (choiceBetween w t after dependant)
-    emits =
-        subst (λ (c : ℕ → ℕ). Emits c (slots w t) choice (choiceBetween w t after dependant)) (cond-costs (choice .up) up down) (agrees .finite low)
+    emits : Emits (costOf (cond (choice .up) up down)) n choice (choiceBetween w t after dependant)
+    emits = subst (λ (c : ℕ → ℕ). Emits c n choice (choiceBetween w t after dependant)) (cond-costs (choice .up) up down) (agrees .finite low)
 
 -- where a check fails the contents do not matter
 buffer-same : (check : Check) (x y buffer : List ℕ) → (check ≡ Pass → x ≡ y)
@@ -167,3 +171,35 @@ module _ (w : ℕ) (t : List ℕ) (rule : Rule) (checks : tableChecks w t ≡ Pa
         same .0 ∙ ap (λ (k : Check). bufferAnswer k (length (insertWords w t rule)) (length plan)) left-checks,
         same .1 ∙ ap (λ (k : Check). bufferAfter k (insertWords w t rule) plan) left-checks,
       )
+
+-- a rule lent as a record: it is sound as the record is, and its action has 32 bits
+pub lent-sound : (w : ℕ) (lent : List ℕ) → soundRule w (ruleOf w (word lent)) ≡ sound w (slotWords w lent 0)
+lent-sound w lent = rule-sound w (word lent) ∙ ap (sound w) (sym (lent-words w lent))
+
+pub lent-action : (w : ℕ) (x : Words) → ruleOf w x .action < 4294967296
+unfolding ruleOf
+lent-action w x = omega arith
+
+-- where it is sound, the same of its record's words
+module _ (w : ℕ) (t lent : List ℕ) (checks : tableChecks w t ≡ Pass) (size : length lent ≡ recordWords w)
+    (sound : soundRule w (ruleOf w (word lent)) ≡ true) where
+  given : recordOf w (ruleOf w (word lent)) ≡ lent
+  given = given-record w lent size (sym (rule-sound w (word lent)) ∙ sound)
+
+  pub lent-finite : newChecks w t (slotWords w lent 0) ≡ Pass → recordChoice w t (slotWords w lent 0) .cost < slots w t
+  lent-finite =
+      subst (λ (l : List ℕ). newChecks w t (slotWords w l 0) ≡ Pass → recordChoice w t (slotWords w l 0) .cost < slots w t) given
+      (insert-finite w t (ruleOf w (word lent)) checks sound (lent-action w (word lent)))
+
+  pub lent-answered : (plan : List ℕ)
+      → (bufferAnswer (newChecks w t (slotWords w lent 0)) (length (planWords (recordChoice w t (slotWords w lent 0)))) (length plan)
+      ≡ insertAnswer w t (ruleOf w (word lent)) (length plan))
+      × (bufferAfter (newChecks w t (slotWords w lent 0)) (planWords (recordChoice w t (slotWords w lent 0))) plan
+      ≡ insertPlan w t (ruleOf w (word lent)) plan)
+  lent-answered plan =
+      subst (λ (l : List ℕ).
+      (bufferAnswer (newChecks w t (slotWords w l 0)) (length (planWords (recordChoice w t (slotWords w l 0)))) (length plan)
+      ≡ insertAnswer w t (ruleOf w (word lent)) (length plan))
+      × (bufferAfter (newChecks w t (slotWords w l 0)) (planWords (recordChoice w t (slotWords w l 0))) plan
+      ≡ insertPlan w t (ruleOf w (word lent)) plan)) given
+      (insert-answered w t (ruleOf w (word lent)) checks sound plan)

@@ -1,4 +1,5 @@
 -- Document 01, "Tables at the edge": the ten items marked to be proved, as one list, with what the planning calls promise on them.
+use mathlib.Core.Path.{_≡_}
 use mathlib.Core.List.{List, [], _∷_, _++_, map}
 use Prim.Native.Nat.{ℕ, _+_, _*_, _/_}
 use lib.ListN.{length}
@@ -13,17 +14,18 @@ use Rattle.layout.specs.Write.{moves}
 use Rattle.layout.specs.Plan.{downCost, upCost, downChain, upChain, bestDown, bestUp, slotDown, slotUp, choose, afterPreceding, firstDependant}
 use Rattle.layout.specs.Plan.{insertChoice}
 use Rattle.plan_words.specs.PlanWords.{writeOf}
-use Rattle.records.specs.Record.{listed, empty, soundParts, recordOf, word, putSlot}
+use Rattle.records.specs.Record.{listed, empty, soundParts, recordOf, ruleOf, word, putSlot}
 use Rattle.records.specs.Order.{distinct, precedes, tied, sameId, misordered}
 use Rattle.records.specs.Checks.{Told, lowest, shaped, checkShape, unsoundAt, checkRecords, twiceAt, checkTwice, disorderAt, checkOrder, slotChecks}
 use Rattle.records.specs.Checks.{tableChecks}
-use Rattle.records.specs.Entries.{entries}
+use Rattle.records.specs.Widths.{known, checkWidth, checkWords, checkRule as checkLent}
+use Rattle.records.specs.Entries.{vacant, entries}
 use Rattle.records.specs.declared.Rule.{Rule}
 use Rattle.records.specs.Writes.{applyWords}
 use Rattle.buffers.specs.Buffers.{checkRoom, bufferAnswer, bufferAfter}
 use Rattle.neighbours.specs.Neighbours.{checkRule, checkKnown, checkTie, checkFull, afterA, slotB, checkCrossed, newChecks, insertChecks}
-use Rattle.delete_plans.specs.Deletes.{hasId, slotOfId, checkId, checkUnknown, deleteChecks, deleteAnswer, deletePlan}
-use Rattle.insert_plans.specs.Inserts.{insertAnswer, insertPlan, insertWords}
+use Rattle.delete_plans.specs.Deletes.{hasId, slotOfId, checkId, checkUnknown, deleteChecks, deleteAnswer, deletePlan, deleteCall, deleteCallPlan}
+use Rattle.insert_plans.specs.Inserts.{insertAnswer, insertPlan, insertCall, insertCallPlan, insertWords}
 
 -- a pattern, highest bit first: a bit that must be 0, one that must be 1, one not cared for
 pub data Symbol : Type 0 where
@@ -44,23 +46,6 @@ maskFrom bit (nought ∷ rest) = bit + maskFrom (bit / 2) rest
 maskFrom bit (one ∷ rest) = bit + maskFrom (bit / 2) rest
 maskFrom bit (star ∷ rest) = maskFrom (bit / 2) rest
 
--- a rule as the script's lines give it; the pattern's first bit is the highest of the high word, and the low word is not cared for
-unfoldable pub line : ℕ → ℕ → List Symbol → ℕ → Rule
-line id priority pattern action = record {
-  id = id;
-  priority = priority;
-  value = valueFrom 9223372036854775808 pattern ∷ 0 ∷ [];
-  mask = maskFrom 9223372036854775808 pattern ∷ 0 ∷ [];
-  action = action;
-}
-
--- a slot that holds a rule, and an empty one: tables are these, one after the other
-abbrev pub held : Rule → List ℕ
-held rule = recordOf 2 rule
-
-abbrev pub vacancy : List ℕ
-vacancy = 0 ∷ 0 ∷ 0 ∷ 0 ∷ 0 ∷ 0 ∷ []
-
 -- plan words, as document 01 has them: from × 65,536 + to, and from 65,535 for the new rule
 abbrev pub moved : ℕ → ℕ → ℕ
 moved from to = from * 65536 + to
@@ -78,10 +63,15 @@ pub record Result : Type 0 where
   pub answer : Told
   pub buffer : List ℕ
 
--- as the contracts of plan_insert and plan_delete have it
-abbrev pub result : List ℕ → Asked → List ℕ → Result
-result t (inserting rule) plan = record { answer = insertAnswer 2 t rule (length plan); buffer = insertPlan 2 t rule plan }
-result t (deleting id) plan = record { answer = deleteAnswer 2 t id (length plan); buffer = deletePlan 2 t id plan }
+-- by the definitions, w being the number of words of a value
+abbrev pub result : ℕ → List ℕ → Asked → List ℕ → Result
+result w t (inserting rule) plan = record { answer = insertAnswer w t rule (length plan); buffer = insertPlan w t rule plan }
+result w t (deleting id) plan = record { answer = deleteAnswer w t id (length plan); buffer = deletePlan w t id plan }
+
+-- as the contracts of plan_insert and plan_delete have it: a rule is lent as its record, and a width that there is not is 1
+abbrev pub called : ℕ → List ℕ → Asked → List ℕ → Result
+called w t (inserting rule) plan = record { answer = insertCall w t (recordOf w rule) (length plan); buffer = insertCallPlan w t (recordOf w rule) plan }
+called w t (deleting id) plan = record { answer = deleteCall w t id (length plan); buffer = deleteCallPlan w t id plan }
 
 -- as document 01 has it: so many words and the buffer, or a refusal's number and spot and the buffer
 abbrev pub planned : ℕ → List ℕ → Result
@@ -97,106 +87,136 @@ pub record Item : Type 0 where
   pub buffer : List ℕ
   pub expected : Result
 
-unfoldable pub resultOf : Item → Result
+unfoldable pub resultOf : ℕ → Item → Result
 unfolding all any least afterLast agree inside both overlaps within minimum lowestOf highestOf windowEnd costs nextSlot steps moves downCost upCost downChain upChain bestDown bestUp slotDown slotUp choose afterPreceding firstDependant insertChoice listed empty soundParts recordOf distinct precedes tied sameId misordered entries lowest shaped checkShape unsoundAt checkRecords twiceAt checkTwice disorderAt checkOrder slotChecks tableChecks checkRoom bufferAnswer bufferAfter checkRule checkKnown checkTie checkFull afterA slotB checkCrossed newChecks insertChecks hasId slotOfId checkId checkUnknown deleteChecks
-resultOf item = result (item .table) (item .asked) (item .buffer)
+resultOf w item = result w (item .table) (item .asked) (item .buffer)
+
+unfoldable pub calledOf : ℕ → Item → Result
+unfolding resultOf known checkWidth checkWords checkLent ruleOf
+calledOf w item = called w (item .table) (item .asked) (item .buffer)
 
 unfoldable pub expected : Item → Result
 expected item = item .expected
 
--- the rules of the script, by their ids
-unfoldable pub rule1 : Rule
-rule1 = line 1 30 (one ∷ one ∷ star ∷ []) 7
+-- rules, tables and the list
+module _ (w : ℕ) where
+  -- a rule as the script's lines give it; the pattern's first bit is the highest of the first word, and no other word is cared for
+  unfoldable pub line : ℕ → ℕ → List Symbol → ℕ → Rule
+  line id priority pattern action = record {
+    id = id;
+    priority = priority;
+    value = listed w (word (valueFrom 9223372036854775808 pattern ∷ []));
+    mask = listed w (word (maskFrom 9223372036854775808 pattern ∷ []));
+    action = action;
+  }
 
-unfoldable pub rule2 : Rule
-rule2 = line 2 20 (one ∷ []) 8
+  -- a slot that holds a rule, and an empty one: tables are these, one after the other
+  abbrev pub held : Rule → List ℕ
+  held rule = recordOf w rule
 
-unfoldable pub rule3 : Rule
-rule3 = line 3 25 (one ∷ star ∷ one ∷ []) 9
+  abbrev pub vacancy : List ℕ
+  vacancy = vacant w
 
-unfoldable pub rule4 : Rule
-rule4 = line 4 25 (one ∷ one ∷ one ∷ []) 9
+  -- the rules of the script, by their ids
+  unfoldable pub rule1 : Rule
+  rule1 = line 1 30 (one ∷ one ∷ star ∷ []) 7
 
-unfoldable pub rule5 : Rule
-rule5 = line 5 10 (nought ∷ nought ∷ []) 1
+  unfoldable pub rule2 : Rule
+  rule2 = line 2 20 (one ∷ []) 8
 
-unfoldable pub rule6 : Rule
-rule6 = line 6 40 (nought ∷ one ∷ []) 2
+  unfoldable pub rule3 : Rule
+  rule3 = line 3 25 (one ∷ star ∷ one ∷ []) 9
 
-unfoldable pub rule7 : Rule
-rule7 = line 7 20 (nought ∷ []) 3
+  unfoldable pub rule4 : Rule
+  rule4 = line 4 25 (one ∷ one ∷ one ∷ []) 9
 
--- the script's table before its third insert, after it, and before the crossing
-unfoldable pub before-third : List ℕ
-before-third = held rule1 ++ held rule2 ++ vacancy ++ vacancy ++ vacancy ++ vacancy
+  unfoldable pub rule5 : Rule
+  rule5 = line 5 10 (nought ∷ nought ∷ []) 1
 
-unfoldable pub after-third : List ℕ
-after-third = held rule1 ++ held rule3 ++ held rule2 ++ vacancy ++ vacancy ++ vacancy
+  unfoldable pub rule6 : Rule
+  rule6 = line 6 40 (nought ∷ one ∷ []) 2
 
-unfoldable pub before-crossing : List ℕ
-before-crossing = held rule1 ++ held rule3 ++ held rule2 ++ held rule5 ++ held rule6 ++ vacancy
+  unfoldable pub rule7 : Rule
+  rule7 = line 7 20 (nought ∷ []) 3
 
--- the rules of the five-slot table: c depends on a, d on c, a on the new rule, and no others overlap
-unfoldable pub rule-a : Rule
-rule-a = line 11 30 (one ∷ one ∷ []) 1
+  -- the script's table before its third insert, after it, and before the crossing
+  unfoldable pub before-third : List ℕ
+  before-third = held rule1 ++ held rule2 ++ vacancy ++ vacancy ++ vacancy ++ vacancy
 
-unfoldable pub rule-other : Rule
-rule-other = line 12 30 (nought ∷ []) 2
+  unfoldable pub after-third : List ℕ
+  after-third = held rule1 ++ held rule3 ++ held rule2 ++ vacancy ++ vacancy ++ vacancy
 
-unfoldable pub rule-c : Rule
-rule-c = line 13 20 (one ∷ star ∷ one ∷ []) 3
+  unfoldable pub before-crossing : List ℕ
+  before-crossing = held rule1 ++ held rule3 ++ held rule2 ++ held rule5 ++ held rule6 ++ vacancy
 
-unfoldable pub rule-d : Rule
-rule-d = line 14 10 (one ∷ nought ∷ []) 4
+  -- the rules of the five-slot table: c depends on a, d on c, a on the new rule, and no others overlap
+  unfoldable pub rule-a : Rule
+  rule-a = line 11 30 (one ∷ one ∷ []) 1
 
-unfoldable pub rule-new : Rule
-rule-new = line 15 40 (one ∷ one ∷ nought ∷ []) 5
+  unfoldable pub rule-other : Rule
+  rule-other = line 12 30 (nought ∷ []) 2
 
-unfoldable pub items : List Item
-items =
-    -- one empty slot: one write, to 0
-    record { table = vacancy; asked = inserting rule1; buffer = 801 ∷ 802 ∷ []; expected = planned 1 (new 0 ∷ 802 ∷ []) }
-    -- one slot, occupied, a sound rule of new id that ties with nothing: 9
-    ∷ record { table = held rule1; asked = inserting rule3; buffer = 801 ∷ 802 ∷ []; expected = declined 9 0 (801 ∷ 802 ∷ []) }
-    -- the third insert of the script
-    ∷ record { table = before-third; asked = inserting rule3; buffer = 801 ∷ 802 ∷ 803 ∷ []; expected = planned 2 (moved 1 2 ∷ new 1 ∷ 803 ∷ []) }
-    -- its tie
-    ∷ record { table = after-third; asked = inserting rule4; buffer = 801 ∷ 802 ∷ []; expected = declined 8 1 (801 ∷ 802 ∷ []) }
-    -- its crossing
-    ∷ record { table = before-crossing; asked = inserting rule7; buffer = 801 ∷ 802 ∷ []; expected = declined 10 4 (801 ∷ 802 ∷ []) }
-    -- slots 0 a, 1 other, 2 c, 3 d, 4 empty; the new rule before a: 1→4, 0→1, new→0
-    ∷ record {
-      table = held rule-a ++ held rule-other ++ held rule-c ++ held rule-d ++ vacancy;
-      asked = inserting rule-new;
-      buffer = 801 ∷ 802 ∷ 803 ∷ 804 ∷ 805 ∷ [];
-      expected = planned 3 (moved 1 4 ∷ moved 0 1 ∷ new 0 ∷ 804 ∷ 805 ∷ []);
-    }
-    -- 0 empty, 1 a, 2 b, b depends on a; new between: 1→0, new→1; a, b and new are the rules 1, 2 and 3 of the script
-    ∷ record {
-      table = vacancy ++ held rule1 ++ held rule2;
-      asked = inserting rule3;
-      buffer = 801 ∷ 802 ∷ 803 ∷ [];
-      expected = planned 2 (moved 1 0 ∷ new 1 ∷ 803 ∷ []);
-    }
-    -- with slot 3 empty too: 2→3, new→2
-    ∷ record {
-      table = vacancy ++ held rule1 ++ held rule2 ++ vacancy;
-      asked = inserting rule3;
-      buffer = 801 ∷ 802 ∷ 803 ∷ [];
-      expected = planned 2 (moved 2 3 ∷ new 2 ∷ 803 ∷ []);
-    }
-    -- a plan of two in a one-word buffer: 11, spot 2
-    ∷ record { table = before-third; asked = inserting rule3; buffer = 801 ∷ []; expected = declined 11 2 (801 ∷ []) }
-    -- delete of an absent id: 7
-    ∷ record { table = before-third; asked = deleting 3; buffer = 801 ∷ 802 ∷ []; expected = declined 7 0 (801 ∷ 802 ∷ []) }
-    ∷ []
+  unfoldable pub rule-c : Rule
+  rule-c = line 13 20 (one ∷ star ∷ one ∷ []) 3
+
+  unfoldable pub rule-d : Rule
+  rule-d = line 14 10 (one ∷ nought ∷ []) 4
+
+  unfoldable pub rule-new : Rule
+  rule-new = line 15 40 (one ∷ one ∷ nought ∷ []) 5
+
+  unfoldable pub items : List Item
+  items =
+      -- one empty slot: one write, to 0
+      record { table = vacancy; asked = inserting rule1; buffer = 801 ∷ 802 ∷ []; expected = planned 1 (new 0 ∷ 802 ∷ []) }
+      -- one slot, occupied, a sound rule of new id that ties with nothing: 9
+      ∷ record { table = held rule1; asked = inserting rule3; buffer = 801 ∷ 802 ∷ []; expected = declined 9 0 (801 ∷ 802 ∷ []) }
+      -- the third insert of the script
+      ∷ record { table = before-third; asked = inserting rule3; buffer = 801 ∷ 802 ∷ 803 ∷ []; expected = planned 2 (moved 1 2 ∷ new 1 ∷ 803 ∷ []) }
+      -- its tie
+      ∷ record { table = after-third; asked = inserting rule4; buffer = 801 ∷ 802 ∷ []; expected = declined 8 1 (801 ∷ 802 ∷ []) }
+      -- its crossing
+      ∷ record { table = before-crossing; asked = inserting rule7; buffer = 801 ∷ 802 ∷ []; expected = declined 10 4 (801 ∷ 802 ∷ []) }
+      -- slots 0 a, 1 other, 2 c, 3 d, 4 empty; the new rule before a: 1→4, 0→1, new→0
+      ∷ record {
+        table = held rule-a ++ held rule-other ++ held rule-c ++ held rule-d ++ vacancy;
+        asked = inserting rule-new;
+        buffer = 801 ∷ 802 ∷ 803 ∷ 804 ∷ 805 ∷ [];
+        expected = planned 3 (moved 1 4 ∷ moved 0 1 ∷ new 0 ∷ 804 ∷ 805 ∷ []);
+      }
+      -- 0 empty, 1 a, 2 b, b depends on a; new between: 1→0, new→1; a, b and new are the rules 1, 2 and 3 of the script
+      ∷ record {
+        table = vacancy ++ held rule1 ++ held rule2;
+        asked = inserting rule3;
+        buffer = 801 ∷ 802 ∷ 803 ∷ [];
+        expected = planned 2 (moved 1 0 ∷ new 1 ∷ 803 ∷ []);
+      }
+      -- with slot 3 empty too: 2→3, new→2
+      ∷ record {
+        table = vacancy ++ held rule1 ++ held rule2 ++ vacancy;
+        asked = inserting rule3;
+        buffer = 801 ∷ 802 ∷ 803 ∷ [];
+        expected = planned 2 (moved 2 3 ∷ new 2 ∷ 803 ∷ []);
+      }
+      -- a plan of two in a one-word buffer: 11, spot 2
+      ∷ record { table = before-third; asked = inserting rule3; buffer = 801 ∷ []; expected = declined 11 2 (801 ∷ []) }
+      -- delete of an absent id: 7
+      ∷ record { table = before-third; asked = deleting 3; buffer = 801 ∷ 802 ∷ []; expected = declined 7 0 (801 ∷ 802 ∷ []) }
+      ∷ []
+
+-- each item gives what is expected of it, by the definitions and by the calls
+abbrev pub TablesAtTheEdge : ℕ → Type 0
+TablesAtTheEdge w = map (resultOf w) (items w) ≡ map expected (items w)
+
+abbrev pub CallsAtTheEdge : ℕ → Type 0
+CallsAtTheEdge w = map (calledOf w) (items w) ≡ map expected (items w)
 
 -- the table with a rule put in by its plan
-unfoldable pub afterInsert : List ℕ → Rule → List ℕ
+unfoldable pub afterInsert : ℕ → List ℕ → Rule → List ℕ
 unfolding resultOf writeOf putSlot
-afterInsert t rule = applyWords 2 t rule (insertWords 2 t rule)
+afterInsert w t rule = applyWords w t rule (insertWords w t rule)
 
 -- row by row, which of the rules that rule precedes
-unfoldable pub precedence : List Rule → List (List Bool)
+unfoldable pub precedence : ℕ → List Rule → List (List Bool)
 unfolding resultOf
-precedence rules = map (λ a. map (λ b. precedes 2 (word (held a)) (word (held b))) rules) rules
+precedence w rules = map (λ a. map (λ b. precedes w (word (held w a)) (word (held w b))) rules) rules

@@ -13,16 +13,24 @@ use planner::choose;
 use planner::write_plan;
 use records::Cause;
 use records::Check;
+use records::LIST_NUMBERS;
+use records::MOST_SLOTS;
+use records::Mode;
+use records::NARROW;
 use records::Rule;
+use records::check_rule;
 use slots::rules::record_of;
-use slots::rules::rule_sound;
+use slots::slot_count;
+use slots::slot_sound;
 use table_checks::check_listed;
 use windows::fill_ends;
 ghost use mathlib.Core.Path.{_≡_};
 ghost use mathlib.Core.Bool.{cond};
-ghost use Prim.Native.Nat.{_+_, _-_, _*_, _≤_, _<_, _/_};
+ghost use Prim.Native.Nat.{_+_, _-_, _*_, _≤_, _<_};
 ghost use lib.ListN.{length};
-ghost use Rattle.records.specs.Record.{slotWords};
+ghost use Rattle.records.specs.Record.{mostSlots, word, recordWords, slotWords, ruleOf};
+ghost use Rattle.records.specs.Order.{slots as slotsOf};
+ghost use Rattle.records.specs.Widths.{Width};
 ghost use Rattle.records.specs.Checks.{tableChecks};
 ghost use Rattle.records.specs.Inserts.{planWords};
 ghost use Rattle.records.specs.declared.Check.the-variants.{Pass};
@@ -33,18 +41,25 @@ ghost use Rattle.planner.specs.Emit.{Stays};
 ghost use Rattle.planner.specs.Choice.{choiceOf, choiceWords};
 ghost use Rattle.neighbours.specs.Neighbours.{newChecks};
 ghost use Rattle.insert_plans.specs.Joined.{Costed};
-ghost use Rattle.insert_plans.specs.Insertable.{Insertable};
+ghost use Rattle.insert_plans.specs.Insertable.{Insertable, InsertableCall};
 ghost use Rattle.insert_plans.specs.Demand3.{Demand3};
-ghost use Rattle.insert_plans.specs.Inserts.{choiceBetween, recordChoice, insertAnswer, insertPlan};
+ghost use Rattle.insert_plans.specs.Inserts.{choiceBetween, recordChoice, insertAnswer, insertPlan, insertCall, insertCallPlan};
 
 // The costs of all positions along one direction, with the ends of their windows.
-fn costs_along(table: &[u64], near: &[u16], up: bool, ends: &mut [u16], costs: &mut [u16])
-    requires { ⌜ (length (now table) ≤ 6144) × (length (now table) / 6 ≤ length (now ends)) × (length (now table) / 6 ≤ length (now costs)) × (2 * (length (now table) / 6) ≤ length (now near)) ⌝ }
-    requires { ⌜ (tableChecks 2 (now table) ≡ Pass) × Listed 2 (now table) (now near) ⌝ }
-    ensures { λ _. ⌜ Costed 2 (now (table .entry)) up (now (costs .exit)) ⌝ }
+fn costs_along(
+    table: &[u64],
+    near: &[u16],
+    up: bool,
+    ends: &mut [u16],
+    costs: &mut [u16],
+    mode: Mode,
+)
+    requires { ⌜ (Width (mode .width)) × (slotsOf (mode .width) (now table) ≤ mostSlots) × (slotsOf (mode .width) (now table) ≤ length (now ends)) × (slotsOf (mode .width) (now table) ≤ length (now costs)) × (2 * (slotsOf (mode .width) (now table)) ≤ length (now near)) ⌝ }
+    requires { ⌜ (tableChecks (mode .width) (now table) ≡ Pass) × Listed (mode .width) (now table) (now near) ⌝ }
+    ensures { λ _. ⌜ Costed (mode .width) (now (table .entry)) up (now (costs .exit)) ⌝ }
 {
-    let slots = table.len() / 6;
-    fill_ends(table, near, up, ends);
+    let slots = slot_count(table, mode.width);
+    fill_ends(table, near, up, ends, mode);
     fill_costs(ends, costs, slots);
 }
 
@@ -63,7 +78,7 @@ fn choose_insert(
     down: &[u16],
     up: &[u16],
 ) -> PositionChoice
-    requires { ⌜ (slots ≤ 1024) × (dependant ≤ slots) × (slots ≤ length (now down)) × (slots ≤ length (now up)) ⌝ }
+    requires { ⌜ (slots ≤ mostSlots) × (dependant ≤ slots) × (slots ≤ length (now down)) × (slots ≤ length (now up)) ⌝ }
     ensures { λ r. ⌜ r ≡ choiceOf (costOf (now (down .entry))) (costOf (now (up .entry))) slots
         (record { from = after; to = dependant + 1 }) (record { from = after - 1; to = dependant }) ⌝ }
 {
@@ -86,7 +101,7 @@ fn write_choice(
     choice: PositionChoice,
     plan: &mut [u32],
 ) -> PlanAnswer
-    requires { ⌜ (slots ≤ 1024) × (slots ≤ length (now down)) × (slots ≤ length (now up)) × (choice .cost < slots) ⌝ }
+    requires { ⌜ (slots ≤ mostSlots) × (slots ≤ length (now down)) × (slots ≤ length (now up)) × (choice .cost < slots) ⌝ }
     requires { ⌜ Stays (costOf (cond (choice .up) (now up) (now down))) slots (choice .position) (choice .cost) ⌝ }
     ensures { λ r. ⌜ planTold r ≡ bufferAnswer Pass (length (choiceWords (costOf (cond (choice .up) (now (up .entry)) (now (down .entry)))) slots choice)) (length (now (plan .entry))) ⌝ }
     ensures { λ _. ⌜ now (plan .exit) ≡ bufferAfter Pass (choiceWords (costOf (cond (choice .up) (now (up .entry)) (now (down .entry)))) slots choice) (now (plan .entry)) ⌝ }
@@ -117,16 +132,17 @@ fn plan_with(
     down: &mut [u16],
     up: &mut [u16],
     plan: &mut [u32],
+    mode: Mode,
 ) -> PlanAnswer
-    requires { ⌜ (tableChecks 2 (now table) ≡ Pass) × (2048 ≤ length (now near)) × Listed 2 (now table) (now near) ⌝ }
-    requires { ⌜ (dependant ≤ length (now table) / 6) × (choiceBetween 2 (now table) after dependant .cost < length (now table) / 6) ⌝ }
-    requires { ⌜ (1024 ≤ length (now ends)) × (1024 ≤ length (now down)) × (1024 ≤ length (now up)) ⌝ }
-    ensures { λ r. ⌜ planTold r ≡ bufferAnswer Pass (length (planWords (choiceBetween 2 (now (table .entry)) after dependant))) (length (now (plan .entry))) ⌝ }
-    ensures { λ _. ⌜ now (plan .exit) ≡ bufferAfter Pass (planWords (choiceBetween 2 (now (table .entry)) after dependant)) (now (plan .entry)) ⌝ }
+    requires { ⌜ (Width (mode .width)) × (tableChecks (mode .width) (now table) ≡ Pass) × (2 * mostSlots ≤ length (now near)) × Listed (mode .width) (now table) (now near) ⌝ }
+    requires { ⌜ (dependant ≤ slotsOf (mode .width) (now table)) × (choiceBetween (mode .width) (now table) after dependant .cost < slotsOf (mode .width) (now table)) ⌝ }
+    requires { ⌜ (mostSlots ≤ length (now ends)) × (mostSlots ≤ length (now down)) × (mostSlots ≤ length (now up)) ⌝ }
+    ensures { λ r. ⌜ planTold r ≡ bufferAnswer Pass (length (planWords (choiceBetween (mode .width) (now (table .entry)) after dependant))) (length (now (plan .entry))) ⌝ }
+    ensures { λ _. ⌜ now (plan .exit) ≡ bufferAfter Pass (planWords (choiceBetween (mode .width) (now (table .entry)) after dependant)) (now (plan .entry)) ⌝ }
 {
-    let slots = table.len() / 6;
-    costs_along(table, near, false, ends, down);
-    costs_along(table, near, true, ends, up);
+    let slots = slot_count(table, mode.width);
+    costs_along(table, near, false, ends, down, mode);
+    costs_along(table, near, true, ends, up, mode);
     let choice = choose_insert(slots, after, dependant, down, up);
     write_choice(down, up, slots, choice, plan)
 }
@@ -138,15 +154,16 @@ fn plan_between(
     after: usize,
     dependant: usize,
     plan: &mut [u32],
+    mode: Mode,
 ) -> PlanAnswer
-    requires { ⌜ (tableChecks 2 (now table) ≡ Pass) × (2048 ≤ length (now near)) × Listed 2 (now table) (now near) ⌝ }
-    requires { ⌜ (dependant ≤ length (now table) / 6) × (choiceBetween 2 (now table) after dependant .cost < length (now table) / 6) ⌝ }
-    ensures { λ r. ⌜ planTold r ≡ bufferAnswer Pass (length (planWords (choiceBetween 2 (now (table .entry)) after dependant))) (length (now (plan .entry))) ⌝ }
-    ensures { λ _. ⌜ now (plan .exit) ≡ bufferAfter Pass (planWords (choiceBetween 2 (now (table .entry)) after dependant)) (now (plan .entry)) ⌝ }
+    requires { ⌜ (Width (mode .width)) × (tableChecks (mode .width) (now table) ≡ Pass) × (2 * mostSlots ≤ length (now near)) × Listed (mode .width) (now table) (now near) ⌝ }
+    requires { ⌜ (dependant ≤ slotsOf (mode .width) (now table)) × (choiceBetween (mode .width) (now table) after dependant .cost < slotsOf (mode .width) (now table)) ⌝ }
+    ensures { λ r. ⌜ planTold r ≡ bufferAnswer Pass (length (planWords (choiceBetween (mode .width) (now (table .entry)) after dependant))) (length (now (plan .entry))) ⌝ }
+    ensures { λ _. ⌜ now (plan .exit) ≡ bufferAfter Pass (planWords (choiceBetween (mode .width) (now (table .entry)) after dependant)) (now (plan .entry)) ⌝ }
 {
-    let mut ends = [0u16; 1024];
-    let mut down = [0u16; 1024];
-    let mut up = [0u16; 1024];
+    let mut ends = [0u16; MOST_SLOTS];
+    let mut down = [0u16; MOST_SLOTS];
+    let mut up = [0u16; MOST_SLOTS];
     plan_with(
         table,
         near,
@@ -156,57 +173,88 @@ fn plan_between(
         &mut down,
         &mut up,
         plan,
+        mode,
     )
 }
 
 // The plan of a sound rule's insert into a table that passes checks 1 to 4, by its neighbour list.
-fn plan_record(table: &[u64], near: &[u16], new: &[u64], plan: &mut [u32]) -> PlanAnswer
-    requires { ⌜ (tableChecks 2 (now table) ≡ Pass) × (2048 ≤ length (now near)) × Listed 2 (now table) (now near) ⌝ }
-    requires { ⌜ length (now new) ≡ 6 ⌝ }
-    requires { ⌜ (newChecks 2 (now table) (slotWords 2 (now new) 0) ≡ Pass
-        → recordChoice 2 (now table) (slotWords 2 (now new) 0) .cost < length (now table) / 6) ⌝ }
-    ensures { λ r. ⌜ planTold r ≡ bufferAnswer (newChecks 2 (now (table .entry)) (slotWords 2 (now (new .entry)) 0))
-        (length (planWords (recordChoice 2 (now (table .entry)) (slotWords 2 (now (new .entry)) 0)))) (length (now (plan .entry))) ⌝ }
-    ensures { λ _. ⌜ now (plan .exit) ≡ bufferAfter (newChecks 2 (now (table .entry)) (slotWords 2 (now (new .entry)) 0))
-        (planWords (recordChoice 2 (now (table .entry)) (slotWords 2 (now (new .entry)) 0))) (now (plan .entry)) ⌝ }
+fn plan_record(table: &[u64], near: &[u16], new: &[u64], plan: &mut [u32], mode: Mode) -> PlanAnswer
+    requires { ⌜ (Width (mode .width)) × (tableChecks (mode .width) (now table) ≡ Pass) × (2 * mostSlots ≤ length (now near)) × Listed (mode .width) (now table) (now near) ⌝ }
+    requires { ⌜ length (now new) ≡ recordWords (mode .width) ⌝ }
+    requires { ⌜ (newChecks (mode .width) (now table) (slotWords (mode .width) (now new) 0) ≡ Pass
+        → recordChoice (mode .width) (now table) (slotWords (mode .width) (now new) 0) .cost < slotsOf (mode .width) (now table)) ⌝ }
+    ensures { λ r. ⌜ planTold r ≡ bufferAnswer (newChecks (mode .width) (now (table .entry)) (slotWords (mode .width) (now (new .entry)) 0))
+        (length (planWords (recordChoice (mode .width) (now (table .entry)) (slotWords (mode .width) (now (new .entry)) 0)))) (length (now (plan .entry))) ⌝ }
+    ensures { λ _. ⌜ now (plan .exit) ≡ bufferAfter (newChecks (mode .width) (now (table .entry)) (slotWords (mode .width) (now (new .entry)) 0))
+        (planWords (recordChoice (mode .width) (now (table .entry)) (slotWords (mode .width) (now (new .entry)) 0))) (now (plan .entry)) ⌝ }
 {
-    let check = check_new(table, new);
+    let check = check_new(table, new, mode);
     if let Check::Fail(cause, spot) = check {
         return PlanAnswer::Refused(cause, spot);
     }
-    let after = after_a(table, new);
-    let dependant = slot_b(table, new);
+    let after = after_a(table, new, mode);
+    let dependant = slot_b(table, new, mode);
     let crossed = check_crossed(after, dependant);
     if let Check::Fail(cause, spot) = crossed {
         return PlanAnswer::Refused(cause, spot);
     }
-    plan_between(table, near, after, dependant, plan)
+    plan_between(table, near, after, dependant, plan, mode)
 }
 
 // The plan of an insert into a table that passes checks 1 to 4, by its neighbour list.
-fn plan_listed(table: &[u64], near: &[u16], rule: Rule, plan: &mut [u32]) -> PlanAnswer
-    requires { ⌜ (tableChecks 2 (now table) ≡ Pass) × (2048 ≤ length (now near)) × Listed 2 (now table) (now near) ⌝ }
-    ensures { λ r. ⌜ planTold r ≡ insertAnswer 2 (now (table .entry)) rule (length (now (plan .entry))) ⌝ }
-    ensures { λ _. ⌜ now (plan .exit) ≡ insertPlan 2 (now (table .entry)) rule (now (plan .entry)) ⌝ }
+fn plan_listed(
+    table: &[u64],
+    near: &[u16],
+    rule: &[u64],
+    plan: &mut [u32],
+    mode: Mode,
+) -> PlanAnswer
+    requires { ⌜ (Width (mode .width)) × (tableChecks (mode .width) (now table) ≡ Pass) × (2 * mostSlots ≤ length (now near)) × Listed (mode .width) (now table) (now near) ⌝ }
+    requires { ⌜ length (now rule) ≡ recordWords (mode .width) ⌝ }
+    ensures { λ r. ⌜ planTold r ≡ insertAnswer (mode .width) (now (table .entry)) (ruleOf (mode .width) (word (now (rule .entry)))) (length (now (plan .entry))) ⌝ }
+    ensures { λ _. ⌜ now (plan .exit) ≡ insertPlan (mode .width) (now (table .entry)) (ruleOf (mode .width) (word (now (rule .entry)))) (now (plan .entry)) ⌝ }
 {
-    if !rule_sound(rule) {
+    if !slot_sound(rule, 0, mode.width) {
         return PlanAnswer::Refused(Cause::Rule, 0);
     }
-    let new = record_of(rule);
-    plan_record(table, near, &new, plan)
+    plan_record(table, near, rule, plan, mode)
+}
+
+// The plan of an insert at a width that there is, its rule lent as a record.
+fn insert_at(table: &[u64], rule: &[u64], plan: &mut [u32], mode: Mode) -> PlanAnswer
+    requires { ⌜ (Width (mode .width)) × (length (now rule) ≡ recordWords (mode .width)) ⌝ }
+    ensures { λ r. ⌜ planTold r ≡ insertAnswer (mode .width) (now (table .entry)) (ruleOf (mode .width) (word (now (rule .entry)))) (length (now (plan .entry))) ⌝ }
+    ensures { λ _. ⌜ now (plan .exit) ≡ insertPlan (mode .width) (now (table .entry)) (ruleOf (mode .width) (word (now (rule .entry)))) (now (plan .entry)) ⌝ }
+{
+    let mut near = [0u16; LIST_NUMBERS];
+    let check = check_listed(table, &mut near, mode);
+    if let Check::Fail(cause, spot) = check {
+        return PlanAnswer::Refused(cause, spot);
+    }
+    plan_listed(table, &near, rule, plan, mode)
 }
 
 // The shortest plan of an insert, or a refusal that leaves the buffer as it was.
-pub fn plan_insert(table: &[u64], rule: Rule, plan: &mut [u32]) -> PlanAnswer
+pub fn plan_insert(table: &[u64], rule: &[u64], plan: &mut [u32], mode: Mode) -> PlanAnswer
+    ensures { λ r. ⌜ planTold r ≡ insertCall (mode .width) (now (table .entry)) (now (rule .entry)) (length (now (plan .entry))) ⌝ }
+    ensures { λ _. ⌜ now (plan .exit) ≡ insertCallPlan (mode .width) (now (table .entry)) (now (rule .entry)) (now (plan .entry)) ⌝ }
+    ensures shortest { λ r. ⌜ (InsertableCall (mode .width) (now (table .entry)) (now (rule .entry))
+        → Demand3 (mode .width) (now (table .entry)) (ruleOf (mode .width) (word (now (rule .entry)))) (planTold r) (now (plan .entry)) (now (plan .exit))) ⌝ }
+{
+    let lent = check_rule(mode.width, rule.len());
+    if let Check::Fail(cause, spot) = lent {
+        return PlanAnswer::Refused(cause, spot);
+    }
+    insert_at(table, rule, plan, mode)
+}
+
+// The same of document 01's rule struct, at two words.
+pub fn plan_rule(table: &[u64], rule: Rule, plan: &mut [u32]) -> PlanAnswer
     ensures { λ r. ⌜ planTold r ≡ insertAnswer 2 (now (table .entry)) rule (length (now (plan .entry))) ⌝ }
     ensures { λ _. ⌜ now (plan .exit) ≡ insertPlan 2 (now (table .entry)) rule (now (plan .entry)) ⌝ }
     ensures shortest { λ r. ⌜ (Insertable 2 (now (table .entry)) rule
         → Demand3 2 (now (table .entry)) rule (planTold r) (now (plan .entry)) (now (plan .exit))) ⌝ }
 {
-    let mut near = [0u16; 2048];
-    let check = check_listed(table, &mut near);
-    if let Check::Fail(cause, spot) = check {
-        return PlanAnswer::Refused(cause, spot);
-    }
-    plan_listed(table, &near, rule, plan)
+    let words = record_of(rule);
+    insert_at(table, &words, plan, Mode { width: NARROW })
 }

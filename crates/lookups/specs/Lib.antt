@@ -2,3 +2,4 @@
 pub mod Examples
 pub mod Lookup
 pub mod LookupLaws
+pub mod WidthsLaws

@@ -1,15 +1,16 @@
 -- Lookup: what a key is answered; and a slot's record as a part of the lent table.
--- The contracts of lookup and slot_record are equations with these definitions, at two words of value.
+-- The contracts of lookup and slot_record are equations with these definitions, at the width that the call names.
 use mathlib.Core.Path.{_≡_}
 use mathlib.Core.Bool.{Bool, true, false, cond, _&&_}
 use mathlib.Core.List.{List, [], _∷_}
 use Prim.Native.Nat.{ℕ, _*_, _<_}
 use lib.Dec.{ltb}
-use lib.ListN.{take, drop}
+use lib.ListN.{length, take, drop}
 use Rattle.ternary.specs.Pattern.{Words}
-use Rattle.records.specs.Record.{recordWords, slotWords, slotMatches, ident, action, occupied}
+use Rattle.records.specs.Record.{word, recordWords, slotWords, slotMatches, ident, action, occupied}
 use Rattle.records.specs.Order.{slots}
 use Rattle.records.specs.Checks.{Told, success, refusal, unless, passes, slotChecks, firstMatch}
+use Rattle.records.specs.Widths.{checkWidth, checkKey}
 use Rattle.records.specs.declared.Cause.{Cause}
 use Rattle.records.specs.declared.Check.the-variants.{Pass, Fail}
 use Rattle.lookups.specs.declared.Hit.{Hit}
@@ -34,6 +35,10 @@ matchTold w t i = cond (ltb i (slots w t)) (lookupTold (Found (hitAt w t i))) (l
 unfoldable pub lookupAnswer : ℕ → List ℕ → Words → Told
 lookupAnswer w t key = unless (slotChecks w t) (matchTold w t (firstMatch w t key))
 
+-- document 02: the call, on a key as it is lent; another width or another number of words is 1
+unfoldable pub lookupCall : ℕ → List ℕ → List ℕ → Told
+lookupCall w t key = unless (checkKey w (length key)) (lookupAnswer w t (word key))
+
 -- document 01: a key's reply is id and action, or a miss; a hit's values without the slot
 abbrev pub reply : ℕ → List ℕ → Words → List ℕ
 reply w t key = drop 1 (matchTold w t (firstMatch w t key) .values)
@@ -42,15 +47,19 @@ reply w t key = drop 1 (matchTold w t (firstMatch w t key) .values)
 unfoldable pub shown : ℕ → List ℕ → ℕ → Bool
 shown w t i = passes (slotChecks w t) && (ltb i (slots w t) && occupied w (slotWords w t i))
 
+-- document 02: what the call shows, none at another width
+unfoldable pub shownCall : ℕ → List ℕ → ℕ → Bool
+shownCall w t i = passes (checkWidth w) && shown w t i
+
 -- the first word and the number of words of that part of the table; empty, at the table's start, where it is not shown
-unfoldable pub partStart : ℕ → List ℕ → ℕ → ℕ
-partStart w t i = cond (shown w t i) (i * recordWords w) 0
+unfoldable pub partStartCall : ℕ → List ℕ → ℕ → ℕ
+partStartCall w t i = cond (shownCall w t i) (i * recordWords w) 0
 
-unfoldable pub partLength : ℕ → List ℕ → ℕ → ℕ
-partLength w t i = cond (shown w t i) (recordWords w) 0
+unfoldable pub partLengthCall : ℕ → List ℕ → ℕ → ℕ
+partLengthCall w t i = cond (shownCall w t i) (recordWords w) 0
 
-abbrev pub recordPart : ℕ → List ℕ → ℕ → List ℕ
-recordPart w t i = take (partLength w t i) (drop (partStart w t i) t)
+abbrev pub recordPartCall : ℕ → List ℕ → ℕ → List ℕ
+recordPartCall w t i = take (partLengthCall w t i) (drop (partStartCall w t i) t)
 
 -- the cases of a lookup, in words
 module _ (w : ℕ) (t : List ℕ) (key : Words) where

@@ -17,13 +17,15 @@ use Rattle.records.specs.Record.{recordWords, slotWords, slotMatches, ident, ac
 use Rattle.records.specs.Order.{slots}
 use Rattle.records.specs.Checks.{Told, refusal, passes, slotChecks, firstMatch}
 use Rattle.records.specs.Laws.{cause-number-once, slot-within, first-match-law, hit-id}
+use Rattle.records.specs.Widths.{Width, checkWidth}
+use Rattle.records.specs.WidthsLaws.{width-law}
 use Rattle.records.specs.declared.Cause.{Cause}
 use Rattle.records.specs.declared.Check.{Check}
 use Rattle.records.specs.declared.Check.the-variants.{Pass, Fail}
 use Rattle.lookups.specs.declared.LookupAnswer.{LookupAnswer}
 use Rattle.lookups.specs.declared.LookupAnswer.the-variants.{Found, Miss, Refused}
-use Rattle.lookups.specs.Lookup.{recordPart, partLength, lookupAnswer, reply, hitAt, Case, NoMatch, FirstAt, lookupTold, shown, matchTold}
-use Rattle.lookups.specs.Lookup.{partStart, hit, refusedBy, miss}
+use Rattle.lookups.specs.Lookup.{lookupAnswer, reply, hitAt, Case, NoMatch, FirstAt, lookupTold, shown, matchTold}
+use Rattle.lookups.specs.Lookup.{shownCall, partStartCall, partLengthCall, recordPartCall, hit, refusedBy, miss}
 
 pub passes-law : (c : Check) → passes c ≡ true → c ≡ Pass
 passes-law Pass e = refl
@@ -40,32 +42,44 @@ shown-law w t i =
       λ s. and-both a (b && o) (ap passes (s .0)) (and-both b o (lt-ltb i (slots w t) (s .1)) (s .2)),
     )
 
+-- what the call shows: the same, at a width that there is
+pub shown-call-law : (w : ℕ) (t : List ℕ) (i : ℕ)
+    → (shownCall w t i ≡ true) ↔ (Width w × (slotChecks w t ≡ Pass) × (i < slots w t) × (occupied w (slotWords w t i) ≡ true))
+unfolding shownCall
+shown-call-law w t i =
+    let a = passes (checkWidth w) in
+    let b = shown w t i in (
+      λ e. let s = shown-law w t i .0 (and-right a b e) in (width-law w .0 (passes-law (checkWidth w) (and-left a b e)), s .0, s .1, s .2),
+      λ s. and-both a b (ap passes (width-law w .1 (s .0))) (shown-law w t i .1 (s .1, s .2, s .3)),
+    )
+
 -- where that part lies
-pub part-shown : (w : ℕ) (t : List ℕ) (i : ℕ) → shown w t i ≡ true → (partStart w t i ≡ i * recordWords w) × (partLength w t i ≡ recordWords w)
-unfolding partStart partLength
+pub part-shown : (w : ℕ) (t : List ℕ) (i : ℕ)
+    → shownCall w t i ≡ true → (partStartCall w t i ≡ i * recordWords w) × (partLengthCall w t i ≡ recordWords w)
+unfolding partStartCall partLengthCall
 part-shown w t i e = (rw e, rw e)
 
-pub part-hidden : (w : ℕ) (t : List ℕ) (i : ℕ) → shown w t i ≡ false → (partStart w t i ≡ 0) × (partLength w t i ≡ 0)
-unfolding partStart partLength
+pub part-hidden : (w : ℕ) (t : List ℕ) (i : ℕ) → shownCall w t i ≡ false → (partStartCall w t i ≡ 0) × (partLengthCall w t i ≡ 0)
+unfolding partStartCall partLengthCall
 part-hidden w t i e = (rw e, rw e)
 
-pub part-count : (w : ℕ) (t : List ℕ) (i : ℕ) → length (recordPart w t i) ≡ partLength w t i
-part-count w t i = pick (decided (shown w t i))
+pub part-count : (w : ℕ) (t : List ℕ) (i : ℕ) → length (recordPartCall w t i) ≡ partLengthCall w t i
+part-count w t i = pick (decided (shownCall w t i))
   where
-    pick : (shown w t i ≡ true) ⊎ (shown w t i ≡ false) → length (recordPart w t i) ≡ partLength w t i
+    pick : (shownCall w t i ≡ true) ⊎ (shownCall w t i ≡ false) → length (recordPartCall w t i) ≡ partLengthCall w t i
     pick (inl e) =
         let p = part-shown w t i e in
-        let h = slot-within w t i (shown-law w t i .0 e .1) in
-        length-take (partLength w t i) (drop (partStart w t i) t) ∙ (let d = length-drop (partStart w t i) t in omega (arith, p .0, p .1))
+        let h = slot-within w t i (shown-call-law w t i .0 e .2) in
+        length-take (partLengthCall w t i) (drop (partStartCall w t i) t) ∙ (let d = length-drop (partStartCall w t i) t in omega (arith, p .0, p .1))
     pick (inr e) =
-        let p = part-hidden w t i e in length-take (partLength w t i) (drop (partStart w t i) t) ∙ (omega (arith, p .1))
+        let p = part-hidden w t i e in length-take (partLengthCall w t i) (drop (partStartCall w t i) t) ∙ (omega (arith, p .1))
 
 -- a part without words is hidden, and one with words is shown
-pub part-none : (w : ℕ) (t : List ℕ) (i : ℕ) → partLength w t i ≡ 0 → shown w t i ≡ false
-part-none w t i e = ⊎-elim (λ s. absurd (let p = part-shown w t i s in omega (arith, p .1))) (λ s. s) (decided (shown w t i))
+pub part-none : (w : ℕ) (t : List ℕ) (i : ℕ) → partLengthCall w t i ≡ 0 → shownCall w t i ≡ false
+part-none w t i e = ⊎-elim (λ s. absurd (let p = part-shown w t i s in omega (arith, p .1))) (λ s. s) (decided (shownCall w t i))
 
-pub part-some : (w : ℕ) (t : List ℕ) (i : ℕ) → (partLength w t i ≡ 0 → ⊥) → shown w t i ≡ true
-part-some w t i f = ⊎-elim (λ s. s) (λ s. absurd (f (part-hidden w t i s .1))) (decided (shown w t i))
+pub part-some : (w : ℕ) (t : List ℕ) (i : ℕ) → (partLengthCall w t i ≡ 0 → ⊥) → shownCall w t i ≡ true
+part-some w t i f = ⊎-elim (λ s. s) (λ s. absurd (f (part-hidden w t i s .1))) (decided (shownCall w t i))
 
 counts : {a b : Told} → a ≡ b → (length (a .values) ≡ length (b .values) → ⊥) → ⊥
 counts e f = f (ap (λ (t : Told). length (t .values)) e)

@@ -10,13 +10,12 @@ use Rattle.records.specs.Laws.{cause-not-zero, cause-number-once}
 use Rattle.records.specs.declared.Cause.{Cause}
 use Rattle.records.specs.declared.Cause.the-variants.{Shape, Record, Twice, Order, Rule as RuleCause, Known, Unknown, Tie, Full, Crossed, Short}
 use Rattle.records.specs.declared.Cause.the-variants.{Write, Line, Image}
-use Rattle.records.specs.declared.Rule.{Rule}
-use Rattle.carrying.specs.Carrying.{stepTold, stepAnswer, stepTable}
+use Rattle.carrying.specs.Carrying.{stepTold, stepCall}
 use Rattle.carrying.specs.declared.StepInfo.{StepInfo}
 use Rattle.carrying.specs.declared.StepAnswer.{StepAnswer}
 use Rattle.carrying.specs.declared.StepAnswer.the-variants.{Wrote, Finished, Refused}
-use Rattle.carrying.specs.StepsLaws.{doneTold, done-told}
-use Rattle.carrying.specs.SpotsLaws.{step-spot}
+use Rattle.carrying.specs.StepsLaws.{doneTold, call-done-told}
+use Rattle.carrying.specs.SpotsLaws.{call-spot}
 use Rattle.marshalling.specs.declared.Carried.{Carried}
 use Rattle.marshalling.specs.Carried.{SameCase, SpotFits, carriedStep, carryResult}
 
@@ -76,12 +75,12 @@ carry-result-once (Refused cause spot) (Refused other place) f g e =
     let same = sym (carry-refused cause spot) ∙ (e ∙ carry-refused other place) in
     (cause-number-once cause other (omega (arith, same, cause-small cause, cause-small other)), omega (arith, same, cause-small cause, cause-small other))
 
--- the spot of every step's answer has 32 bits where the writes done have, so that this is said of any two calls
-pub step-spot-fits : (w : ℕ) (t plan : List ℕ) (rule : Rule) (done total : ℕ) (a : StepAnswer) → stepTold a ≡ stepAnswer w t plan rule done total
+-- the spot of every call's answer has 32 bits where the writes done have, so that this is said of any two calls
+pub step-spot-fits : (w : ℕ) (t plan rule : List ℕ) (done total : ℕ) (a : StepAnswer) → stepTold a ≡ stepCall w t plan rule done total
     → done < 4294967296 → SpotFits a
 step-spot-fits w t plan rule done total (Wrote info) e h = tt
 step-spot-fits w t plan rule done total Finished e h = tt
-step-spot-fits w t plan rule done total (Refused cause spot) e h = step-spot w t plan rule done total 4294967296 (omega arith) h cause spot e
+step-spot-fits w t plan rule done total (Refused cause spot) e h = call-spot w t plan rule done total 4294967296 (omega arith) h cause spot e
 
 -- the writes done after an answer, and the number that tells it
 abbrev pub carriedTold : Told → ℕ → Carried
@@ -91,13 +90,10 @@ pub carried-refused : (cause : Cause) (spot done : ℕ) {n : ℕ} → n ≡ caus
     → _≡_ {A = Carried} (record { done = done; result = n + spot * 4294967296 }) (carriedTold (refusal cause spot) done)
 carried-refused cause spot done e = rw (e, cause-not-zero cause)
 
--- what is told of a step, with the rule given, is what the call tells
-pub carry-ends : (t plan : List ℕ) {rule given : Rule} (done total : ℕ) {told : Told} {after : List ℕ} {carried : Carried} → rule ≡ given
-    → told ≡ stepAnswer 2 t plan rule done total → after ≡ stepTable 2 t plan rule done total → carried ≡ carriedTold told done
-    → (carried ≡ carriedStep t plan given done total) × (after ≡ stepTable 2 t plan given done total)
-carry-ends t plan {rule} done total same e f m =
-    let d = ap (λ (x : Told). doneTold x done) e ∙ done-told 2 t plan rule done total in
-    let n = ap carryResult e in (
-      m ∙ ((λ i. record { done = d i; result = n i }) ∙ ap (λ (r : Rule). carriedStep t plan r done total) same),
-      f ∙ ap (λ (r : Rule). stepTable 2 t plan r done total) same,
-    )
+-- what is told of a call is what crosses
+pub carry-ends : (w : ℕ) (t plan rule : List ℕ) (done total : ℕ) {told : Told} {carried : Carried} → told ≡ stepCall w t plan rule done total
+    → carried ≡ carriedTold told done → carried ≡ carriedStep w t plan rule done total
+carry-ends w t plan rule done total e m =
+    let d = ap (λ (x : Told). doneTold x done) e ∙ call-done-told w t plan rule done total in
+    let n = ap carryResult e in
+    m ∙ (λ i. record { done = d i; result = n i })

@@ -4,19 +4,7 @@ use mathlib.Core.Bool.{cond}
 use Prim.Native.Nat.{ℕ}
 use lib.Dec.{eqb}
 use lib.ListN.{getD}
-use mathlib.Core.List.{[], _∷_}
 use Rattle.records.specs.Checks.{Told}
-use Rattle.records.specs.declared.Rule.{Rule}
-
--- a rule that crosses as seven numbers
-abbrev pub ruleFrom : ℕ → ℕ → ℕ → ℕ → ℕ → ℕ → ℕ → Rule
-ruleFrom id priority value-high value-low mask-high mask-low action = record {
-  id = id;
-  priority = priority;
-  value = value-high ∷ value-low ∷ [];
-  mask = mask-high ∷ mask-low ∷ [];
-  action = action;
-}
 
 -- the cell for value k of a success; a success that has no such value, as a miss, leaves 0
 abbrev pub dataCell : Told → ℕ → ℕ → ℕ

@@ -1,4 +1,4 @@
--- Rules and answers as numbers and lent cells.
+-- Answers as numbers and lent cells.
 -- Cells: of planning calls and lookups. Carried: of a step.
 pub mod Cells
 pub mod CellsLaws

@@ -1,36 +1,14 @@
-// What crosses between the C interface and the calls: a rule as seven numbers, a planning call's answer as its number and lent cells.
+// What crosses between the C interface and the calls: a planning call's answer as its number and lent cells.
 // A step takes its progress as two numbers, and its answer crosses as one: the cause's number in the lower half, the spot in the upper.
 use buffers::PlanAnswer;
 use carrying::StepAnswer;
-use records::Rule;
 use records::cause_number;
 use steps::step::step;
 ghost use mathlib.Core.Path.{_≡_};
 ghost use Rattle.buffers.specs.Buffers.{planTold};
-ghost use Rattle.carrying.specs.Carrying.{stepTable};
-ghost use Rattle.marshalling.specs.Cells.{dataCell, spotCell, ruleFrom};
+ghost use Rattle.carrying.specs.Carrying.{stepCallTable};
+ghost use Rattle.marshalling.specs.Cells.{dataCell, spotCell};
 ghost use Rattle.marshalling.specs.Carried.{carriedStep};
-
-// A rule from the numbers that cross.
-pub fn rule_from(
-    id: u32,
-    priority: u32,
-    value_high: u64,
-    value_low: u64,
-    mask_high: u64,
-    mask_low: u64,
-    action: u32,
-) -> Rule
-    ensures { λ r. ⌜ r ≡ ruleFrom id priority «value_high» «value_low» «mask_high» «mask_low» action ⌝ }
-{
-    Rule {
-        id,
-        priority,
-        value: [value_high, value_low],
-        mask: [mask_high, mask_low],
-        action,
-    }
-}
 
 // A planning call's answer, spread over its number and the lent cells.
 pub fn spread(answer: PlanAnswer, count: &mut u32, spot: &mut u32) -> u32
@@ -59,31 +37,17 @@ pub struct Carried {
 // One step, on the progress as numbers.
 pub fn carry(
     table: &mut [u64],
+    width: u32,
+    rule: &[u64],
     plan: &[u32],
-    id: u32,
-    priority: u32,
-    value_high: u64,
-    value_low: u64,
-    mask_high: u64,
-    mask_low: u64,
-    action: u32,
     done: u32,
     total: u32,
 ) -> Carried
-    ensures { λ r. ⌜ (r ≡ carriedStep (now (table .entry)) (now (plan .entry)) (ruleFrom id priority «value_high» «value_low» «mask_high» «mask_low» action) done total)
-        × (now (table .exit) ≡ stepTable 2 (now (table .entry)) (now (plan .entry)) (ruleFrom id priority «value_high» «value_low» «mask_high» «mask_low» action) done total) ⌝ }
+    ensures { λ r. ⌜ (r ≡ carriedStep width (now (table .entry)) (now (plan .entry)) (now (rule .entry)) done total)
+        × (now (table .exit) ≡ stepCallTable width (now (table .entry)) (now (plan .entry)) (now (rule .entry)) done total) ⌝ }
 {
-    let rule = rule_from(
-        id,
-        priority,
-        value_high,
-        value_low,
-        mask_high,
-        mask_low,
-        action,
-    );
     let end = 4294967295;
-    match step(table, plan, rule, done, total) {
+    match step(table, plan, rule, done, total, width as usize) {
         StepAnswer::Wrote(info) => Carried {
             done: info.done,
             result: 0,

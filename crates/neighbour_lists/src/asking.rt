@@ -7,12 +7,16 @@ use bitmaps::bits::top;
 use bitmaps::maps::apart_in;
 use pairs::rules_overlap;
 use pairs::slots_overlap;
+use records::Mode;
 use slots::slot_rank;
 ghost use mathlib.Core.Path.{_≡_};
 ghost use mathlib.Core.Bool.{true, false};
 ghost use Prim.Native.Nat.{ℕ, _+_, _*_, _/_, _<_, _≤_};
 ghost use lib.ListN.{length, getD};
+ghost use Rattle.records.specs.Record.{mostSlots};
+ghost use Rattle.records.specs.Order.{slots};
 ghost use Rattle.records.specs.Checks.{checkRecords};
+ghost use Rattle.records.specs.Widths.{Width};
 ghost use Rattle.records.specs.declared.Check.the-variants.{Pass};
 ghost use Rattle.neighbour_lists.specs.Lists.{precedesSlot, misorderedSlots, rankAt, occupiedAt};
 ghost use Rattle.neighbour_lists.specs.Row.{InRow, Marks, Tells, Inside, neededBits, settledPair, asked, askedFree, bothKept, closed, Quiet, Skipped};
@@ -42,14 +46,14 @@ fn needed(
 }
 
 // Whether nothing is left to learn from a pair: the later slot has its preceding rule, the earlier one its dependant, and their priorities fall.
-fn settled(table: &[u64], near: &[u16], slot: usize, later: usize, rank: u64) -> bool
-    requires { ⌜ (slot < later) × (later < length (now table) / 6) × (2 * later + 1 < length (now near)) ⌝ }
-    ensures { λ r. ⌜ r ≡ settledPair (now (near .entry)) slot later (rankAt 2 (now (table .entry)) slot) rank ⌝ }
+fn settled(table: &[u64], near: &[u16], slot: usize, later: usize, rank: u64, mode: Mode) -> bool
+    requires { ⌜ (Width (mode .width)) × (slot < later) × (later < slots (mode .width) (now table)) × (2 * later + 1 < length (now near)) ⌝ }
+    ensures { λ r. ⌜ r ≡ settledPair (now (near .entry)) slot later (rankAt (mode .width) (now (table .entry)) slot) rank ⌝ }
 {
     if near[2 * later + 1] == 65535 {
         return false;
     }
-    if slot_rank(table, slot) <= rank {
+    if slot_rank(table, slot, mode.width) <= rank {
         return false;
     }
     near[2 * slot] != 65535
@@ -57,7 +61,7 @@ fn settled(table: &[u64], near: &[u16], slot: usize, later: usize, rank: u64) ->
 
 // A pair whose first rule precedes the second: each number is kept where there was none.
 fn keep_pair(near: &mut [u16], free: &mut [u64], slot: usize, later: usize)
-    requires { ⌜ (slot < later) × (later < 1024) × (2 * later + 1 < length (now near)) × (16 ≤ length (now free)) ⌝ }
+    requires { ⌜ (slot < later) × (later < mostSlots) × (2 * later + 1 < length (now near)) × (16 ≤ length (now free)) ⌝ }
     ensures { λ _. ⌜ now (near .exit) ≡ bothKept (now (near .entry)) slot later ⌝ }
     ensures { λ _. ⌜ now (free .exit) ≡ closed (now (near .entry)) (now (free .entry)) slot ⌝ }
 {
@@ -78,17 +82,18 @@ fn ask_pair(
     slot: usize,
     later: usize,
     rank: u64,
+    mode: Mode,
 ) -> bool
-    requires { ⌜ (slot < later) × (later < length (now table) / 6) × (later < 1024) × (2 * later + 1 < length (now near)) × (16 ≤ length (now free)) ⌝ }
-    requires { ⌜ (checkRecords 2 (now table) ≡ Pass) × (rank ≡ rankAt 2 (now table) later) ⌝ }
-    ensures { λ r. ⌜ r ≡ misorderedSlots 2 (now (table .entry)) slot later ⌝ }
-    ensures { λ _. ⌜ now (near .exit) ≡ asked (precedesSlot 2 (now (table .entry)) slot later) (now (near .entry)) slot later ⌝ }
-    ensures { λ _. ⌜ now (free .exit) ≡ askedFree (precedesSlot 2 (now (table .entry)) slot later) (now (near .entry)) (now (free .entry)) slot ⌝ }
+    requires { ⌜ (Width (mode .width)) × (slot < later) × (later < slots (mode .width) (now table)) × (later < mostSlots) × (2 * later + 1 < length (now near)) × (16 ≤ length (now free)) ⌝ }
+    requires { ⌜ (checkRecords (mode .width) (now table) ≡ Pass) × (rank ≡ rankAt (mode .width) (now table) later) ⌝ }
+    ensures { λ r. ⌜ r ≡ misorderedSlots (mode .width) (now (table .entry)) slot later ⌝ }
+    ensures { λ _. ⌜ now (near .exit) ≡ asked (precedesSlot (mode .width) (now (table .entry)) slot later) (now (near .entry)) slot later ⌝ }
+    ensures { λ _. ⌜ now (free .exit) ≡ askedFree (precedesSlot (mode .width) (now (table .entry)) slot later) (now (near .entry)) (now (free .entry)) slot ⌝ }
 {
-    if !rules_overlap(table, slot, table, later) {
+    if !rules_overlap(table, slot, table, later, mode.width) {
         return false;
     }
-    let earlier = slot_rank(table, slot);
+    let earlier = slot_rank(table, slot, mode.width);
     if earlier <= rank {
         return true;
     }
@@ -97,28 +102,36 @@ fn ask_pair(
 }
 
 // Whether a pair need not be asked: it is settled, or its patterns do not overlap.
-fn quiet(table: &[u64], near: &[u16], slot: usize, later: usize, rank: u64) -> bool
-    requires { ⌜ (slot < later) × (later < length (now table) / 6) × (2 * later + 1 < length (now near)) ⌝ }
-    requires { ⌜ rank ≡ rankAt 2 (now table) later ⌝ }
-    ensures { λ r. ⌜ (r ≡ true → Quiet (precedesSlot 2 (now (table .entry))) (misorderedSlots 2 (now (table .entry))) (now (near .entry)) later slot) ⌝ }
+fn quiet(table: &[u64], near: &[u16], slot: usize, later: usize, rank: u64, mode: Mode) -> bool
+    requires { ⌜ (Width (mode .width)) × (slot < later) × (later < slots (mode .width) (now table)) × (2 * later + 1 < length (now near)) ⌝ }
+    requires { ⌜ rank ≡ rankAt (mode .width) (now table) later ⌝ }
+    ensures { λ r. ⌜ (r ≡ true → Quiet (precedesSlot (mode .width) (now (table .entry))) (misorderedSlots (mode .width) (now (table .entry))) (now (near .entry)) later slot) ⌝ }
 {
-    if settled(table, near, slot, later, rank) {
+    if settled(table, near, slot, later, rank, mode) {
         return true;
     }
-    !slots_overlap(table, slot, table, later)
+    !slots_overlap(table, slot, table, later, mode.width)
 }
 
 // The bits of a block left once quiet pairs are dropped, from the highest on, up to the first that is to be asked.
 // Nothing is stored here, so that the compiler keeps the later slot's words at hand.
-fn skip_quiet(table: &[u64], near: &[u16], block: usize, some: u64, later: usize, rank: u64) -> u64
-    requires { ⌜ (later < length (now table) / 6) × (later < 1024) × (2 * later + 1 < length (now near)) × (block < 16) ⌝ }
-    requires { ⌜ (rank ≡ rankAt 2 (now table) later) × Inside later block some ⌝ }
-    ensures { λ r. ⌜ Skipped (precedesSlot 2 (now (table .entry))) (misorderedSlots 2 (now (table .entry))) (now (near .entry)) later block some r ⌝ }
+fn skip_quiet(
+    table: &[u64],
+    near: &[u16],
+    block: usize,
+    some: u64,
+    later: usize,
+    rank: u64,
+    mode: Mode,
+) -> u64
+    requires { ⌜ (Width (mode .width)) × (later < slots (mode .width) (now table)) × (later < mostSlots) × (2 * later + 1 < length (now near)) × (block < 16) ⌝ }
+    requires { ⌜ (rank ≡ rankAt (mode .width) (now table) later) × Inside later block some ⌝ }
+    ensures { λ r. ⌜ Skipped (precedesSlot (mode .width) (now (table .entry))) (misorderedSlots (mode .width) (now (table .entry))) (now (near .entry)) later block some r ⌝ }
 {
     let mut left = some;
     while left != 0 {
         let t = top(left);
-        if !quiet(table, near, 64 * block + t, later, rank) {
+        if !quiet(table, near, 64 * block + t, later, rank, mode) {
             return left;
         }
         left = drop_bit(left, t);
@@ -138,21 +151,22 @@ fn ask_block(
     later: usize,
     rank: u64,
     before: bool,
+    mode: Mode,
 ) -> bool
-    requires { ⌜ (later < length (now table) / 6) × (later < 1024) × (2 * later + 1 < length (now near)) × (16 ≤ length (now full)) × (16 ≤ length (now free)) × (16 ≤ length (now low)) × (block < 16) ⌝ }
-    requires { ⌜ (checkRecords 2 (now table) ≡ Pass) × (rank ≡ rankAt 2 (now table) later) × Inside later block some ⌝ }
-    requires { ⌜ InRow (precedesSlot 2 (now table)) (misorderedSlots 2 (now table)) (now near) later block some before ⌝ }
-    requires { ⌜ Marks (rankAt 2 (now table)) (occupiedAt 2 (now table)) (now near) (now full) (now free) (now low) later ⌝ }
-    ensures { λ r. ⌜ InRow (precedesSlot 2 (now (table .entry))) (misorderedSlots 2 (now (table .entry))) (now (near .exit)) later block 0 r ⌝ }
-    ensures { λ _. ⌜ Marks (rankAt 2 (now (table .entry))) (occupiedAt 2 (now (table .entry))) (now (near .exit)) (now (full .entry)) (now (free .exit)) (now (low .entry)) later ⌝ }
+    requires { ⌜ (Width (mode .width)) × (later < slots (mode .width) (now table)) × (later < mostSlots) × (2 * later + 1 < length (now near)) × (16 ≤ length (now full)) × (16 ≤ length (now free)) × (16 ≤ length (now low)) × (block < 16) ⌝ }
+    requires { ⌜ (checkRecords (mode .width) (now table) ≡ Pass) × (rank ≡ rankAt (mode .width) (now table) later) × Inside later block some ⌝ }
+    requires { ⌜ InRow (precedesSlot (mode .width) (now table)) (misorderedSlots (mode .width) (now table)) (now near) later block some before ⌝ }
+    requires { ⌜ Marks (rankAt (mode .width) (now table)) (occupiedAt (mode .width) (now table)) (now near) (now full) (now free) (now low) later ⌝ }
+    ensures { λ r. ⌜ InRow (precedesSlot (mode .width) (now (table .entry))) (misorderedSlots (mode .width) (now (table .entry))) (now (near .exit)) later block 0 r ⌝ }
+    ensures { λ _. ⌜ Marks (rankAt (mode .width) (now (table .entry))) (occupiedAt (mode .width) (now (table .entry))) (now (near .exit)) (now (full .entry)) (now (free .exit)) (now (low .entry)) later ⌝ }
 {
     let mut left = some;
     let mut bad = before;
     while left != 0 {
         let t = top(left);
-        bad = ask_pair(table, near, free, 64 * block + t, later, rank) | bad;
+        bad = ask_pair(table, near, free, 64 * block + t, later, rank, mode) | bad;
         let rest = drop_bit(left, t) & needed(near, full, free, low, block, later, rank);
-        left = skip_quiet(table, near, block, rest, later, rank);
+        left = skip_quiet(table, near, block, rest, later, rank, mode);
     }
     bad
 }
@@ -171,15 +185,16 @@ fn ask_some(
     later: usize,
     rank: u64,
     before: bool,
+    mode: Mode,
 ) -> bool
-    requires { ⌜ (later < length (now table) / 6) × (later < 1024) × (2 * later + 1 < length (now near)) × (16 ≤ length (now full)) × (16 ≤ length (now free)) × (16 ≤ length (now low)) × (block < 16) × (used ≤ length (now rows)) ⌝ }
-    requires { ⌜ (checkRecords 2 (now table) ≡ Pass) × (rank ≡ rankAt 2 (now table) later) ⌝ }
-    requires { ⌜ InRow (precedesSlot 2 (now table)) (misorderedSlots 2 (now table)) (now near) later (block + 1) 0 before ⌝ }
-    requires { ⌜ Marks (rankAt 2 (now table)) (occupiedAt 2 (now table)) (now near) (now full) (now free) (now low) later ⌝ }
+    requires { ⌜ (Width (mode .width)) × (later < slots (mode .width) (now table)) × (later < mostSlots) × (2 * later + 1 < length (now near)) × (16 ≤ length (now full)) × (16 ≤ length (now free)) × (16 ≤ length (now low)) × (block < 16) × (used ≤ length (now rows)) ⌝ }
+    requires { ⌜ (checkRecords (mode .width) (now table) ≡ Pass) × (rank ≡ rankAt (mode .width) (now table) later) ⌝ }
+    requires { ⌜ InRow (precedesSlot (mode .width) (now table)) (misorderedSlots (mode .width) (now table)) (now near) later (block + 1) 0 before ⌝ }
+    requires { ⌜ Marks (rankAt (mode .width) (now table)) (occupiedAt (mode .width) (now table)) (now near) (now full) (now free) (now low) later ⌝ }
     requires { ⌜ ((m : ℕ) → m < used → getD (now rows) m 0 + 16 ≤ length (now maps)) ⌝ }
-    requires { ⌜ Tells (precedesSlot 2 (now table)) (misorderedSlots 2 (now table)) (now maps) (now rows) used later ⌝ }
-    ensures { λ r. ⌜ InRow (precedesSlot 2 (now (table .entry))) (misorderedSlots 2 (now (table .entry))) (now (near .exit)) later block 0 r ⌝ }
-    ensures { λ _. ⌜ Marks (rankAt 2 (now (table .entry))) (occupiedAt 2 (now (table .entry))) (now (near .exit)) (now (full .entry)) (now (free .exit)) (now (low .entry)) later ⌝ }
+    requires { ⌜ Tells (precedesSlot (mode .width) (now table)) (misorderedSlots (mode .width) (now table)) (now maps) (now rows) used later ⌝ }
+    ensures { λ r. ⌜ InRow (precedesSlot (mode .width) (now (table .entry))) (misorderedSlots (mode .width) (now (table .entry))) (now (near .exit)) later block 0 r ⌝ }
+    ensures { λ _. ⌜ Marks (rankAt (mode .width) (now (table .entry))) (occupiedAt (mode .width) (now (table .entry))) (now (near .exit)) (now (full .entry)) (now (free .exit)) (now (low .entry)) later ⌝ }
 {
     let some = needed(near, full, free, low, block, later, rank);
     if some == 0 {
@@ -197,6 +212,7 @@ fn ask_some(
         later,
         rank,
         before,
+        mode,
     )
 }
 
@@ -211,17 +227,18 @@ pub fn ask_row(
     rows: &[usize],
     used: usize,
     later: usize,
+    mode: Mode,
 ) -> bool
-    requires { ⌜ (later < length (now table) / 6) × (later < 1024) × (2 * later + 1 < length (now near)) × (16 ≤ length (now full)) × (16 ≤ length (now free)) × (16 ≤ length (now low)) × (used ≤ length (now rows)) ⌝ }
-    requires { ⌜ (checkRecords 2 (now table) ≡ Pass) ⌝ }
-    requires { ⌜ InRow (precedesSlot 2 (now table)) (misorderedSlots 2 (now table)) (now near) later (later / 64 + 1) 0 false ⌝ }
-    requires { ⌜ Marks (rankAt 2 (now table)) (occupiedAt 2 (now table)) (now near) (now full) (now free) (now low) later ⌝ }
+    requires { ⌜ (Width (mode .width)) × (later < slots (mode .width) (now table)) × (later < mostSlots) × (2 * later + 1 < length (now near)) × (16 ≤ length (now full)) × (16 ≤ length (now free)) × (16 ≤ length (now low)) × (used ≤ length (now rows)) ⌝ }
+    requires { ⌜ (checkRecords (mode .width) (now table) ≡ Pass) ⌝ }
+    requires { ⌜ InRow (precedesSlot (mode .width) (now table)) (misorderedSlots (mode .width) (now table)) (now near) later (later / 64 + 1) 0 false ⌝ }
+    requires { ⌜ Marks (rankAt (mode .width) (now table)) (occupiedAt (mode .width) (now table)) (now near) (now full) (now free) (now low) later ⌝ }
     requires { ⌜ ((m : ℕ) → m < used → getD (now rows) m 0 + 16 ≤ length (now maps)) ⌝ }
-    requires { ⌜ Tells (precedesSlot 2 (now table)) (misorderedSlots 2 (now table)) (now maps) (now rows) used later ⌝ }
-    ensures { λ r. ⌜ InRow (precedesSlot 2 (now (table .entry))) (misorderedSlots 2 (now (table .entry))) (now (near .exit)) later 0 0 r ⌝ }
-    ensures { λ _. ⌜ Marks (rankAt 2 (now (table .entry))) (occupiedAt 2 (now (table .entry))) (now (near .exit)) (now (full .entry)) (now (free .exit)) (now (low .entry)) later ⌝ }
+    requires { ⌜ Tells (precedesSlot (mode .width) (now table)) (misorderedSlots (mode .width) (now table)) (now maps) (now rows) used later ⌝ }
+    ensures { λ r. ⌜ InRow (precedesSlot (mode .width) (now (table .entry))) (misorderedSlots (mode .width) (now (table .entry))) (now (near .exit)) later 0 0 r ⌝ }
+    ensures { λ _. ⌜ Marks (rankAt (mode .width) (now (table .entry))) (occupiedAt (mode .width) (now (table .entry))) (now (near .exit)) (now (full .entry)) (now (free .exit)) (now (low .entry)) later ⌝ }
 {
-    let rank = slot_rank(table, later);
+    let rank = slot_rank(table, later, mode.width);
     let mut block = later / 64 + 1;
     let mut bad = false;
     while 0 < block {
@@ -239,6 +256,7 @@ pub fn ask_row(
             later,
             rank,
             bad,
+            mode,
         );
     }
     bad

@@ -3,15 +3,22 @@ use crate::asking::ask_row;
 use bitmaps::bits::mark;
 use bitmaps::maps::fill_rows;
 use bitmaps::maps::note_rows;
+use bitmaps::places::WIDE_PLACES;
 use bitmaps::places::choose_places;
 use bitmaps::places::spread_places;
+use records::Mode;
+use records::WIDE;
+use slots::slot_count;
 use slots::slot_rank;
 use slots::slot_vacant;
 ghost use mathlib.Core.Path.{_≡_};
-ghost use Prim.Native.Nat.{ℕ, _+_, _*_, _/_, _<_, _≤_};
+ghost use Prim.Native.Nat.{ℕ, _+_, _*_, _<_, _≤_};
 ghost use lib.ListN.{length, getD};
+ghost use Rattle.records.specs.Record.{mostSlots};
 ghost use Rattle.search.specs.Search.{least};
+ghost use Rattle.records.specs.Order.{slots};
 ghost use Rattle.records.specs.Checks.{checkRecords, disorderAt};
+ghost use Rattle.records.specs.Widths.{Width};
 ghost use Rattle.records.specs.declared.Check.the-variants.{Pass};
 ghost use Rattle.bitmaps.specs.Rows.{Spread, total};
 ghost use Rattle.bitmaps.specs.Flags.{marked};
@@ -20,7 +27,7 @@ ghost use Rattle.neighbour_lists.specs.Pass.{lowered, Taken, Room};
 
 // A rule noted for the slots after it.
 fn note_rule(full: &mut [u64], free: &mut [u64], low: &mut [u64], slot: usize, rank: u64)
-    requires { ⌜ (slot < 1024) × (16 ≤ length (now full)) × (16 ≤ length (now free)) × (16 ≤ length (now low)) ⌝ }
+    requires { ⌜ (slot < mostSlots) × (16 ≤ length (now full)) × (16 ≤ length (now free)) × (16 ≤ length (now low)) ⌝ }
     ensures { λ _. ⌜ now (full .exit) ≡ marked (now (full .entry)) slot ⌝ }
     ensures { λ _. ⌜ now (free .exit) ≡ marked (now (free .entry)) slot ⌝ }
     ensures { λ _. ⌜ now (low .exit) ≡ lowered (now (low .entry)) slot rank ⌝ }
@@ -44,24 +51,35 @@ fn take_rule(
     places: &[usize],
     count: usize,
     chosen: &[u64],
-    starts: &[usize],
+    starts: &[u16],
     others: &mut [usize],
     own: &mut [usize],
     slot: usize,
+    mode: Mode,
 ) -> bool
-    requires { ⌜ (length (now table) ≤ 6144) × (slot < length (now table) / 6) × (checkRecords 2 (now table) ≡ Pass) ⌝ }
-    requires { ⌜ Room 2 (length (now table) / 6) (now near) (now full) (now free) (now low) (now maps) (now places) count (now chosen) (now starts) (now others) (now own) ⌝ }
-    requires { ⌜ Taken 2 (now table) (now places) (now near) (now full) (now free) (now low) (now maps) slot ⌝ }
-    ensures { λ r. ⌜ r ≡ disorderAt 2 (now (table .entry)) slot ⌝ }
-    ensures { λ _. ⌜ Taken 2 (now (table .entry)) (now (places .entry)) (now (near .exit)) (now (full .exit)) (now (free .exit)) (now (low .exit)) (now (maps .exit)) (slot + 1) ⌝ }
+    requires { ⌜ (Width (mode .width)) × (slots (mode .width) (now table) ≤ mostSlots) × (slot < slots (mode .width) (now table)) × (checkRecords (mode .width) (now table) ≡ Pass) ⌝ }
+    requires { ⌜ Room (mode .width) (slots (mode .width) (now table)) (now near) (now full) (now free) (now low) (now maps) (now places) count (now chosen) (now starts) (now others) (now own) ⌝ }
+    requires { ⌜ Taken (mode .width) (now table) (now places) (now near) (now full) (now free) (now low) (now maps) slot ⌝ }
+    ensures { λ r. ⌜ r ≡ disorderAt (mode .width) (now (table .entry)) slot ⌝ }
+    ensures { λ _. ⌜ Taken (mode .width) (now (table .entry)) (now (places .entry)) (now (near .exit)) (now (full .exit)) (now (free .exit)) (now (low .exit)) (now (maps .exit)) (slot + 1) ⌝ }
 {
     near[2 * slot + 1] = 65535;
-    let used = fill_rows(table, slot, places, count, chosen, starts, others, own);
-    let bad = ask_row(table, near, full, free, low, maps, others, used, slot);
+    let used = fill_rows(
+        table,
+        slot,
+        places,
+        count,
+        chosen,
+        starts,
+        others,
+        own,
+        mode.width,
+    );
+    let bad = ask_row(table, near, full, free, low, maps, others, used, slot, mode);
     // Stored after the row, which promises nothing of this number.
     near[2 * slot] = 65535;
     note_rows(maps, own, used, slot);
-    note_rule(full, free, low, slot, slot_rank(table, slot));
+    note_rule(full, free, low, slot, slot_rank(table, slot, mode.width));
     bad
 }
 
@@ -76,18 +94,19 @@ fn take_slot(
     places: &[usize],
     count: usize,
     chosen: &[u64],
-    starts: &[usize],
+    starts: &[u16],
     others: &mut [usize],
     own: &mut [usize],
     slot: usize,
+    mode: Mode,
 ) -> bool
-    requires { ⌜ (length (now table) ≤ 6144) × (slot < length (now table) / 6) × (checkRecords 2 (now table) ≡ Pass) ⌝ }
-    requires { ⌜ Room 2 (length (now table) / 6) (now near) (now full) (now free) (now low) (now maps) (now places) count (now chosen) (now starts) (now others) (now own) ⌝ }
-    requires { ⌜ Taken 2 (now table) (now places) (now near) (now full) (now free) (now low) (now maps) slot ⌝ }
-    ensures { λ r. ⌜ r ≡ disorderAt 2 (now (table .entry)) slot ⌝ }
-    ensures { λ _. ⌜ Taken 2 (now (table .entry)) (now (places .entry)) (now (near .exit)) (now (full .exit)) (now (free .exit)) (now (low .exit)) (now (maps .exit)) (slot + 1) ⌝ }
+    requires { ⌜ (Width (mode .width)) × (slots (mode .width) (now table) ≤ mostSlots) × (slot < slots (mode .width) (now table)) × (checkRecords (mode .width) (now table) ≡ Pass) ⌝ }
+    requires { ⌜ Room (mode .width) (slots (mode .width) (now table)) (now near) (now full) (now free) (now low) (now maps) (now places) count (now chosen) (now starts) (now others) (now own) ⌝ }
+    requires { ⌜ Taken (mode .width) (now table) (now places) (now near) (now full) (now free) (now low) (now maps) slot ⌝ }
+    ensures { λ r. ⌜ r ≡ disorderAt (mode .width) (now (table .entry)) slot ⌝ }
+    ensures { λ _. ⌜ Taken (mode .width) (now (table .entry)) (now (places .entry)) (now (near .exit)) (now (full .exit)) (now (free .exit)) (now (low .exit)) (now (maps .exit)) (slot + 1) ⌝ }
 {
-    if slot_vacant(table, slot) {
+    if slot_vacant(table, slot, mode.width) {
         near[2 * slot + 1] = 65535;
         near[2 * slot] = 65535;
         return false;
@@ -106,6 +125,7 @@ fn take_slot(
         others,
         own,
         slot,
+        mode,
     )
 }
 
@@ -120,17 +140,18 @@ fn take_slots(
     places: &[usize],
     count: usize,
     chosen: &[u64],
-    starts: &[usize],
+    starts: &[u16],
     others: &mut [usize],
     own: &mut [usize],
+    mode: Mode,
 ) -> usize
-    requires { ⌜ (length (now table) ≤ 6144) × (checkRecords 2 (now table) ≡ Pass) ⌝ }
-    requires { ⌜ Room 2 (length (now table) / 6) (now near) (now full) (now free) (now low) (now maps) (now places) count (now chosen) (now starts) (now others) (now own) ⌝ }
-    requires { ⌜ Taken 2 (now table) (now places) (now near) (now full) (now free) (now low) (now maps) 0 ⌝ }
-    ensures { λ r. ⌜ r ≡ least (disorderAt 2 (now (table .entry))) (length (now (table .entry)) / 6) 0 ⌝ }
-    ensures { λ _. ⌜ Listed 2 (now (table .entry)) (now (near .exit)) ⌝ }
+    requires { ⌜ (Width (mode .width)) × (slots (mode .width) (now table) ≤ mostSlots) × (checkRecords (mode .width) (now table) ≡ Pass) ⌝ }
+    requires { ⌜ Room (mode .width) (slots (mode .width) (now table)) (now near) (now full) (now free) (now low) (now maps) (now places) count (now chosen) (now starts) (now others) (now own) ⌝ }
+    requires { ⌜ Taken (mode .width) (now table) (now places) (now near) (now full) (now free) (now low) (now maps) 0 ⌝ }
+    ensures { λ r. ⌜ r ≡ least (disorderAt (mode .width) (now (table .entry))) (slots (mode .width) (now (table .entry))) 0 ⌝ }
+    ensures { λ _. ⌜ Listed (mode .width) (now (table .entry)) (now (near .exit)) ⌝ }
 {
-    let slots = table.len() / 6;
+    let slots = slot_count(table, mode.width);
     let mut first = 0;
     let mut slot = 0;
     while slot < slots {
@@ -148,6 +169,7 @@ fn take_slots(
             others,
             own,
             slot,
+            mode,
         );
         if (first == slot) & !bad {
             first += 1;
@@ -165,14 +187,15 @@ fn pass_with(
     places: &[usize],
     count: usize,
     chosen: &[u64],
-    starts: &[usize],
+    starts: &[u16],
+    mode: Mode,
 ) -> usize
-    requires { ⌜ (length (now table) ≤ 6144) × (checkRecords 2 (now table) ≡ Pass) × (2 * (length (now table) / 6) ≤ length (now near)) ⌝ }
-    requires { ⌜ (32 * count ≤ length (now maps)) × (count ≤ 64) × ((m : ℕ) → m < count → getD (now places) m 0 < 128) ⌝ }
-    requires { ⌜ (2 ≤ length (now chosen)) × (128 ≤ length (now starts)) × (total (now chosen) 2 ≤ count) × Spread (now places) count (now chosen) (now starts) ⌝ }
+    requires { ⌜ (Width (mode .width)) × (slots (mode .width) (now table) ≤ mostSlots) × (checkRecords (mode .width) (now table) ≡ Pass) × (2 * (slots (mode .width) (now table)) ≤ length (now near)) ⌝ }
+    requires { ⌜ (32 * count ≤ length (now maps)) × (count ≤ 64) × ((m : ℕ) → m < count → getD (now places) m 0 < 64 * mode .width) ⌝ }
+    requires { ⌜ (mode .width ≤ length (now chosen)) × (64 * mode .width ≤ length (now starts)) × (total (now chosen) (mode .width) ≤ count) × Spread (now places) count (now chosen) (now starts) ⌝ }
     requires { ⌜ ((a : ℕ) → getD (now maps) a 0 ≡ 0) ⌝ }
-    ensures { λ r. ⌜ r ≡ least (disorderAt 2 (now (table .entry))) (length (now (table .entry)) / 6) 0 ⌝ }
-    ensures { λ _. ⌜ Listed 2 (now (table .entry)) (now (near .exit)) ⌝ }
+    ensures { λ r. ⌜ r ≡ least (disorderAt (mode .width) (now (table .entry))) (slots (mode .width) (now (table .entry))) 0 ⌝ }
+    ensures { λ _. ⌜ Listed (mode .width) (now (table .entry)) (now (near .exit)) ⌝ }
 {
     let mut full = [0u64; 16];
     let mut free = [0u64; 16];
@@ -192,46 +215,70 @@ fn pass_with(
         starts,
         &mut others,
         &mut own,
+        mode,
     )
 }
 
 // With maps for the places chosen.
-fn pass_screened(table: &[u64], near: &mut [u16]) -> usize
-    requires { ⌜ (length (now table) ≤ 6144) × (checkRecords 2 (now table) ≡ Pass) × (2 * (length (now table) / 6) ≤ length (now near)) ⌝ }
-    ensures { λ r. ⌜ r ≡ least (disorderAt 2 (now (table .entry))) (length (now (table .entry)) / 6) 0 ⌝ }
-    ensures { λ _. ⌜ Listed 2 (now (table .entry)) (now (near .exit)) ⌝ }
+fn pass_screened(table: &[u64], near: &mut [u16], mode: Mode) -> usize
+    requires { ⌜ (Width (mode .width)) × (slots (mode .width) (now table) ≤ mostSlots) × (checkRecords (mode .width) (now table) ≡ Pass) × (2 * (slots (mode .width) (now table)) ≤ length (now near)) ⌝ }
+    ensures { λ r. ⌜ r ≡ least (disorderAt (mode .width) (now (table .entry))) (slots (mode .width) (now (table .entry))) 0 ⌝ }
+    ensures { λ _. ⌜ Listed (mode .width) (now (table .entry)) (now (near .exit)) ⌝ }
 {
-    let mut maps = [0u64; 2048];
     let mut places = [0usize; 64];
-    let count = choose_places(table, &mut places);
-    let mut chosen = [0u64; 2];
-    let mut starts = [0usize; 128];
-    spread_places(&places, count, &mut chosen, &mut starts);
-    pass_with(table, near, &mut maps, &places, count, &chosen, &starts)
+    let count = choose_places(table, &mut places, mode.width);
+    let mut chosen = [0u64; WIDE];
+    let mut starts = [0u16; WIDE_PLACES];
+    spread_places(&places, count, &mut chosen, &mut starts, mode.width);
+    // Large maps cost more to clear than they save where few places are chosen.
+    if count <= 8 {
+        let mut maps = [0u64; 256];
+        return pass_with(
+            table,
+            near,
+            &mut maps,
+            &places,
+            count,
+            &chosen,
+            &starts,
+            mode,
+        );
+    }
+    let mut maps = [0u64; 2048];
+    pass_with(
+        table,
+        near,
+        &mut maps,
+        &places,
+        count,
+        &chosen,
+        &starts,
+        mode,
+    )
 }
 
 // Without maps: no place is chosen.
-fn pass_plain(table: &[u64], near: &mut [u16]) -> usize
-    requires { ⌜ (length (now table) ≤ 6144) × (checkRecords 2 (now table) ≡ Pass) × (2 * (length (now table) / 6) ≤ length (now near)) ⌝ }
-    ensures { λ r. ⌜ r ≡ least (disorderAt 2 (now (table .entry))) (length (now (table .entry)) / 6) 0 ⌝ }
-    ensures { λ _. ⌜ Listed 2 (now (table .entry)) (now (near .exit)) ⌝ }
+fn pass_plain(table: &[u64], near: &mut [u16], mode: Mode) -> usize
+    requires { ⌜ (Width (mode .width)) × (slots (mode .width) (now table) ≤ mostSlots) × (checkRecords (mode .width) (now table) ≡ Pass) × (2 * (slots (mode .width) (now table)) ≤ length (now near)) ⌝ }
+    ensures { λ r. ⌜ r ≡ least (disorderAt (mode .width) (now (table .entry))) (slots (mode .width) (now (table .entry))) 0 ⌝ }
+    ensures { λ _. ⌜ Listed (mode .width) (now (table .entry)) (now (near .exit)) ⌝ }
 {
     let mut maps = [0u64; 1];
     let places = [0usize; 1];
-    let chosen = [0u64; 2];
-    let starts = [0usize; 128];
-    pass_with(table, near, &mut maps, &places, 0, &chosen, &starts)
+    let chosen = [0u64; WIDE];
+    let starts = [0u16; WIDE_PLACES];
+    pass_with(table, near, &mut maps, &places, 0, &chosen, &starts, mode)
 }
 
 // The neighbour list of a table, into the front of a lent list; the lowest slot that is out of order, or the number of slots.
-pub fn fill_near(table: &[u64], near: &mut [u16]) -> usize
-    requires { ⌜ (length (now table) ≤ 6144) × (checkRecords 2 (now table) ≡ Pass) × (2 * (length (now table) / 6) ≤ length (now near)) ⌝ }
-    ensures { λ r. ⌜ r ≡ least (disorderAt 2 (now (table .entry))) (length (now (table .entry)) / 6) 0 ⌝ }
-    ensures { λ _. ⌜ Listed 2 (now (table .entry)) (now (near .exit)) ⌝ }
+pub fn fill_near(table: &[u64], near: &mut [u16], mode: Mode) -> usize
+    requires { ⌜ (Width (mode .width)) × (slots (mode .width) (now table) ≤ mostSlots) × (checkRecords (mode .width) (now table) ≡ Pass) × (2 * (slots (mode .width) (now table)) ≤ length (now near)) ⌝ }
+    ensures { λ r. ⌜ r ≡ least (disorderAt (mode .width) (now (table .entry))) (slots (mode .width) (now (table .entry))) 0 ⌝ }
+    ensures { λ _. ⌜ Listed (mode .width) (now (table .entry)) (now (near .exit)) ⌝ }
 {
     // Below 160 slots maps cost more than they save.
-    if table.len() / 6 < 160 {
-        return pass_plain(table, near);
+    if slot_count(table, mode.width) < 160 {
+        return pass_plain(table, near, mode);
     }
-    pass_screened(table, near)
+    pass_screened(table, near, mode)
 }

@@ -5,23 +5,29 @@ use pairs::same_id;
 use pairs::tied_pair;
 use records::Cause;
 use records::Check;
+use records::Mode;
+use records::NARROW;
+use records::WIDE;
+use slots::slot_count;
 use slots::slot_empty;
 ghost use mathlib.Core.Path.{_≡_};
 ghost use Prim.Native.Nat.{_≤_};
 ghost use lib.ListN.{length};
-ghost use Rattle.records.specs.Record.{slotWords};
+ghost use Rattle.records.specs.Record.{mostSlots, recordWords, slotWords};
+ghost use Rattle.records.specs.Order.{slots};
+ghost use Rattle.records.specs.Widths.{Width};
 ghost use Rattle.records.specs.Checks.{orElse};
 ghost use Rattle.neighbours.specs.Neighbours.{checkKnown, checkTie, checkFull, afterA, slotB, crossedBy};
 
 // Check 6: the id is not in the table.
-pub fn check_known(table: &[u64], new: &[u64]) -> Check
-    requires { ⌜ (length (now table) ≤ 6144) × (length (now new) ≡ 6) ⌝ }
-    ensures { λ r. ⌜ r ≡ checkKnown 2 (now (table .entry)) (slotWords 2 (now (new .entry)) 0) ⌝ }
+fn check_known_by(table: &[u64], new: &[u64], mode: Mode) -> Check
+    requires { ⌜ (Width (mode .width)) × (slots (mode .width) (now table) ≤ mostSlots) × (length (now new) ≡ recordWords (mode .width)) ⌝ }
+    ensures { λ r. ⌜ r ≡ checkKnown (mode .width) (now (table .entry)) (slotWords (mode .width) (now (new .entry)) 0) ⌝ }
 {
-    let slots = table.len() / 6;
+    let slots = slot_count(table, mode.width);
     let mut slot = 0;
     while slot < slots {
-        if same_id(table, slot, new, 0) {
+        if same_id(table, slot, new, 0, mode.width) {
             return Check::Fail(Cause::Known, slot as u32);
         }
         slot += 1;
@@ -29,15 +35,26 @@ pub fn check_known(table: &[u64], new: &[u64]) -> Check
     Check::Pass
 }
 
-// Check 8: no rule overlaps the new one at equal priority.
-pub fn check_tie(table: &[u64], new: &[u64]) -> Check
-    requires { ⌜ (length (now table) ≤ 6144) × (length (now new) ≡ 6) ⌝ }
-    ensures { λ r. ⌜ r ≡ checkTie 2 (now (table .entry)) (slotWords 2 (now (new .entry)) 0) ⌝ }
+// The same, with the width a constant for the compiler: it makes a copy for each.
+pub fn check_known(table: &[u64], new: &[u64], mode: Mode) -> Check
+    requires { ⌜ (Width (mode .width)) × (slots (mode .width) (now table) ≤ mostSlots) × (length (now new) ≡ recordWords (mode .width)) ⌝ }
+    ensures { λ r. ⌜ r ≡ checkKnown (mode .width) (now (table .entry)) (slotWords (mode .width) (now (new .entry)) 0) ⌝ }
 {
-    let slots = table.len() / 6;
+    if mode.width == NARROW {
+        return check_known_by(table, new, Mode { width: NARROW });
+    }
+    check_known_by(table, new, Mode { width: WIDE })
+}
+
+// Check 8: no rule overlaps the new one at equal priority.
+fn check_tie_by(table: &[u64], new: &[u64], mode: Mode) -> Check
+    requires { ⌜ (Width (mode .width)) × (slots (mode .width) (now table) ≤ mostSlots) × (length (now new) ≡ recordWords (mode .width)) ⌝ }
+    ensures { λ r. ⌜ r ≡ checkTie (mode .width) (now (table .entry)) (slotWords (mode .width) (now (new .entry)) 0) ⌝ }
+{
+    let slots = slot_count(table, mode.width);
     let mut slot = 0;
     while slot < slots {
-        if tied_pair(table, slot, new, 0) {
+        if tied_pair(table, slot, new, 0, mode) {
             return Check::Fail(Cause::Tie, slot as u32);
         }
         slot += 1;
@@ -45,14 +62,26 @@ pub fn check_tie(table: &[u64], new: &[u64]) -> Check
     Check::Pass
 }
 
-// Check 9: a slot is empty.
-pub fn check_full(table: &[u64]) -> Check
-    ensures { λ r. ⌜ r ≡ checkFull 2 (now (table .entry)) ⌝ }
+// The same, with the width a constant for the compiler: it makes a copy for each.
+pub fn check_tie(table: &[u64], new: &[u64], mode: Mode) -> Check
+    requires { ⌜ (Width (mode .width)) × (slots (mode .width) (now table) ≤ mostSlots) × (length (now new) ≡ recordWords (mode .width)) ⌝ }
+    ensures { λ r. ⌜ r ≡ checkTie (mode .width) (now (table .entry)) (slotWords (mode .width) (now (new .entry)) 0) ⌝ }
 {
-    let slots = table.len() / 6;
+    if mode.width == NARROW {
+        return check_tie_by(table, new, Mode { width: NARROW });
+    }
+    check_tie_by(table, new, Mode { width: WIDE })
+}
+
+// Check 9: a slot is empty.
+pub fn check_full(table: &[u64], mode: Mode) -> Check
+    requires { ⌜ Width (mode .width) ⌝ }
+    ensures { λ r. ⌜ r ≡ checkFull (mode .width) (now (table .entry)) ⌝ }
+{
+    let slots = slot_count(table, mode.width);
     let mut slot = 0;
     while slot < slots {
-        if slot_empty(table, slot) {
+        if slot_empty(table, slot, mode.width) {
             return Check::Pass;
         }
         slot += 1;
@@ -61,13 +90,13 @@ pub fn check_full(table: &[u64]) -> Check
 }
 
 // One past the highest slot with a rule that precedes the new one; 0 where there is none.
-pub fn after_a(table: &[u64], new: &[u64]) -> usize
-    requires { ⌜ length (now new) ≡ 6 ⌝ }
-    ensures { λ r. ⌜ r ≡ afterA 2 (now (table .entry)) (slotWords 2 (now (new .entry)) 0) ⌝ }
+fn after_a_by(table: &[u64], new: &[u64], mode: Mode) -> usize
+    requires { ⌜ (Width (mode .width)) × (length (now new) ≡ recordWords (mode .width)) ⌝ }
+    ensures { λ r. ⌜ r ≡ afterA (mode .width) (now (table .entry)) (slotWords (mode .width) (now (new .entry)) 0) ⌝ }
 {
-    let mut after = table.len() / 6;
+    let mut after = slot_count(table, mode.width);
     while 0 < after {
-        if precedes_pair(table, after - 1, new, 0) {
+        if precedes_pair(table, after - 1, new, 0, mode) {
             return after;
         }
         after -= 1;
@@ -75,15 +104,26 @@ pub fn after_a(table: &[u64], new: &[u64]) -> usize
     0
 }
 
-// The lowest slot with a rule that depends on the new one, or the number of slots.
-pub fn slot_b(table: &[u64], new: &[u64]) -> usize
-    requires { ⌜ length (now new) ≡ 6 ⌝ }
-    ensures { λ r. ⌜ r ≡ slotB 2 (now (table .entry)) (slotWords 2 (now (new .entry)) 0) ⌝ }
+// The same, with the width a constant for the compiler: it makes a copy for each.
+pub fn after_a(table: &[u64], new: &[u64], mode: Mode) -> usize
+    requires { ⌜ (Width (mode .width)) × (length (now new) ≡ recordWords (mode .width)) ⌝ }
+    ensures { λ r. ⌜ r ≡ afterA (mode .width) (now (table .entry)) (slotWords (mode .width) (now (new .entry)) 0) ⌝ }
 {
-    let slots = table.len() / 6;
+    if mode.width == NARROW {
+        return after_a_by(table, new, Mode { width: NARROW });
+    }
+    after_a_by(table, new, Mode { width: WIDE })
+}
+
+// The lowest slot with a rule that depends on the new one, or the number of slots.
+fn slot_b_by(table: &[u64], new: &[u64], mode: Mode) -> usize
+    requires { ⌜ (Width (mode .width)) × (length (now new) ≡ recordWords (mode .width)) ⌝ }
+    ensures { λ r. ⌜ r ≡ slotB (mode .width) (now (table .entry)) (slotWords (mode .width) (now (new .entry)) 0) ⌝ }
+{
+    let slots = slot_count(table, mode.width);
     let mut slot = 0;
     while slot < slots {
-        if precedes_pair(new, 0, table, slot) {
+        if precedes_pair(new, 0, table, slot, mode) {
             return slot;
         }
         slot += 1;
@@ -91,9 +131,20 @@ pub fn slot_b(table: &[u64], new: &[u64]) -> usize
     slots
 }
 
+// The same, with the width a constant for the compiler: it makes a copy for each.
+pub fn slot_b(table: &[u64], new: &[u64], mode: Mode) -> usize
+    requires { ⌜ (Width (mode .width)) × (length (now new) ≡ recordWords (mode .width)) ⌝ }
+    ensures { λ r. ⌜ r ≡ slotB (mode .width) (now (table .entry)) (slotWords (mode .width) (now (new .entry)) 0) ⌝ }
+{
+    if mode.width == NARROW {
+        return slot_b_by(table, new, Mode { width: NARROW });
+    }
+    slot_b_by(table, new, Mode { width: WIDE })
+}
+
 // Check 10, of A + 1 and B: A is not after B.
 pub fn check_crossed(after: usize, dependant: usize) -> Check
-    requires { ⌜ (after ≤ 1024) × (dependant ≤ 1024) ⌝ }
+    requires { ⌜ (after ≤ mostSlots) × (dependant ≤ mostSlots) ⌝ }
     ensures { λ r. ⌜ r ≡ crossedBy after dependant ⌝ }
 {
     if dependant + 1 < after {
@@ -103,18 +154,18 @@ pub fn check_crossed(after: usize, dependant: usize) -> Check
 }
 
 // Checks 6, 8 and 9.
-pub fn check_new(table: &[u64], new: &[u64]) -> Check
-    requires { ⌜ (length (now table) ≤ 6144) × (length (now new) ≡ 6) ⌝ }
-    ensures { λ r. ⌜ r ≡ orElse (checkKnown 2 (now (table .entry)) (slotWords 2 (now (new .entry)) 0))
-        (orElse (checkTie 2 (now (table .entry)) (slotWords 2 (now (new .entry)) 0)) (checkFull 2 (now (table .entry)))) ⌝ }
+pub fn check_new(table: &[u64], new: &[u64], mode: Mode) -> Check
+    requires { ⌜ (Width (mode .width)) × (slots (mode .width) (now table) ≤ mostSlots) × (length (now new) ≡ recordWords (mode .width)) ⌝ }
+    ensures { λ r. ⌜ r ≡ orElse (checkKnown (mode .width) (now (table .entry)) (slotWords (mode .width) (now (new .entry)) 0))
+        (orElse (checkTie (mode .width) (now (table .entry)) (slotWords (mode .width) (now (new .entry)) 0)) (checkFull (mode .width) (now (table .entry)))) ⌝ }
 {
-    let known = check_known(table, new);
+    let known = check_known(table, new, mode);
     if let Check::Fail(cause, spot) = known {
         return Check::Fail(cause, spot);
     }
-    let tie = check_tie(table, new);
+    let tie = check_tie(table, new, mode);
     if let Check::Fail(cause, spot) = tie {
         return Check::Fail(cause, spot);
     }
-    check_full(table)
+    check_full(table, mode)
 }

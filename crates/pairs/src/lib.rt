@@ -1,149 +1,167 @@
 // Two slots side by side: overlap, one id in both, tied, one before the other. Each slot is read in its own table.
 // A slot of one table and a slot of another, or of the same; a rule to be inserted is a table of one slot.
+use records::Mode;
+use records::NARROW;
+use records::WIDE;
+use slots::mask_word;
 use slots::slot_empty;
 use slots::slot_id;
 use slots::slot_rank;
 use slots::slot_vacant;
-use slots::slot_word;
+use slots::value_word;
 ghost use mathlib.Core.Path.{_≡_};
-ghost use mathlib.Core.List.{[], _∷_};
 ghost use mathlib.Core.Bool.{_&&_};
-ghost use Prim.Native.Nat.{_<_, _/_};
-ghost use lib.ListN.{length};
-ghost use Rattle.ternary.specs.Pattern.{overlaps};
-ghost use Rattle.records.specs.Record.{word, slotWords, value, mask, occupied};
+ghost use Prim.Native.Nat.{_<_};
+ghost use Rattle.records.specs.Record.{slotWords, occupied};
 ghost use Rattle.records.specs.Checks.{checkRecords};
+ghost use Rattle.records.specs.Widths.{Width};
 ghost use Rattle.records.specs.declared.Check.the-variants.{Pass};
-ghost use Rattle.records.specs.Order.{sameId, distinct, tied, precedes, overlapping};
+ghost use Rattle.records.specs.Order.{slots, sameId, distinct, tied, precedes, overlapAt, overlapping};
 
-// Whether a slot's pattern overlaps one whose words are at hand.
-pub fn pattern_overlaps(
+// Whether two slots' patterns do not differ in one word at bits that both care for.
+fn word_overlaps(
     table: &[u64],
     slot: usize,
-    value_high: u64,
-    value_low: u64,
-    mask_high: u64,
-    mask_low: u64,
+    others: &[u64],
+    other: usize,
+    index: usize,
+    width: usize,
 ) -> bool
-    requires { ⌜ slot < length (now table) / 6 ⌝ }
-    ensures { λ r. ⌜ r ≡ overlaps 2 (value (slotWords 2 (now (table .entry)) slot)) (mask 2 (slotWords 2 (now (table .entry)) slot))
-        (word («value_high» ∷ «value_low» ∷ [])) (word («mask_high» ∷ «mask_low» ∷ [])) ⌝ }
+    requires { ⌜ (Width width) × (slot < slots width (now table)) × (other < slots width (now others)) × (index < width) ⌝ }
+    ensures { λ r. ⌜ r ≡ overlapAt width (slotWords width (now (table .entry)) slot) (slotWords width (now (others .entry)) other) index ⌝ }
 {
-    let high = ternary::words_overlap(
-        slot_word(table, slot, 0),
-        slot_word(table, slot, 2),
-        value_high,
-        mask_high,
-    );
-    if high {
-        return ternary::words_overlap(
-            slot_word(table, slot, 1),
-            slot_word(table, slot, 3),
-            value_low,
-            mask_low,
-        );
-    }
-    false
-}
-
-// Whether two slots' patterns overlap, the slots read as rules.
-pub fn slots_overlap(table: &[u64], slot: usize, others: &[u64], other: usize) -> bool
-    requires { ⌜ (slot < length (now table) / 6) × (other < length (now others) / 6) ⌝ }
-    ensures { λ r. ⌜ r ≡ overlapping 2 (slotWords 2 (now (table .entry)) slot) (slotWords 2 (now (others .entry)) other) ⌝ }
-{
-    pattern_overlaps(
-        table,
-        slot,
-        slot_word(others, other, 0),
-        slot_word(others, other, 1),
-        slot_word(others, other, 2),
-        slot_word(others, other, 3),
+    ternary::words_overlap(
+        value_word(table, slot, index, width),
+        mask_word(table, slot, index, width),
+        value_word(others, other, index, width),
+        mask_word(others, other, index, width),
     )
 }
 
-// Whether both slots are occupied.
-pub fn both_occupied(table: &[u64], slot: usize, others: &[u64], other: usize) -> bool
-    requires { ⌜ (slot < length (now table) / 6) × (other < length (now others) / 6) ⌝ }
-    ensures { λ r. ⌜ r ≡ (occupied 2 (slotWords 2 (now (table .entry)) slot) && occupied 2 (slotWords 2 (now (others .entry)) other)) ⌝ }
+// Whether two slots' patterns overlap, the slots read as rules. It ends at the first word that tells them apart.
+fn slots_overlap_by(table: &[u64], slot: usize, others: &[u64], other: usize, width: usize) -> bool
+    requires { ⌜ (Width width) × (slot < slots width (now table)) × (other < slots width (now others)) ⌝ }
+    ensures { λ r. ⌜ r ≡ overlapping width (slotWords width (now (table .entry)) slot) (slotWords width (now (others .entry)) other) ⌝ }
 {
-    if slot_empty(table, slot) {
+    let mut index = 0;
+    while index < width {
+        if !word_overlaps(table, slot, others, other, index, width) {
+            return false;
+        }
+        index += 1;
+    }
+    true
+}
+
+// The same, with the width a constant for the compiler: it makes a copy for each.
+pub fn slots_overlap(table: &[u64], slot: usize, others: &[u64], other: usize, width: usize) -> bool
+    requires { ⌜ (Width width) × (slot < slots width (now table)) × (other < slots width (now others)) ⌝ }
+    ensures { λ r. ⌜ r ≡ overlapping width (slotWords width (now (table .entry)) slot) (slotWords width (now (others .entry)) other) ⌝ }
+{
+    if width == NARROW {
+        return slots_overlap_by(table, slot, others, other, NARROW);
+    }
+    slots_overlap_by(table, slot, others, other, WIDE)
+}
+
+// Whether both slots are occupied.
+pub fn both_occupied(table: &[u64], slot: usize, others: &[u64], other: usize, width: usize) -> bool
+    requires { ⌜ (Width width) × (slot < slots width (now table)) × (other < slots width (now others)) ⌝ }
+    ensures { λ r. ⌜ r ≡ (occupied width (slotWords width (now (table .entry)) slot) && occupied width (slotWords width (now (others .entry)) other)) ⌝ }
+{
+    if slot_empty(table, slot, width) {
         return false;
     }
-    let vacant = slot_empty(others, other);
+    let vacant = slot_empty(others, other, width);
     !vacant
 }
 
 // Whether one id stands in both slots.
-pub fn same_id(table: &[u64], slot: usize, others: &[u64], other: usize) -> bool
-    requires { ⌜ (slot < length (now table) / 6) × (other < length (now others) / 6) ⌝ }
-    ensures { λ r. ⌜ r ≡ sameId 2 (slotWords 2 (now (table .entry)) slot) (slotWords 2 (now (others .entry)) other) ⌝ }
+pub fn same_id(table: &[u64], slot: usize, others: &[u64], other: usize, width: usize) -> bool
+    requires { ⌜ (Width width) × (slot < slots width (now table)) × (other < slots width (now others)) ⌝ }
+    ensures { λ r. ⌜ r ≡ sameId width (slotWords width (now (table .entry)) slot) (slotWords width (now (others .entry)) other) ⌝ }
 {
-    if slot_id(table, slot) == slot_id(others, other) {
-        return both_occupied(table, slot, others, other);
+    if slot_id(table, slot, width) == slot_id(others, other, width) {
+        return both_occupied(table, slot, others, other, width);
     }
     false
 }
 
 // Whether the slots hold two rules of different ids.
-pub fn distinct_rules(table: &[u64], slot: usize, others: &[u64], other: usize) -> bool
-    requires { ⌜ (slot < length (now table) / 6) × (other < length (now others) / 6) ⌝ }
-    ensures { λ r. ⌜ r ≡ distinct 2 (slotWords 2 (now (table .entry)) slot) (slotWords 2 (now (others .entry)) other) ⌝ }
+pub fn distinct_rules(
+    table: &[u64],
+    slot: usize,
+    others: &[u64],
+    other: usize,
+    width: usize,
+) -> bool
+    requires { ⌜ (Width width) × (slot < slots width (now table)) × (other < slots width (now others)) ⌝ }
+    ensures { λ r. ⌜ r ≡ distinct width (slotWords width (now (table .entry)) slot) (slotWords width (now (others .entry)) other) ⌝ }
 {
-    if both_occupied(table, slot, others, other) {
-        return slot_id(table, slot) != slot_id(others, other);
+    if both_occupied(table, slot, others, other, width) {
+        return slot_id(table, slot, width) != slot_id(others, other, width);
     }
     false
 }
 
 // Whether both slots are occupied, where check 2 passes.
-fn both_hold_rules(table: &[u64], slot: usize, others: &[u64], other: usize) -> bool
-    requires { ⌜ (slot < length (now table) / 6) × (other < length (now others) / 6) ⌝ }
-    requires { ⌜ (checkRecords 2 (now table) ≡ Pass) × (checkRecords 2 (now others) ≡ Pass) ⌝ }
-    ensures { λ r. ⌜ r ≡ (occupied 2 (slotWords 2 (now (table .entry)) slot) && occupied 2 (slotWords 2 (now (others .entry)) other)) ⌝ }
+fn both_hold_rules(table: &[u64], slot: usize, others: &[u64], other: usize, width: usize) -> bool
+    requires { ⌜ (Width width) × (slot < slots width (now table)) × (other < slots width (now others)) ⌝ }
+    requires { ⌜ (checkRecords width (now table) ≡ Pass) × (checkRecords width (now others) ≡ Pass) ⌝ }
+    ensures { λ r. ⌜ r ≡ (occupied width (slotWords width (now (table .entry)) slot) && occupied width (slotWords width (now (others .entry)) other)) ⌝ }
 {
-    if slot_vacant(table, slot) {
+    if slot_vacant(table, slot, width) {
         return false;
     }
-    !slot_vacant(others, other)
+    !slot_vacant(others, other, width)
 }
 
 // Whether the slots hold two rules of different ids that overlap. Patterns first: they tell most pairs apart.
-pub fn rules_overlap(table: &[u64], slot: usize, others: &[u64], other: usize) -> bool
-    requires { ⌜ (slot < length (now table) / 6) × (other < length (now others) / 6) ⌝ }
-    requires { ⌜ (checkRecords 2 (now table) ≡ Pass) × (checkRecords 2 (now others) ≡ Pass) ⌝ }
-    ensures { λ r. ⌜ r ≡ (overlapping 2 (slotWords 2 (now (table .entry)) slot) (slotWords 2 (now (others .entry)) other) && distinct 2 (slotWords 2 (now (table .entry)) slot) (slotWords 2 (now (others .entry)) other)) ⌝ }
+pub fn rules_overlap(table: &[u64], slot: usize, others: &[u64], other: usize, width: usize) -> bool
+    requires { ⌜ (Width width) × (slot < slots width (now table)) × (other < slots width (now others)) ⌝ }
+    requires { ⌜ (checkRecords width (now table) ≡ Pass) × (checkRecords width (now others) ≡ Pass) ⌝ }
+    ensures { λ r. ⌜ r ≡ (overlapping width (slotWords width (now (table .entry)) slot) (slotWords width (now (others .entry)) other) && distinct width (slotWords width (now (table .entry)) slot) (slotWords width (now (others .entry)) other)) ⌝ }
 {
-    if !slots_overlap(table, slot, others, other) {
+    if !slots_overlap(table, slot, others, other, width) {
         return false;
     }
-    if !both_hold_rules(table, slot, others, other) {
+    if !both_hold_rules(table, slot, others, other, width) {
         return false;
     }
-    slot_id(table, slot) != slot_id(others, other)
+    slot_id(table, slot, width) != slot_id(others, other, width)
+}
+
+// Whether the slots hold two rules of different ids that overlap, the slots read as rules.
+fn overlapping_rules(table: &[u64], slot: usize, others: &[u64], other: usize, width: usize) -> bool
+    requires { ⌜ (Width width) × (slot < slots width (now table)) × (other < slots width (now others)) ⌝ }
+    ensures { λ r. ⌜ r ≡ (overlapping width (slotWords width (now (table .entry)) slot) (slotWords width (now (others .entry)) other) && distinct width (slotWords width (now (table .entry)) slot) (slotWords width (now (others .entry)) other)) ⌝ }
+{
+    if slots_overlap(table, slot, others, other, width) {
+        return distinct_rules(table, slot, others, other, width);
+    }
+    false
 }
 
 // Whether two rules overlap at equal priority.
-pub fn tied_pair(table: &[u64], slot: usize, others: &[u64], other: usize) -> bool
-    requires { ⌜ (slot < length (now table) / 6) × (other < length (now others) / 6) ⌝ }
-    ensures { λ r. ⌜ r ≡ tied 2 (slotWords 2 (now (table .entry)) slot) (slotWords 2 (now (others .entry)) other) ⌝ }
+pub fn tied_pair(table: &[u64], slot: usize, others: &[u64], other: usize, mode: Mode) -> bool
+    requires { ⌜ (Width (mode .width)) × (slot < slots (mode .width) (now table)) × (other < slots (mode .width) (now others)) ⌝ }
+    ensures { λ r. ⌜ r ≡ tied (mode .width) (slotWords (mode .width) (now (table .entry)) slot) (slotWords (mode .width) (now (others .entry)) other) ⌝ }
 {
-    let overlap = slots_overlap(table, slot, others, other);
-    let equal = slot_rank(table, slot) == slot_rank(others, other);
-    if overlap & equal {
-        return distinct_rules(table, slot, others, other);
+    let width = mode.width;
+    if slot_rank(table, slot, width) == slot_rank(others, other, width) {
+        return overlapping_rules(table, slot, others, other, width);
     }
     false
 }
 
 // Whether a rule precedes another: they overlap, and its priority is the higher one.
-pub fn precedes_pair(table: &[u64], slot: usize, others: &[u64], other: usize) -> bool
-    requires { ⌜ (slot < length (now table) / 6) × (other < length (now others) / 6) ⌝ }
-    ensures { λ r. ⌜ r ≡ precedes 2 (slotWords 2 (now (table .entry)) slot) (slotWords 2 (now (others .entry)) other) ⌝ }
+pub fn precedes_pair(table: &[u64], slot: usize, others: &[u64], other: usize, mode: Mode) -> bool
+    requires { ⌜ (Width (mode .width)) × (slot < slots (mode .width) (now table)) × (other < slots (mode .width) (now others)) ⌝ }
+    ensures { λ r. ⌜ r ≡ precedes (mode .width) (slotWords (mode .width) (now (table .entry)) slot) (slotWords (mode .width) (now (others .entry)) other) ⌝ }
 {
-    let overlap = slots_overlap(table, slot, others, other);
-    let higher = slot_rank(others, other) < slot_rank(table, slot);
-    if overlap & higher {
-        return distinct_rules(table, slot, others, other);
+    let width = mode.width;
+    if slot_rank(others, other, width) < slot_rank(table, slot, width) {
+        return overlapping_rules(table, slot, others, other, width);
     }
     false
 }

@@ -9,11 +9,11 @@ use Rattle.records.specs.Writes.{applyWord}
 use Rattle.script_printing.specs.Printing.{Shown}
 use Rattle.script_printing.specs.PrintedLines.{printed}
 use Rattle.records.specs.Checks.{causeNumber}
-use Rattle.records.specs.declared.Rule.{Rule}
+use Rattle.records.specs.Record.{word, ruleOf}
 use Rattle.records.specs.declared.Cause.{Cause}
 use Rattle.records.specs.declared.Cause.the-variants.{Shape, Record, Twice, Order, Rule as RuleCause, Known, Unknown, Tie, Full, Crossed, Short, Write, Line, Image}
 use Rattle.refusals.specs.Rows.{Row, Declines, Accepts}
-use Rattle.refusals.specs.Calls.{lookupRows, insertRows, deleteRows, saveRows, stepRows, loadRows}
+use Rattle.refusals.specs.Calls.{lookupCallRows, insertCallRows, deleteCallRows, saveCallRows, stepCallRows, loadCallRows}
 use Rattle.refusals.specs.Lines.{lineRows}
 use Rattle.script_commands.specs.Commands.{commandOf}
 use Rattle.script_operations.specs.declared.LineAnswer.the-variants.{Refused}
@@ -50,30 +50,30 @@ pub record FirstDemand : Type 0 where
   pub numbers : map causeNumber (Shape ∷ Record ∷ Twice ∷ Order ∷ RuleCause ∷ Known ∷ Unknown ∷ Tie ∷ Full ∷ Crossed ∷ Short ∷ Write ∷ Line ∷ Image ∷ [])
       ≡ 1 ∷ 2 ∷ 3 ∷ 4 ∷ 5 ∷ 6 ∷ 7 ∷ 8 ∷ 9 ∷ 10 ∷ 11 ∷ 12 ∷ 13 ∷ 14 ∷ []
   pub once : (cause other : Cause) → causeNumber cause ≡ causeNumber other → cause ≡ other
-  -- the calls that only read a table decline by their rows, and a refusal leaves what they are lent
-  pub lookup : (t : List ℕ) (high low result slot slot′ id id′ action action′ spot spot′ : ℕ)
-      → LookupLeft t high low result slot slot′ id id′ action action′ spot spot′
-      → DeclinesBy (lookupRows 2 t) result spot′ × (IsRefusal result → (slot′ ≡ slot) × (id′ ≡ id) × (action′ ≡ action))
-  pub insert : (t : List ℕ) (rule : Rule) (result : ℕ) (plan after : List ℕ) (count count′ spot spot′ : ℕ)
-      → InsertLeft t rule result plan after count count′ spot spot′
-      → DeclinesBy (insertRows 2 t rule (length plan)) result spot′ × (IsRefusal result → (after ≡ plan) × (count′ ≡ count))
-  pub delete : (t : List ℕ) (id result : ℕ) (plan after : List ℕ) (count count′ spot spot′ : ℕ)
-      → DeleteLeft t id result plan after count count′ spot spot′
-      → DeclinesBy (deleteRows 2 t id (length plan)) result spot′ × (IsRefusal result → (after ≡ plan) × (count′ ≡ count))
-  pub save : (t : List ℕ) (result : ℕ) (image after : List ℕ) (bytes bytes′ spot spot′ : ℕ)
-      → SaveLeft t result image after bytes bytes′ spot spot′
-      → DeclinesBy (saveRows 2 t (length image)) result spot′ × (IsRefusal result → (after ≡ image) × (bytes′ ≡ bytes))
+  -- the calls that only read a table decline by their rows, and a refusal leaves what they are lent: at every width that a call may name, known or not
+  pub lookup : (w : ℕ) (t key : List ℕ) (result slot slot′ id id′ action action′ spot spot′ : ℕ)
+      → LookupLeft w t key result slot slot′ id id′ action action′ spot spot′
+      → DeclinesBy (lookupCallRows w t key) result spot′ × (IsRefusal result → (slot′ ≡ slot) × (id′ ≡ id) × (action′ ≡ action))
+  pub insert : (w : ℕ) (t rule : List ℕ) (result : ℕ) (plan after : List ℕ) (count count′ spot spot′ : ℕ)
+      → InsertLeft w t rule result plan after count count′ spot spot′
+      → DeclinesBy (insertCallRows w t rule (length plan)) result spot′ × (IsRefusal result → (after ≡ plan) × (count′ ≡ count))
+  pub delete : (w : ℕ) (t : List ℕ) (id result : ℕ) (plan after : List ℕ) (count count′ spot spot′ : ℕ)
+      → DeleteLeft w t id result plan after count count′ spot spot′
+      → DeclinesBy (deleteCallRows w t id (length plan)) result spot′ × (IsRefusal result → (after ≡ plan) × (count′ ≡ count))
+  pub save : (w : ℕ) (t : List ℕ) (result : ℕ) (image after : List ℕ) (bytes bytes′ spot spot′ : ℕ)
+      → SaveLeft w t result image after bytes bytes′ spot spot′
+      → DeclinesBy (saveCallRows w t (length image)) result spot′ × (IsRefusal result → (after ≡ image) × (bytes′ ≡ bytes))
   -- a load
-  pub load : (b : List ℕ) (result : ℕ) (t after : List ℕ) (spot spot′ : ℕ) → LoadLeft b result t after spot spot′
-      → DeclinesBy (loadRows 2 b t) result spot′ × (IsRefusal result → after ≡ t)
+  pub load : (w : ℕ) (b : List ℕ) (result : ℕ) (t after : List ℕ) (spot spot′ : ℕ) → LoadLeft w b result t after spot spot′
+      → DeclinesBy (loadCallRows w b t) result spot′ × (IsRefusal result → after ≡ t)
   -- carrying out: number and spot are the halves of its result. Where it does not write, a refusal or "finished", the table and the record are as they
   -- were; "finished" it returns exactly where nothing is refused and all writes are done. Where it writes, it makes the next write of the plan and no other,
   -- and one write more is done
-  pub carry : (t plan : List ℕ) (rule : Rule) (progress : Progress) (result : ℕ) (after : List ℕ) (progress′ : Progress)
-      → CarryLeft t plan rule progress result after progress′ → CarriesBy (stepRows 2 t plan rule (progress .done) (progress .total)) progress result
+  pub carry : (w : ℕ) (t plan rule : List ℕ) (progress : Progress) (result : ℕ) (after : List ℕ) (progress′ : Progress)
+      → CarryLeft w t plan rule progress result after progress′ → CarriesBy (stepCallRows w t plan rule (progress .done) (progress .total)) progress result
       × ((result ≡ wroteResult → ⊥) → (after ≡ t) × (progress′ .done ≡ progress .done) × (progress′ .total ≡ progress .total))
       × (result ≡ wroteResult
-      → (after ≡ applyWord 2 t rule (getD plan (progress .done) 0)) × (progress′ .done ≡ progress .done + 1) × (progress′ .total ≡ progress .total))
+      → (after ≡ applyWord w t (ruleOf w (word rule)) (getD plan (progress .done) 0)) × (progress′ .done ≡ progress .done + 1) × (progress′ .total ≡ progress .total))
   -- a script line, on the table that the memory holds: a refused one leaves the memory and its table, and prints `R number spot`
   pub line : (memory memory′ : List ℕ) (slots number : ℕ) (line out out′ : List ℕ) (ran : Ran)
       → Left (lineOutcome (tableIn memory slots) number line) ran memory memory′ out out′

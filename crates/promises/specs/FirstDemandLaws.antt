@@ -8,19 +8,20 @@ use native.Mathlib.Omega.{arith}
 use lib.Dec.{eqb, leb}
 use lib.ListN.{length, getD, take, drop}
 use borrow.Author.Tests.{eqb-true, eqb-false, ne-eqb}
-use Rattle.records.specs.Record.{word}
+use Rattle.records.specs.Record.{word, ruleOf}
 use Rattle.records.specs.Checks.{Told, success, refusal, unless, orElse, passes, tableChecks, causeNumber}
 use Rattle.records.specs.Laws.{cause-number-once, cause-not-zero}
+use Rattle.records.specs.Widths.{checkWidth, checkRule, leaves}
 use Rattle.records.specs.declared.Rule.{Rule}
 use Rattle.records.specs.declared.Cause.{Cause}
 use Rattle.records.specs.declared.Cause.the-variants.{Shape}
 use Rattle.records.specs.declared.Check.{Check}
 use Rattle.records.specs.declared.Check.the-variants.{Pass, Fail}
 use Rattle.buffers.specs.Buffers.{bufferAnswer, bufferAfter, checkRoom}
-use Rattle.lookups.specs.Lookup.{lookupAnswer}
+use Rattle.lookups.specs.Lookup.{lookupAnswer, lookupCall}
 use Rattle.carrying.specs.StepsLaws.{progress-within}
-use Rattle.carrying.specs.Carrying.{progressChecks, writeChecks, stepAnswer, stepWrites, stepTable, stepDone}
-use Rattle.image.specs.Answers.{loadAnswer, loadTable}
+use Rattle.carrying.specs.Carrying.{progressChecks, writeChecks, stepAnswer, stepWrites, stepTable, stepDone, stepCall, stepCallTable, stepCallDone}
+use Rattle.image.specs.Answers.{loadAnswer, loadTable, loadCall}
 use Rattle.image.specs.Checks.{loadChecks, meant}
 use Rattle.image.specs.Format.{imageOf}
 use Rattle.image.specs.SaveLaws.{image-length}
@@ -47,11 +48,11 @@ use Rattle.script.specs.Script.{tableIn, tableOutcome, commandOutcome}
 use Rattle.script.specs.Told.{tableTold, commandTold}
 use Rattle.refusals.specs.Rows.{Row, AnsweredBy}
 use Rattle.refusals.specs.RowsLaws.{no-refusal, refusal-once}
-use Rattle.refusals.specs.CallsLaws.{lookup-by-rows, insert-by-rows, delete-by-rows, save-by-rows, load-by-rows, step-by-rows}
+use Rattle.refusals.specs.CallsLaws.{lookup-call-rows, insert-call-rows, delete-call-rows, save-call-rows, load-call-rows, step-call-rows}
 use Rattle.refusals.specs.LinesLaws.{line-by-rows}
 use Rattle.refusals.specs.CarryingLaws.{stepChecks, step-told}
 use Rattle.tcam.specs.declared.carry.Progress.{Progress}
-use Rattle.tcam.specs.Cells.{keyAnswer, PlanLeft}
+use Rattle.tcam.specs.Cells.{PlanLeft}
 use Rattle.promises.specs.FirstDemand.{DeclinesBy, CarriesBy, IsRefusal, FirstDemand}
 
 -- the number and the cell for the spot tell an answer's rows
@@ -103,25 +104,33 @@ buffer-kept checks contents buffer refused = pick (orElse checks (checkRoom (len
     pick Pass r = absurd (r refl)
     pick (Fail cause spot) r = refl
 
-load-kept : (b t : List ℕ) → IsRefusal (loadAnswer 2 b t .number) → loadTable 2 b t ≡ t
+load-kept : (w : ℕ) (b t : List ℕ) → IsRefusal (loadAnswer w b t .number) → loadTable w b t ≡ t
 unfolding loadAnswer loadTable
-load-kept b t refused = pick (loadChecks 2 b t) refused
+load-kept w b t refused = pick (loadChecks w b t) refused
   where
-    pick : (x : Check) → IsRefusal (unless x (success []) .number) → cond (passes x) (meant 2 b (length t)) t ≡ t
+    pick : (x : Check) → IsRefusal (unless x (success []) .number) → cond (passes x) (meant w b (length t)) t ≡ t
     pick Pass r = absurd (r refl)
     pick (Fail cause spot) r = refl
 
+-- a call that declines for its width, or for the words lent with it, leaves a buffer or a table too
+lent-kept : (check : Check) (told : Told) (after before : List ℕ) → (IsRefusal (told .number) → after ≡ before)
+    → IsRefusal (unless check told .number) → leaves check after before ≡ before
+lent-kept Pass told after before kept refused = kept refused
+lent-kept (Fail cause spot) told after before kept refused = refl
+
 -- the calls that write into a lent buffer
-buffer-call : (rows : List Row) (checks : Check) (contents plan after : List ℕ) (needed result count count′ spot spot′ : ℕ) → needed ≡ length contents
-    → AnsweredBy rows (bufferAnswer checks needed (length plan))
-    → PlanLeft (bufferAnswer checks needed (length plan)) (bufferAfter checks contents plan) result after count count′ spot spot′
+buffer-call : (rows : List Row) (lent checks : Check) (contents plan after : List ℕ) (needed result count count′ spot spot′ : ℕ) → needed ≡ length contents
+    → AnsweredBy rows (unless lent (bufferAnswer checks needed (length plan)))
+    → PlanLeft (unless lent (bufferAnswer checks needed (length plan))) (leaves lent (bufferAfter checks contents plan) plan) result after count count′ spot spot′
     → DeclinesBy rows result spot′ × (IsRefusal result → (after ≡ plan) × (count′ ≡ count))
-buffer-call rows checks contents plan after needed result count count′ spot spot′ size answer left = (
+buffer-call rows lent checks contents plan after needed result count count′ spot spot′ size answer left = (
   told-declines rows _ result spot spot′ answer (left .number) (left .spotted),
   λ refused.
-      let declines : IsRefusal (bufferAnswer checks needed (length plan) .number) = λ z. refused (left .number ∙ z) in (
-        left .plan ∙ buffer-kept checks contents plan (subst (λ (n : ℕ). IsRefusal (bufferAnswer checks n (length plan) .number)) size declines),
-        left .counted ∙ cell-kept (bufferAnswer checks needed (length plan)) 0 count declines,
+      let told = unless lent (bufferAnswer checks needed (length plan)) in
+      let declines : IsRefusal (told .number) = λ z. refused (left .number ∙ z) in (
+        left .plan ∙ lent-kept lent (bufferAnswer checks needed (length plan)) _ plan
+            (λ r. buffer-kept checks contents plan (subst (λ (n : ℕ). IsRefusal (bufferAnswer checks n (length plan) .number)) size r)) declines,
+        left .counted ∙ cell-kept told 0 count declines,
       ),
 )
 
@@ -134,11 +143,18 @@ buffer-accepts checks needed room e = pick (orElse checks (checkRoom needed room
     pick Pass e = refl
     pick (Fail cause spot) e = absurd (true≢false (sym (ap (λ (n : ℕ). eqb n 0) e) ∙ cause-not-zero cause))
 
-pub counted-answer : (checks : Check) (needed room : ℕ) (planned after : List ℕ) (count count′ spot spot′ : ℕ)
-    → PlanLeft (bufferAnswer checks needed room) planned 0 after count count′ spot spot′ → bufferAnswer checks needed room ≡ success (count′ ∷ [])
-counted-answer checks needed room planned after count count′ spot spot′ left =
-    let told = buffer-accepts checks needed room (sym (left .number)) in
-    told ∙ ap (λ (n : ℕ). success (n ∷ [])) (sym (left .counted ∙ ap (λ (t : Told). dataCell t 0 count) told))
+-- a call that returned 0 passed the check of its width and of the words lent with it
+pub lent-accepted : (check : Check) (told : Told) → unless check told .number ≡ 0 → check ≡ Pass
+lent-accepted Pass told e = refl
+lent-accepted (Fail cause spot) told e = absurd (true≢false (sym (ap (λ (n : ℕ). eqb n 0) e) ∙ cause-not-zero cause))
+
+pub counted-answer : (lent checks : Check) (needed room : ℕ) (planned after : List ℕ) (count count′ spot spot′ : ℕ)
+    → PlanLeft (unless lent (bufferAnswer checks needed room)) planned 0 after count count′ spot spot′
+    → bufferAnswer checks needed room ≡ success (count′ ∷ [])
+counted-answer lent checks needed room planned after count count′ spot spot′ left =
+    let passed = ap (λ (x : Check). unless x (bufferAnswer checks needed room)) (lent-accepted lent _ (sym (left .number))) in
+    let told = buffer-accepts checks needed room (sym (ap (λ (t : Told). t .number) passed) ∙ sym (left .number)) in
+    told ∙ ap (λ (n : ℕ). success (n ∷ [])) (sym (left .counted ∙ ap (λ (t : Told). dataCell t 0 count) (passed ∙ told)))
 
 -- carrying out: its answer in three cases
 pub data StepCase (progress : Progress) : Told → Type 0 where
@@ -146,16 +162,23 @@ pub data StepCase (progress : Progress) : Told → Type 0 where
   ended : progress .done ≡ progress .total → StepCase progress (success [])
   stopped : (cause : Cause) (spot : ℕ) → StepCase progress (refusal cause spot)
 
-step-case : (t plan : List ℕ) (rule : Rule) (progress : Progress) → StepCase progress (stepAnswer 2 t plan rule (progress .done) (progress .total))
-step-case t plan rule progress =
-    subst (StepCase progress) (step-told 2 t plan rule (progress .done) (progress .total))
-    (pick (stepChecks 2 t plan rule (progress .done) (progress .total)) (eqb (progress .done) (progress .total)) refl)
+step-case : (w : ℕ) (t plan : List ℕ) (rule : Rule) (progress : Progress) → StepCase progress (stepAnswer w t plan rule (progress .done) (progress .total))
+step-case w t plan rule progress =
+    subst (StepCase progress) (step-told w t plan rule (progress .done) (progress .total))
+    (pick (stepChecks w t plan rule (progress .done) (progress .total)) (eqb (progress .done) (progress .total)) refl)
   where
     pick : (x : Check) (b : Bool) → eqb (progress .done) (progress .total) ≡ b
         → StepCase progress (unless x (cond b (success []) (success ((progress .done + 1) ∷ []))))
     pick (Fail cause spot) b e = stopped cause spot
     pick Pass true e = ended (eqb-true _ _ e)
     pick Pass false e = wrote (progress .done + 1) (eqb-false _ _ e)
+
+call-case : (w : ℕ) (t plan rule : List ℕ) (progress : Progress) → StepCase progress (stepCall w t plan rule (progress .done) (progress .total))
+call-case w t plan rule progress = pick (checkRule w (length rule))
+  where
+    pick : (x : Check) → StepCase progress (unless x (stepAnswer w t plan (ruleOf w (word rule)) (progress .done) (progress .total)))
+    pick Pass = step-case w t plan (ruleOf w (word rule)) progress
+    pick (Fail cause spot) = stopped cause spot
 
 carries-by : (rows : List Row) (progress : Progress) (told : Told) (result : ℕ) → AnsweredBy rows told → StepCase progress told → result ≡ carryResult told
     → CarriesBy rows progress result
@@ -191,11 +214,11 @@ carries-by rows progress told result answer (stopped c s) e =
     }
 
 -- where it does not write nothing changes
-carry-kept : (t plan : List ℕ) (rule : Rule) (done total : ℕ) → (carryResult (stepAnswer 2 t plan rule done total) ≡ 0 → ⊥)
-    → (stepTable 2 t plan rule done total ≡ t) × (stepDone 2 t plan rule done total ≡ done)
+step-kept : (w : ℕ) (t plan : List ℕ) (rule : Rule) (done total : ℕ) → (carryResult (stepAnswer w t plan rule done total) ≡ 0 → ⊥)
+    → (stepTable w t plan rule done total ≡ t) × (stepDone w t plan rule done total ≡ done)
 unfolding stepAnswer stepTable stepDone stepWrites
-carry-kept t plan rule done total other =
-    let still = pick (progressChecks 2 t (length plan) done total) (eqb done total) (writeChecks 2 t rule (getD plan done 0) done) other in
+step-kept w t plan rule done total other =
+    let still = pick (progressChecks w t (length plan) done total) (eqb done total) (writeChecks w t rule (getD plan done 0) done) other in
     (rw still, rw still)
   where
     pick : (p : Check) (b : Bool) (c : Check) → (carryResult (unless p (cond b (success []) (unless c (success ((done + 1) ∷ []))))) ≡ 0 → ⊥)
@@ -204,6 +227,15 @@ carry-kept t plan rule done total other =
     pick Pass true c other = refl
     pick Pass false Pass other = absurd (other refl)
     pick Pass false (Fail cause spot) other = refl
+
+carry-kept : (w : ℕ) (t plan rule : List ℕ) (done total : ℕ) → (carryResult (stepCall w t plan rule done total) ≡ 0 → ⊥)
+    → (stepCallTable w t plan rule done total ≡ t) × (stepCallDone w t plan rule done total ≡ done)
+carry-kept w t plan rule done total other = lent (checkRule w (length rule)) other
+  where
+    lent : (x : Check) → (carryResult (unless x (stepAnswer w t plan (ruleOf w (word rule)) done total)) ≡ 0 → ⊥)
+        → (leaves x (stepTable w t plan (ruleOf w (word rule)) done total) t ≡ t) × (leaves x (stepDone w t plan (ruleOf w (word rule)) done total) done ≡ done)
+    lent Pass other = step-kept w t plan (ruleOf w (word rule)) done total other
+    lent (Fail cause spot) other = (refl, refl)
 
 -- a script line that is refused
 refused-line : (a : LineAnswer) (cause : Cause) (place : ℕ) → lineTold a .told ≡ refusal cause place → a ≡ Refused cause place
@@ -268,65 +300,99 @@ shown-as : {out out′ text : List ℕ} {count : ℕ} (cause : Cause) (place : �
 unfolding toldBytes
 shown-as {out} {out′} {text} {count} cause place e s = subst (λ (x : List ℕ). Shown out x count out′) e s
 
+-- a refusal is not the result of a write
+never-wrote : (cause : Cause) (spot : ℕ) → carryResult (refusal cause spot) ≡ 0 → ⊥
+never-wrote cause spot e = omega (arith, sym (carry-refused cause spot) ∙ e, cause-some cause)
+
 -- where it writes, it makes the next write of the plan
-pub carry-made : (t plan : List ℕ) (rule : Rule) (done total : ℕ) → carryResult (stepAnswer 2 t plan rule done total) ≡ 0
-    → (stepTable 2 t plan rule done total ≡ applyWord 2 t rule (getD plan done 0)) × (stepDone 2 t plan rule done total ≡ done + 1)
+step-made : (w : ℕ) (t plan : List ℕ) (rule : Rule) (done total : ℕ) → carryResult (stepAnswer w t plan rule done total) ≡ 0
+    → (stepTable w t plan rule done total ≡ applyWord w t rule (getD plan done 0)) × (stepDone w t plan rule done total ≡ done + 1)
 unfolding stepAnswer stepTable stepDone stepWrites
-carry-made t plan rule done total zero-result =
-    let makes = pick (progressChecks 2 t (length plan) done total) (eqb done total) (writeChecks 2 t rule (getD plan done 0) done) zero-result in
+step-made w t plan rule done total zero-result =
+    let makes = pick (progressChecks w t (length plan) done total) (eqb done total) (writeChecks w t rule (getD plan done 0) done) zero-result in
     (rw makes, rw makes)
   where
-    never : (cause : Cause) (spot : ℕ) → carryResult (refusal cause spot) ≡ 0 → ⊥
-    never cause spot e = omega (arith, sym (carry-refused cause spot) ∙ e, cause-some cause)
-
     pick : (p : Check) (b : Bool) (c : Check) → carryResult (unless p (cond b (success []) (unless c (success ((done + 1) ∷ []))))) ≡ 0
         → passes p && (not b && passes c) ≡ true
-    pick (Fail cause spot) b c e = absurd (never cause spot e)
+    pick (Fail cause spot) b c e = absurd (never-wrote cause spot e)
     pick Pass true c e = absurd (omega (arith, e))
     pick Pass false Pass e = refl
-    pick Pass false (Fail cause spot) e = absurd (never cause spot e)
+    pick Pass false (Fail cause spot) e = absurd (never-wrote cause spot e)
 
 -- and that word is one of the plan's
-pub carry-within : (t plan : List ℕ) (rule : Rule) (done total : ℕ) → carryResult (stepAnswer 2 t plan rule done total) ≡ 0 → done < length plan
+step-within : (w : ℕ) (t plan : List ℕ) (rule : Rule) (done total : ℕ) → carryResult (stepAnswer w t plan rule done total) ≡ 0 → done < length plan
 unfolding stepAnswer
-carry-within t plan rule done total zero-result =
-    pick (progressChecks 2 t (length plan) done total) refl (eqb done total) refl (writeChecks 2 t rule (getD plan done 0) done) zero-result
+step-within w t plan rule done total zero-result =
+    pick (progressChecks w t (length plan) done total) refl (eqb done total) refl (writeChecks w t rule (getD plan done 0) done) zero-result
   where
-    pick : (p : Check) → progressChecks 2 t (length plan) done total ≡ p → (b : Bool) → eqb done total ≡ b → (c : Check)
+    pick : (p : Check) → progressChecks w t (length plan) done total ≡ p → (b : Bool) → eqb done total ≡ b → (c : Check)
         → carryResult (unless p (cond b (success []) (unless c (success ((done + 1) ∷ []))))) ≡ 0 → done < length plan
-    pick (Fail cause spot) e b f c zero-here = absurd (omega (arith, sym (carry-refused cause spot) ∙ zero-here, cause-some cause))
+    pick (Fail cause spot) e b f c zero-here = absurd (never-wrote cause spot zero-here)
     pick Pass e true f c zero-here = absurd (omega (arith, zero-here))
     pick Pass e false f c zero-here =
-        let bounds = progress-within 2 t (length plan) done total e in omega (arith, bounds .0, bounds .1, eqb-false done total f)
+        let bounds = progress-within w t (length plan) done total e in omega (arith, bounds .0, bounds .1, eqb-false done total f)
+
+-- so it is of the call, which wrote at a width that there is, with a rule of so many words
+module _ (w : ℕ) (t plan rule : List ℕ) (done total : ℕ) (zero-result : carryResult (stepCall w t plan rule done total) ≡ 0) where
+  given : Rule
+  given = ruleOf w (word rule)
+
+  wrote-lent : checkRule w (length rule) ≡ Pass
+  wrote-lent = pick (checkRule w (length rule)) zero-result
+    where
+      pick : (x : Check) → carryResult (unless x (stepAnswer w t plan (ruleOf w (word rule)) done total)) ≡ 0 → x ≡ Pass
+      pick Pass e = refl
+      pick (Fail cause spot) e = absurd (never-wrote cause spot e)
+
+  wrote-step : carryResult (stepAnswer w t plan given done total) ≡ 0
+  unfolding given
+  wrote-step = sym (ap (λ (x : Check). carryResult (unless x (stepAnswer w t plan given done total))) wrote-lent) ∙ zero-result
+
+  pub carry-made : (stepCallTable w t plan rule done total ≡ applyWord w t (ruleOf w (word rule)) (getD plan done 0)) × (stepCallDone w t plan rule done total ≡ done + 1)
+  unfolding given
+  carry-made =
+      let made = step-made w t plan given done total wrote-step in (
+        ap (λ (x : Check). leaves x (stepTable w t plan given done total) t) wrote-lent ∙ made .0,
+        ap (λ (x : Check). leaves x (stepDone w t plan given done total) done) wrote-lent ∙ made .1,
+      )
+
+  pub carry-within : done < length plan
+  unfolding given
+  carry-within = step-within w t plan given done total wrote-step
 
 -- document 01's demand 1
 pub first-demand : FirstDemand
 first-demand = record {
   numbers = refl;
   once = cause-number-once;
-  lookup = λ t high low result slot slot′ id id′ action action′ spot spot′ left. (
-    told-declines _ (keyAnswer t high low) result spot spot′ (lookup-by-rows 2 t (word (high ∷ low ∷ []))) (left .number) (left .spotted),
-    λ refused. let declines : IsRefusal (keyAnswer t high low .number) = λ z. refused (left .number ∙ z) in (
-      left .slotted ∙ cell-kept (keyAnswer t high low) 0 slot declines,
-      left .named ∙ cell-kept (keyAnswer t high low) 1 id declines,
-      left .acted ∙ cell-kept (keyAnswer t high low) 2 action declines,
-    ),
+  lookup = λ w t key result slot slot′ id id′ action action′ spot spot′ left.
+      let told = lookupCall w t key in (
+        told-declines _ told result spot spot′ (lookup-call-rows w t key) (left .number) (left .spotted),
+        λ refused. let declines : IsRefusal (told .number) = λ z. refused (left .number ∙ z) in (
+          left .slotted ∙ cell-kept told 0 slot declines,
+          left .named ∙ cell-kept told 1 id declines,
+          left .acted ∙ cell-kept told 2 action declines,
+        ),
+      );
+  insert = λ w t rule result plan after count count′ spot spot′ left.
+      let given = ruleOf w (word rule) in
+      buffer-call _ (checkRule w (length rule)) (insertChecks w t given) (insertWords w t given) plan after _ result count count′ spot spot′ refl
+      (insert-call-rows w t rule (length plan)) (left .left);
+  delete = λ w t id result plan after count count′ spot spot′ left.
+      buffer-call _ (checkWidth w) (deleteChecks w t id) (deleteWords w t id) plan after _ result count count′ spot spot′ refl
+      (delete-call-rows w t id (length plan)) left;
+  save = λ w t result image after bytes bytes′ spot spot′ left.
+      buffer-call _ (checkWidth w) (tableChecks w t) (imageOf w t) image after _ result bytes bytes′ spot spot′ (sym (image-length w t))
+      (save-call-rows w t (length image)) left;
+  load = λ w b result t after spot spot′ left. (
+    told-declines _ (loadCall w b t) result spot spot′ (load-call-rows w b t) (left .number) (left .spotted),
+    λ refused. left .loaded ∙ lent-kept (checkWidth w) (loadAnswer w b t) _ t (load-kept w b t) (λ z. refused (left .number ∙ z)),
   );
-  insert = λ t rule result plan after count count′ spot spot′ left.
-      buffer-call _ (insertChecks 2 t rule) (insertWords 2 t rule) plan after _ result count count′ spot spot′ refl (insert-by-rows 2 t rule (length plan)) (left .left);
-  delete = λ t id result plan after count count′ spot spot′ left.
-      buffer-call _ (deleteChecks 2 t id) (deleteWords 2 t id) plan after _ result count count′ spot spot′ refl (delete-by-rows 2 t id (length plan)) left;
-  save = λ t result image after bytes bytes′ spot spot′ left.
-      buffer-call _ (tableChecks 2 t) (imageOf 2 t) image after _ result bytes bytes′ spot spot′ (sym (image-length 2 t)) (save-by-rows 2 t (length image)) left;
-  load = λ b result t after spot spot′ left. (
-    told-declines _ (loadAnswer 2 b t) result spot spot′ (load-by-rows 2 b t) (left .number) (left .spotted),
-    λ refused. left .loaded ∙ load-kept b t (λ z. refused (left .number ∙ z)),
-  );
-  carry = λ t plan rule progress result after progress′ left. (
-    carries-by _ progress _ result (step-by-rows 2 t plan rule (progress .done) (progress .total)) (step-case t plan rule progress) (left .told),
-    λ other. let kept = carry-kept t plan rule (progress .done) (progress .total) (λ z. other (left .told ∙ z)) in
+  carry = λ w t plan rule progress result after progress′ left. (
+    carries-by _ progress _ result (step-call-rows w t plan rule (progress .done) (progress .total)) (call-case w t plan rule progress) (left .told),
+    λ other. let kept = carry-kept w t plan rule (progress .done) (progress .total) (λ z. other (left .told ∙ z)) in
         (left .table ∙ kept .0, left .advanced ∙ kept .1, left .in-all),
-    λ zero-result. let made = carry-made t plan rule (progress .done) (progress .total) (sym (left .told) ∙ zero-result) in
+    λ zero-result. let made = carry-made w t plan rule (progress .done) (progress .total) (sym (left .told) ∙ zero-result) in
         (left .table ∙ made .0, left .advanced ∙ made .1, left .in-all),
   );
   line = λ memory memory′ slots number line out out′ ran left told. (

@@ -3,17 +3,16 @@
 -- then on has the reply of the changed rule set. Images load to the table they were saved from.
 use mathlib.Core.Path.{_≡_}
 use mathlib.Core.Logic.{_⊎_}
-use mathlib.Core.List.{List, [], _∷_}
-use Prim.Native.Nat.{ℕ, _≤_, _<_}
-use lib.ListN.{length, take}
+use mathlib.Core.List.{List, _∷_}
+use Prim.Native.Nat.{ℕ, _+_, _*_, _≤_, _<_, min}
+use lib.ListN.{length, getD, take}
 use Rattle.ternary.specs.Pattern.{Matches}
-use Rattle.records.specs.Record.{word, recordOf}
+use Rattle.records.specs.Record.{word, recordWords, recordOf, ruleOf}
 use Rattle.records.specs.Writes.{applyWords}
 use Rattle.records.specs.declared.Rule.{Rule}
 use Rattle.histories.specs.RuleSet.{Change, ruleSet, without, Member}
 use Rattle.histories.specs.TableRules.{tableRules}
 use Rattle.image.specs.Reading.{Words64}
-use Rattle.marshalling.specs.Cells.{ruleFrom}
 use Rattle.refusals.specs.Rows.{Accepts}
 use Rattle.refusals.specs.Calls.{tableRows}
 use Rattle.tcam.specs.declared.carry.Progress.{Progress}
@@ -22,72 +21,76 @@ use Rattle.tcam.specs.Cells.{LookupLeft, InsertLeft, DeleteLeft}
 use Rattle.tcam.specs.Images.{SaveLeft, LoadLeft}
 use Rattle.promises.specs.Calls.{wroteResult, finishedResult, Carrying, CameTo}
 
--- a key of two words matches a rule when it equals the value at all bits cared for
-abbrev pub KeyMatches : ℕ → ℕ → Rule → Type 0
-KeyMatches high low rule = Matches 2 (word (high ∷ low ∷ [])) (word (rule .value)) (word (rule .mask))
+-- a key matches a rule when it equals the value at all bits cared for
+abbrev pub KeyMatches : ℕ → List ℕ → Rule → Type 0
+KeyMatches w key rule = Matches w (word key) (word (rule .value)) (word (rule .mask))
 
-module _ (rules : List Rule) (high low : ℕ) where
+module _ (w : ℕ) (rules : List Rule) (key : List ℕ) where
   -- this is the highest-priority rule of the list that matches the key: every other that matches has a lower priority
   abbrev pub Highest : Rule → Type 0
   Highest rule =
-      Member rule rules × KeyMatches high low rule
-      × ((other : Rule) → Member other rules → KeyMatches high low other → (recordOf 2 other ≡ recordOf 2 rule) ⊎ (other .priority < rule .priority))
+      Member rule rules × KeyMatches w key rule
+      × ((other : Rule) → Member other rules → KeyMatches w key other → (recordOf w other ≡ recordOf w rule) ⊎ (other .priority < rule .priority))
 
   -- no rule of the list matches the key
   abbrev pub NoneMatches : Type 0
-  NoneMatches = (rule : Rule) → Member rule rules → KeyMatches high low rule → ⊥
+  NoneMatches = (rule : Rule) → Member rule rules → KeyMatches w key rule → ⊥
 
   -- a lookup of the key is accepted, and its cells tell that rule's id and action, or 0 in both for a miss
   abbrev pub KeyReplied : ℕ → ℕ → ℕ → Type 0
   KeyReplied result id action =
       (result ≡ 0) × (((rule : Rule) × Highest rule × (id ≡ rule .id) × (action ≡ rule .action)) ⊎ (NoneMatches × (id ≡ 0) × (action ≡ 0)))
 
--- every call of tcam_lookup on the table is replied to so, whatever the key
-abbrev pub AllReplied : List ℕ → List Rule → Type 0
-AllReplied t rules =
-    (high low result slot slot′ id id′ action action′ spot spot′ : ℕ) → LookupLeft t high low result slot slot′ id id′ action action′ spot spot′
-    → KeyReplied rules high low result id′ action′
+-- every call of tcam_lookup on the table is replied to so, whatever the key of as many words
+abbrev pub AllReplied : ℕ → List ℕ → List Rule → Type 0
+AllReplied w t rules =
+    (key : List ℕ) → length key ≡ w → (result slot slot′ id id′ action action′ spot spot′ : ℕ)
+    → LookupLeft w t key result slot slot′ id id′ action action′ spot spot′ → KeyReplied w rules key result id′ action′
 
 -- The rules of a table: of one that a caller came to from an empty one, those inserted and not since deleted; of any sound one, as a loaded one
 -- is, those that stand in its slots.
-pub data RulesOf : List Rule → List ℕ → Type 0 where
-  ran : (history : List Change) (t : List ℕ) → CameTo history t → RulesOf (ruleSet history) t
-  stand : (t : List ℕ) → Accepts (tableRows 2 t) → RulesOf (tableRules 2 t) t
+pub data RulesOf (w : ℕ) : List Rule → List ℕ → Type 0 where
+  ran : (history : List Change) (t : List ℕ) → CameTo w history t → RulesOf w (ruleSet history) t
+  stand : (t : List ℕ) → Accepts (tableRows w t) → RulesOf w (tableRules w t) t
 
--- Within a plan, from the table it was drawn for, with its rule and count: old are the rules before it, new those after it.
-pub record DuringPlan (t plan : List ℕ) (rule : Rule) (count : ℕ) (old new : List Rule) : Type 0 where
+-- Within a plan, from the table it was drawn for, with its rule, lent as a record, and count: old are the rules before it, new those after it.
+pub record DuringPlan (w : ℕ) (t plan rule : List ℕ) (count : ℕ) (old new : List Rule) : Type 0 where
   -- as many writes of the plan are made as are done, one by each call
-  pub made : (u : List ℕ) (progress : Progress) → Carrying t plan rule count u progress → u ≡ applyWords 2 t rule (take (progress .done) plan)
+  pub made : (u : List ℕ) (progress : Progress) → Carrying w t plan rule count u progress
+      → u ≡ applyWords w t (ruleOf w (word rule)) (take (progress .done) plan)
   -- until the last write every key has its old reply, and from then on that of the changed rules
-  pub kept : (u : List ℕ) (progress : Progress) → Carrying t plan rule count u progress → progress .done < count → AllReplied u old
-  pub changed : (u : List ℕ) (progress : Progress) → Carrying t plan rule count u progress → progress .done ≡ count → AllReplied u new
+  pub kept : (u : List ℕ) (progress : Progress) → Carrying w t plan rule count u progress → progress .done < count → AllReplied w u old
+  pub changed : (u : List ℕ) (progress : Progress) → Carrying w t plan rule count u progress → progress .done ≡ count → AllReplied w u new
   -- until then each call makes a write, and then it answers "finished": so every plan can be carried out in full
-  pub few : (u : List ℕ) (progress : Progress) → Carrying t plan rule count u progress → progress .done ≤ count
-  pub goes-on : (u : List ℕ) (progress : Progress) → Carrying t plan rule count u progress
+  pub few : (u : List ℕ) (progress : Progress) → Carrying w t plan rule count u progress → progress .done ≤ count
+  pub goes-on : (u : List ℕ) (progress : Progress) → Carrying w t plan rule count u progress
       → (words result : ℕ) → count ≤ words → words ≤ length plan → (after : List ℕ) (progress′ : Progress)
-      → CarryLeft u (take words plan) rule progress result after progress′
+      → CarryLeft w u (take words plan) rule progress result after progress′
       → (progress .done < count → result ≡ wroteResult) × (progress .done ≡ count → result ≡ finishedResult)
 
--- the rule that a caller gives as seven numbers: value and mask as two words each, high word first
-abbrev pub Gives : ℕ → ℕ → ℕ → ℕ → ℕ → ℕ → ℕ → Rule → Type 0
-Gives id priority value-high value-low mask-high mask-low action rule =
-    (rule .id ≡ id) × (rule .priority ≡ priority) × (rule .value ≡ value-high ∷ value-low ∷ []) × (rule .mask ≡ mask-high ∷ mask-low ∷ [])
-    × (rule .action ≡ action)
+-- the rule that a caller gives as a record: value words, mask words, id × 2^32 + action, priority
+pub record Gives (w : ℕ) (record-words : List ℕ) (rule : Rule) : Type 0 where
+  pub values : (j : ℕ) → j < w → word (rule .value) j ≡ getD record-words j 0
+  pub masks : (j : ℕ) → j < w → word (rule .mask) j ≡ getD record-words (w + j) 0
+  pub both : rule .id * 4294967296 + rule .action ≡ getD record-words (2 * w) 0
+  pub small : rule .action < 4294967296
+  -- the struct's priority has 32 bits: a larger word, which no sound rule has, becomes the largest of those
+  pub priority : rule .priority ≡ min (getD record-words (2 * w + 1) 0) 4294967295
 
-pub record SecondDemand : Type 0 where
+-- w is the width that the calls name, and is one that there is
+pub record SecondDemand (w : ℕ) : Type 0 where
   -- the contracts of tcam_plan_insert and tcam_carry_out speak of the rule that they are given
-  pub given : (id priority value-high value-low mask-high mask-low action : ℕ)
-      → Gives id priority value-high value-low mask-high mask-low action (ruleFrom id priority value-high value-low mask-high mask-low action)
+  pub given : (rule : List ℕ) → Gives w rule (ruleOf w (word rule))
   -- each key is answered by the highest-priority match of the table's rules, or by a miss
-  pub answered : (rules : List Rule) (t : List ℕ) → RulesOf rules t → AllReplied t rules
-  -- within the plan of an insert, and of a delete, which is carried out with any rule
-  pub insert : (rules : List Rule) (t : List ℕ) → RulesOf rules t → (rule : Rule) → rule .action < 4294967296
-      → (plan after : List ℕ) (count count′ spot spot′ : ℕ) → InsertLeft t rule 0 plan after count count′ spot spot′
-      → DuringPlan t after rule count′ rules (rule ∷ rules)
-  pub delete : (rules : List Rule) (t : List ℕ) → RulesOf rules t → (id : ℕ)
-      → (plan after : List ℕ) (count count′ spot spot′ : ℕ) → DeleteLeft t id 0 plan after count count′ spot spot′
-      → (rule : Rule) → DuringPlan t after rule count′ rules (without id rules)
+  pub answered : (rules : List Rule) (t : List ℕ) → RulesOf w rules t → AllReplied w t rules
+  -- within the plan of an insert, and of a delete, which is carried out with any record of as many words
+  pub insert : (rules : List Rule) (t : List ℕ) → RulesOf w rules t → (rule : List ℕ)
+      → (plan after : List ℕ) (count count′ spot spot′ : ℕ) → InsertLeft w t rule 0 plan after count count′ spot spot′
+      → DuringPlan w t after rule count′ rules (ruleOf w (word rule) ∷ rules)
+  pub delete : (rules : List Rule) (t : List ℕ) → RulesOf w rules t → (id : ℕ)
+      → (plan after : List ℕ) (count count′ spot spot′ : ℕ) → DeleteLeft w t id 0 plan after count count′ spot spot′
+      → (rule : List ℕ) → length rule ≡ recordWords w → DuringPlan w t after rule count′ rules (without id rules)
   -- an image loads, into any table of as many words of 64 bits, to the table it was saved from
-  pub loads : (t image saved : List ℕ) (bytes bytes′ spot spot′ : ℕ) → Words64 t → SaveLeft t 0 image saved bytes bytes′ spot spot′
-      → (lent loaded : List ℕ) (result place place′ : ℕ) → length lent ≡ length t → LoadLeft (take bytes′ saved) result lent loaded place place′
+  pub loads : (t image saved : List ℕ) (bytes bytes′ spot spot′ : ℕ) → Words64 t → SaveLeft w t 0 image saved bytes bytes′ spot spot′
+      → (lent loaded : List ℕ) (result place place′ : ℕ) → length lent ≡ length t → LoadLeft w (take bytes′ saved) result lent loaded place place′
       → (result ≡ 0) × (loaded ≡ t)

@@ -4,16 +4,23 @@ use mathlib.Core.Bool.{true, cond, Bool, true≢false}
 use mathlib.Core.Logic.{_⊎_, inl, inr}
 use mathlib.Core.List.{List, [], _∷_}
 use mathlib.Core.Option.{Option, none, some}
-use Prim.Native.Nat.{ℕ, suc, _<_}
+use Prim.Native.Nat.{ℕ, suc, _*_, _<_}
+use native.Mathlib.Nat.{div-add-mod'}
 use native.Mathlib.Omega.{arith}
 use native.Mathlib.Decide.{decLt}
-use lib.ListN.{getD, drop}
+use lib.ListN.{length, getD, drop}
 use borrow.Author.Tests.{eq-eqb}
 use Rattle.ternary.specs.Pattern.{Words}
 use Rattle.ternary.specs.PatternLaws.{matches-law}
-use Rattle.records.specs.Record.{word, recordOf}
+use Rattle.records.specs.Record.{word, recordWords, value, mask, recordOf, ruleOf}
 use Rattle.records.specs.Checks.{Told}
+use Rattle.records.specs.Widths.{Width, checkWidth, checkRule, leaves}
+use Rattle.records.specs.WidthsLaws.{rule-law}
+use Rattle.records.specs.RulesLaws.{word-listed, rule-action}
+use Rattle.lookups.specs.Lookup.{lookupAnswer}
+use Rattle.lookups.specs.WidthsLaws.{lookup-at}
 use Rattle.records.specs.declared.Rule.{Rule}
+use Rattle.records.specs.declared.Check.{Check}
 use Rattle.neighbours.specs.Neighbours.{insertChecks}
 use Rattle.delete_plans.specs.Deletes.{deleteChecks, deletePlan, deleteWords}
 use Rattle.insert_plans.specs.Inserts.{insertWords, insertPlan}
@@ -31,15 +38,13 @@ use Rattle.histories.specs.Demand2.{Demand2}
 use Rattle.histories.specs.Demand2Laws.{demand-2-insert, demand-2-delete, demand-2-room}
 use Rattle.marshalling.specs.Cells.{dataCell}
 use Rattle.refusals.specs.TableLaws.{table-rows}
-use Rattle.tcam.specs.Cells.{keyAnswer, InsertLeft, DeleteLeft}
+use Rattle.tcam.specs.declared.carry.Progress.{Progress}
+use Rattle.tcam.specs.Cells.{InsertLeft, DeleteLeft}
 use Rattle.tcam.specs.ImagesLaws.{save-load-call}
-use Rattle.promises.specs.Calls.{CameTo}
-use Rattle.promises.specs.CallsLaws.{made-so-far, carrying-at, carried-at, goes-on-at}
-use Rattle.promises.specs.FirstDemandLaws.{counted-answer}
-use Rattle.promises.specs.SecondDemand.{KeyMatches, Highest, NoneMatches, KeyReplied, AllReplied, RulesOf, DuringPlan, SecondDemand}
-
-abbrev keyWords : ℕ → ℕ → Words
-keyWords high low = word (high ∷ low ∷ [])
+use Rattle.promises.specs.Calls.{Carrying, CameTo}
+use Rattle.promises.specs.CallsLaws.{At, made-so-far, carrying-at, carried-at, goes-on-at}
+use Rattle.promises.specs.FirstDemandLaws.{lent-accepted, counted-answer}
+use Rattle.promises.specs.SecondDemand.{KeyMatches, Highest, NoneMatches, KeyReplied, AllReplied, RulesOf, DuringPlan, Gives, SecondDemand}
 
 -- what the cells for id and action hold after a lookup that is answered with this reply
 cell-of : (told : Told) (values : List ℕ) (k before : ℕ) → told .number ≡ 0 → drop 1 (told .values) ≡ values → dataCell told (suc k) before ≡ getD values k 0
@@ -52,113 +57,148 @@ cell-of told values k before zero-number e =
     past (a ∷ l) = refl
 
 -- the highest match of rules that a table holds is one rule
-module _ (rules : List Rule) (v : List ℕ) (h : Holding 2 rules v) (high low : ℕ) where
-  matched : (rule : Rule) → KeyMatches high low rule → ruleMatches 2 (keyWords high low) rule ≡ true
-  matched rule m = matches-law 2 (keyWords high low) (word (rule .value)) (word (rule .mask)) .1 m
+module _ (w : ℕ) (rules : List Rule) (v : List ℕ) (h : Holding w rules v) (key : List ℕ) where
+  matched : (rule : Rule) → KeyMatches w key rule → ruleMatches w (word key) rule ≡ true
+  matched rule m = matches-law w (word key) (word (rule .value)) (word (rule .mask)) .1 m
 
-  highest : (rule : Rule) → IsHighest 2 (keyWords high low) rules (some rule) → Highest rules high low rule
-  highest rule is = (is .0, matches-law 2 (keyWords high low) (word (rule .value)) (word (rule .mask)) .0 (is .1), lower)
+  highest : (rule : Rule) → IsHighest w (word key) rules (some rule) → Highest w rules key rule
+  highest rule is = (is .0, matches-law w (word key) (word (rule .value)) (word (rule .mask)) .0 (is .1), lower)
     where
-      lower : (other : Rule) → Member other rules → KeyMatches high low other → (recordOf 2 other ≡ recordOf 2 rule) ⊎ (other .priority < rule .priority)
+      lower : (other : Rule) → Member other rules → KeyMatches w key other → (recordOf w other ≡ recordOf w rule) ⊎ (other .priority < rule .priority)
       lower other member m = pick (decLt (other .priority) (rule .priority))
         where
-          pick : Dec (other .priority < rule .priority) → (recordOf 2 other ≡ recordOf 2 rule) ⊎ (other .priority < rule .priority)
+          pick : Dec (other .priority < rule .priority) → (recordOf w other ≡ recordOf w rule) ⊎ (other .priority < rule .priority)
           pick (yes l) = inr l
           pick (no l) =
               let same : other .priority ≡ rule .priority = omega (arith, is .2 other member (matched other m)) in
-              let one = holding-untied 2 rules v h (keyWords high low) other rule member (is .0) (matched other m) (is .1) same in
+              let one = holding-untied w rules v h (word key) other rule member (is .0) (matched other m) (is .1) same in
               inl one
 
-  replied : (told : Told) (result id id′ action action′ : ℕ) → told .number ≡ 0 → drop 1 (told .values) ≡ setReply 2 rules (keyWords high low)
-      → result ≡ told .number → id′ ≡ dataCell told 1 id → action′ ≡ dataCell told 2 action → KeyReplied rules high low result id′ action′
+  replied : (told : Told) (result id id′ action action′ : ℕ) → told .number ≡ 0 → drop 1 (told .values) ≡ setReply w rules (word key)
+      → result ≡ told .number → id′ ≡ dataCell told 1 id → action′ ≡ dataCell told 2 action → KeyReplied w rules key result id′ action′
   replied told result id id′ action action′ zero-number values e f g = (
     e ∙ zero-number,
-    pick (highestMatch 2 (keyWords high low) rules) (highest-law 2 (keyWords high low) rules)
+    pick (highestMatch w (word key) rules) (highest-law w (word key) rules)
         (f ∙ cell-of told _ 0 id zero-number values) (g ∙ cell-of told _ 1 action zero-number values),
   )
     where
-      pick : (best : Option Rule) → IsHighest 2 (keyWords high low) rules best → id′ ≡ getD (ruleReply best) 0 0 → action′ ≡ getD (ruleReply best) 1 0
-          → ((rule : Rule) × Highest rules high low rule × (id′ ≡ rule .id) × (action′ ≡ rule .action)) ⊎ (NoneMatches rules high low × (id′ ≡ 0) × (action′ ≡ 0))
+      pick : (best : Option Rule) → IsHighest w (word key) rules best → id′ ≡ getD (ruleReply best) 0 0 → action′ ≡ getD (ruleReply best) 1 0
+          → ((rule : Rule) × Highest w rules key rule × (id′ ≡ rule .id) × (action′ ≡ rule .action)) ⊎ (NoneMatches w rules key × (id′ ≡ 0) × (action′ ≡ 0))
       pick none is a b = inr (λ rule member m. true≢false (sym (matched rule m) ∙ is rule member), a, b)
       pick (some rule) is a b = inl (rule, highest rule is, a, b)
 
--- a table whose lookups reply as rules that some table holds
-answers : (rules : List Rule) (u v : List ℕ) → Holding 2 rules v → ((key : Words) → Replies 2 u key (setReply 2 rules key)) → AllReplied u rules
-answers rules u v h replies high low result slot slot′ id id′ action action′ spot spot′ left =
-    let r = replies (keyWords high low) in
-    replied rules v h high low (keyAnswer u high low) result id id′ action action′ (r .0) (r .1) (left .number) (left .named) (left .acted)
+-- what follows is at a width that there is
+module _ (w : ℕ) (known : Width w) where
+  -- a table whose lookups reply as rules that some table holds
+  answers : (rules : List Rule) (u v : List ℕ) → Holding w rules v → ((key : Words) → Replies w u key (setReply w rules key)) → AllReplied w u rules
+  answers rules u v h replies key size result slot slot′ id id′ action action′ spot spot′ left =
+      let r = replies (word key) in
+      let told = lookup-at w u key known size in
+      replied w rules v h key (lookupAnswer w u (word key)) result id id′ action action′ (r .0) (r .1)
+      (left .number ∙ ap (λ (x : Told). x .number) told)
+      (left .named ∙ ap (λ (x : Told). dataCell x 1 id) told) (left .acted ∙ ap (λ (x : Told). dataCell x 2 action) told)
 
--- a plan drawn and carried out
-module _ (t plan : List ℕ) (rule : Rule) (words : List ℕ) (count : ℕ) (change : List Rule → List Rule) (d : Demand2 2 t plan rule words count change) where
-  within : (rules : List Rule) → Holding 2 rules t → DuringPlan t plan rule count rules (change rules)
-  within rules h = record {
-    made = λ u progress under. made-so-far t plan rule count u progress under;
-    kept = λ u progress under less.
-        let state = carrying-at t plan rule words count change d u progress under in
-        let k = state .0 in
-        let at = state .1 in
-        answers rules u t h (λ key. subst (λ (v : List ℕ). Replies 2 v key (setReply 2 rules key)) (sym (at .table))
-        (subst (Replies 2 (afterCalls 2 t plan rule count k .table) key) (holding-reply 2 rules t h key) (d .kept k (omega (arith, at .done)) key)));
-    changed = λ u progress under all.
-        let state = carrying-at t plan rule words count change d u progress under in
-        let k = state .0 in
-        let at = state .1 in
-        answers (change rules) u _ (d .holds rules h)
-        (λ key. subst (λ (v : List ℕ). Replies 2 v key (setReply 2 (change rules) key)) (sym (at .table)) (d .changed rules h k (omega (arith, at .done)) key));
-    few = λ u progress under. let state = carrying-at t plan rule words count change d u progress under in omega (arith, state .1 .done, state .1 .few);
-    goes-on = λ u progress under n result long room after progress′ left.
-        goes-on-at t plan rule words count change d u progress under n result long after progress′ left;
-  }
+  -- a plan drawn and carried out
+  module _ (t plan rule : List ℕ) (size : length rule ≡ recordWords w) (words : List ℕ) (count : ℕ) (change : List Rule → List Rule)
+      (d : Demand2 w t plan (ruleOf w (word rule)) words count change) where
+    state-at : (u : List ℕ) (progress : Progress) → Carrying w t plan rule count u progress → (k : ℕ) × At w t plan (ruleOf w (word rule)) count u progress k
+    state-at u progress under = carrying-at w t plan rule known size words count change d u progress under
 
--- a planning call that returned 0
-inserting : (t : List ℕ) (rule : Rule) → rule .action < 4294967296 → (plan after : List ℕ) (count count′ spot spot′ : ℕ)
-    → InsertLeft t rule 0 plan after count count′ spot spot′ → Demand2 2 t after rule (insertWords 2 t rule) count′ (λ rules. rule ∷ rules)
-inserting t rule small plan after count count′ spot spot′ left =
-    subst (λ (p : List ℕ). Demand2 2 t p rule (insertWords 2 t rule) count′ (λ rules. rule ∷ rules)) (sym (left .left .plan))
-    (demand-2-insert 2 t rule plan count′ small (counted-answer (insertChecks 2 t rule) _ _ _ after count count′ spot spot′ (left .left)))
+    during : (rules : List Rule) → Holding w rules t → DuringPlan w t plan rule count rules (change rules)
+    during rules h = record {
+      made = λ u progress under. made-so-far w t plan rule count u progress under;
+      kept = λ u progress under less.
+          let state = state-at u progress under in
+          let k = state .0 in
+          let at = state .1 in
+          answers rules u t h (λ key. subst (λ (v : List ℕ). Replies w v key (setReply w rules key)) (sym (at .table))
+          (subst (Replies w (afterCalls w t plan (ruleOf w (word rule)) count k .table) key) (holding-reply w rules t h key)
+          (d .kept k (omega (arith, at .done)) key)));
+      changed = λ u progress under all.
+          let state = state-at u progress under in
+          let k = state .0 in
+          let at = state .1 in
+          answers (change rules) u _ (d .holds rules h)
+          (λ key. subst (λ (v : List ℕ). Replies w v key (setReply w (change rules) key)) (sym (at .table)) (d .changed rules h k (omega (arith, at .done)) key));
+      few = λ u progress under. let state = state-at u progress under in omega (arith, state .1 .done, state .1 .few);
+      goes-on = λ u progress under n result long room after progress′ left.
+          goes-on-at w t plan rule known size words count change d u progress under n result long after progress′ left;
+    }
 
-deleting : (t : List ℕ) (id : ℕ) (plan after : List ℕ) (count count′ spot spot′ : ℕ) → DeleteLeft t id 0 plan after count count′ spot spot′
-    → (rule : Rule) → Demand2 2 t after rule (deleteWords 2 t id) count′ (without id)
-deleting t id plan after count count′ spot spot′ left rule =
-    subst (λ (p : List ℕ). Demand2 2 t p rule (deleteWords 2 t id) count′ (without id)) (sym (left .plan))
-    (demand-2-delete 2 t id plan count′ rule (counted-answer (deleteChecks 2 t id) _ _ _ after count count′ spot spot′ left))
+  -- a planning call that returned 0
+  inserting : (t rule plan after : List ℕ) (count count′ spot spot′ : ℕ) → InsertLeft w t rule 0 plan after count count′ spot spot′
+      → (length rule ≡ recordWords w) × Demand2 w t after (ruleOf w (word rule)) (insertWords w t (ruleOf w (word rule))) count′ (λ rules. ruleOf w (word rule) ∷ rules)
+  inserting t rule plan after count count′ spot spot′ left =
+      let given = ruleOf w (word rule) in
+      let passed = lent-accepted (checkRule w (length rule)) _ (sym (left .left .number)) in
+      let told = counted-answer (checkRule w (length rule)) (insertChecks w t given) _ _ _ after count count′ spot spot′ (left .left) in
+      let is = left .left .plan ∙ ap (λ (x : Check). leaves x (insertPlan w t given plan) plan) passed in (
+        rule-law w (length rule) .0 passed .1,
+        subst (λ (p : List ℕ). Demand2 w t p given (insertWords w t given) count′ (λ rules. given ∷ rules)) (sym is)
+            (demand-2-insert w t given plan count′ (rule-action w (word rule)) told),
+      )
 
--- a table that a caller came to is one of the histories below: there the whole buffer is lent, and as many calls are made as are counted
-came-reached : (history : List Change) (t : List ℕ) → CameTo history t → Reached 2 history t
-came-reached history t (CameTo.started n some-slot few) = Reached.start n some-slot few
-came-reached history t (CameTo.inserted before u came rule small plan after count count′ spot spot′ left v full) =
-    let d = inserting u rule small plan after count count′ spot spot′ left in
-    let told = counted-answer (insertChecks 2 u rule) _ _ _ after count count′ spot spot′ (left .left) in
-    let lent = subst (Lent (insertPlan 2 u rule plan) count′) (sym (left .left .plan))
-    (lent-whole (insertPlan 2 u rule plan) count′ (demand-2-room (demand-2-insert 2 u rule plan count′ small told))) in
-    subst (Reached 2 history) (sym (carried-at u after rule _ count′ (λ rules. rule ∷ rules) d t full))
-    (Reached.inserted before u (came-reached before u came) rule small plan count′ told after lent count′ (d .finished count′ (omega arith)))
-came-reached history t (CameTo.deleted before u came id plan after count count′ spot spot′ left rule v full) =
-    let d = deleting u id plan after count count′ spot spot′ left rule in
-    let told = counted-answer (deleteChecks 2 u id) _ _ _ after count count′ spot spot′ left in
-    let lent = subst (Lent (deletePlan 2 u id plan) count′) (sym (left .plan))
-    (lent-whole (deletePlan 2 u id plan) count′ (demand-2-room (demand-2-delete 2 u id plan count′ rule told))) in
-    subst (Reached 2 history) (sym (carried-at u after rule _ count′ (without id) d t full))
-    (Reached.deleted before u (came-reached before u came) id plan count′ told rule after lent count′ (d .finished count′ (omega arith)))
+  deleting : (t : List ℕ) (id : ℕ) (plan after : List ℕ) (count count′ spot spot′ : ℕ) → DeleteLeft w t id 0 plan after count count′ spot spot′
+      → (rule : Rule) → Demand2 w t after rule (deleteWords w t id) count′ (without id)
+  deleting t id plan after count count′ spot spot′ left rule =
+      let passed = lent-accepted (checkWidth w) _ (sym (left .number)) in
+      let told = counted-answer (checkWidth w) (deleteChecks w t id) _ _ _ after count count′ spot spot′ left in
+      let is = left .plan ∙ ap (λ (x : Check). leaves x (deletePlan w t id plan) plan) passed in
+      subst (λ (p : List ℕ). Demand2 w t p rule (deleteWords w t id) count′ (without id)) (sym is) (demand-2-delete w t id plan count′ rule told)
 
--- a table's rules are held by it, and lookups tell them
-held : (rules : List Rule) (t : List ℕ) → RulesOf rules t → Holding 2 rules t
-held rules t (RulesOf.ran history u came) = reached-holding (came-reached history u came)
-held rules t (RulesOf.stand u sound) = table-holding 2 u (table-rows 2 u .passes .1 sound)
+  -- a table that a caller came to is one of the histories below: there the whole buffer is lent, and as many calls are made as are counted
+  came-reached : (history : List Change) (t : List ℕ) → CameTo w history t → Reached w history t
+  came-reached history t (CameTo.started n some-slot few) = Reached.start n some-slot few
+  came-reached history t (CameTo.inserted before u came rule plan after count count′ spot spot′ left v full) =
+      let given = ruleOf w (word rule) in
+      let planned = inserting u rule plan after count count′ spot spot′ left in
+      let d = planned .1 in
+      let told = counted-answer (checkRule w (length rule)) (insertChecks w u given) _ _ _ after count count′ spot spot′ (left .left) in
+      let is = left .left .plan ∙ ap (λ (x : Check). leaves x (insertPlan w u given plan) plan) (lent-accepted (checkRule w (length rule)) _ (sym (left .left .number))) in
+      let lent = subst (Lent (insertPlan w u given plan) count′) (sym is)
+      (lent-whole (insertPlan w u given plan) count′ (demand-2-room (demand-2-insert w u given plan count′ (rule-action w (word rule)) told))) in
+      subst (Reached w history) (sym (carried-at w u after rule known (planned .0) _ count′ (λ rules. given ∷ rules) d t full))
+      (Reached.inserted before u (came-reached before u came) given (rule-action w (word rule)) plan count′ told after lent count′ (d .finished count′ (omega arith)))
+  came-reached history t (CameTo.deleted before u came id plan after count count′ spot spot′ left rule size v full) =
+      let given = ruleOf w (word rule) in
+      let d = deleting u id plan after count count′ spot spot′ left given in
+      let told = counted-answer (checkWidth w) (deleteChecks w u id) _ _ _ after count count′ spot spot′ left in
+      let is = left .plan ∙ ap (λ (x : Check). leaves x (deletePlan w u id plan) plan) (lent-accepted (checkWidth w) _ (sym (left .number))) in
+      let lent = subst (Lent (deletePlan w u id plan) count′) (sym is)
+      (lent-whole (deletePlan w u id plan) count′ (demand-2-room (demand-2-delete w u id plan count′ given told))) in
+      subst (Reached w history) (sym (carried-at w u after rule known size _ count′ (without id) d t full))
+      (Reached.deleted before u (came-reached before u came) id plan count′ told given after lent count′ (d .finished count′ (omega arith)))
 
-told : (rules : List Rule) (t : List ℕ) → RulesOf rules t → (key : Words) → Replies 2 t key (setReply 2 rules key)
-told rules t (RulesOf.ran history u came) key = reached-lookup (came-reached history u came) key
-told rules t (RulesOf.stand u sound) key = holding-lookup 2 (tableRules 2 u) u (held rules t (RulesOf.stand u sound)) key
+  -- a table's rules are held by it, and lookups tell them
+  held : (rules : List Rule) (t : List ℕ) → RulesOf w rules t → Holding w rules t
+  held rules t (RulesOf.ran history u came) = reached-holding (came-reached history u came)
+  held rules t (RulesOf.stand u sound) = table-holding w u (table-rows w u .passes .1 sound)
 
--- document 01's demand 2
-pub second-demand : SecondDemand
-second-demand = record {
-  given = λ id priority vh vl mh ml action. (refl, refl, refl, refl, refl);
-  answered = λ rules t of. answers rules t t (held rules t of) (told rules t of);
-  insert = λ rules t of rule small plan after count count′ spot spot′ left.
-      within t after rule _ count′ (λ rs. rule ∷ rs) (inserting t rule small plan after count count′ spot spot′ left) rules (held rules t of);
-  delete = λ rules t of id plan after count count′ spot spot′ left rule.
-      within t after rule _ count′ (without id) (deleting t id plan after count count′ spot spot′ left rule) rules (held rules t of);
+  told : (rules : List Rule) (t : List ℕ) → RulesOf w rules t → (key : Words) → Replies w t key (setReply w rules key)
+  told rules t (RulesOf.ran history u came) key = reached-lookup (came-reached history u came) key
+  told rules t (RulesOf.stand u sound) key = holding-lookup w (tableRules w u) u (held rules t (RulesOf.stand u sound)) key
+
+-- the rule that is given is the record's
+gives : (w : ℕ) (rule : List ℕ) → Gives w rule (ruleOf w (word rule))
+unfolding ruleOf
+gives w rule = record {
+  values = λ j h. word-listed w (value (word rule)) j h;
+  masks = λ j h. word-listed w (mask w (word rule)) j h;
+  both = div-add-mod' (word rule (2 * w)) 4294967296;
+  small = rule-action w (word rule);
+  priority = refl;
+}
+
+-- document 01's demand 2, at every width that there is
+pub second-demand : (w : ℕ) → Width w → SecondDemand w
+second-demand w known = record {
+  given = gives w;
+  answered = λ rules t of. answers w known rules t t (held w known rules t of) (told w known rules t of);
+  insert = λ rules t of rule plan after count count′ spot spot′ left.
+      let planned = inserting w known t rule plan after count count′ spot spot′ left in
+      during w known t after rule (planned .0) _ count′ (λ rs. ruleOf w (word rule) ∷ rs) (planned .1) rules (held w known rules t of);
+  delete = λ rules t of id plan after count count′ spot spot′ left rule size.
+      during w known t after rule size _ count′ (without id) (deleting w known t id plan after count count′ spot spot′ left (ruleOf w (word rule))) rules (held w known rules t of);
   loads = λ t image saved bytes bytes′ spot spot′ words left lent loaded result place place′ size load.
-      let r = save-load-call t image saved bytes bytes′ spot spot′ words left lent loaded result place place′ size load in (r .0, r .1);
+      let r = save-load-call w t image saved bytes bytes′ spot spot′ words left lent loaded result place place′ size load in (r .0, r .1);
 }

@@ -11,7 +11,7 @@ use lib.ListN.{length, getD, take, drop}
 use Rattle.layout.specs.Order.{Higher, Lower}
 use Rattle.layout.specs.Write.{copy, put}
 use Rattle.plan_words.specs.PlanWords.{writeOf}
-use Rattle.records.specs.Record.{word, slotWords, empty, occupied, recordOf}
+use Rattle.records.specs.Record.{word, recordWords, slotWords, empty, occupied, recordOf, ruleOf}
 use Rattle.records.specs.Order.{slots, InOrder}
 use Rattle.records.specs.Entries.{entryAt}
 use Rattle.records.specs.Writes.{applyWords}
@@ -22,52 +22,53 @@ use Rattle.refusals.specs.Calls.{OneId, newRuleRows}
 use Rattle.tcam.specs.Cells.{InsertLeft}
 
 -- a write to slot j loses no rule: it is empty, or its id stands in another slot too
-abbrev pub LosesNone : List ℕ → ℕ → Type 0
-LosesNone t j =
-    (empty 2 (slotWords 2 t j) ≡ true) ⊎ ((k : ℕ) × (k < slots 2 t) × (k ≡ j → ⊥) × OneId 2 (slotWords 2 t k) (slotWords 2 t j))
+abbrev pub LosesNone : ℕ → List ℕ → ℕ → Type 0
+LosesNone w t j =
+    (empty w (slotWords w t j) ≡ true) ⊎ ((k : ℕ) × (k < slots w t) × (k ≡ j → ⊥) × OneId w (slotWords w t k) (slotWords w t j))
 
 -- A sequence of writes, of any length, from a table and a rule, toward one end: each write but the last copies a rule from one slot to another that way,
 -- the last puts the new rule in; none loses a rule; after each the table is in order.
-pub record WritesToward (toward : ℕ → ℕ → Type 0) (t : List ℕ) (rule : Rule) (words : List ℕ) : Type 0 where
+pub record WritesToward (toward : ℕ → ℕ → Type 0) (w : ℕ) (t : List ℕ) (rule : Rule) (words : List ℕ) : Type 0 where
   pub some : 0 < length words
   pub copies : (k : ℕ) → suc k < length words
       → (from : ℕ) × (to : ℕ) × (writeOf (getD words k 0) ≡ copy from to) × toward from to
-      × (from < slots 2 (applyWords 2 t rule (take k words))) × (occupied 2 (slotWords 2 (applyWords 2 t rule (take k words)) from) ≡ true)
-      × (to < slots 2 (applyWords 2 t rule (take k words))) × LosesNone (applyWords 2 t rule (take k words)) to
+      × (from < slots w (applyWords w t rule (take k words))) × (occupied w (slotWords w (applyWords w t rule (take k words)) from) ≡ true)
+      × (to < slots w (applyWords w t rule (take k words))) × LosesNone w (applyWords w t rule (take k words)) to
   pub last : (k : ℕ) → suc k ≡ length words
       → (to : ℕ) × (writeOf (getD words k 0) ≡ put to)
-      × (to < slots 2 (applyWords 2 t rule (take k words))) × LosesNone (applyWords 2 t rule (take k words)) to
-  pub order : (k : ℕ) → k < length words → InOrder 2 (applyWords 2 t rule (take (suc k) words))
+      × (to < slots w (applyWords w t rule (take k words))) × LosesNone w (applyWords w t rule (take k words)) to
+  pub order : (k : ℕ) → k < length words → InOrder w (applyWords w t rule (take (suc k) words))
 
 -- the comparison class: toward higher slots, or toward lower
-abbrev pub OneWay : List ℕ → Rule → List ℕ → Type 0
-OneWay t rule words = WritesToward Higher t rule words ⊎ WritesToward Lower t rule words
+abbrev pub OneWay : ℕ → List ℕ → Rule → List ℕ → Type 0
+OneWay w t rule words = WritesToward Higher w t rule words ⊎ WritesToward Lower w t rule words
 
 -- a rule's record stands in some slot
-abbrev pub Stands : List ℕ → List ℕ → Type 0
-Stands t x = (occupied 2 (word x) ≡ true) × ((i : ℕ) × (i < slots 2 t) × (entryAt 2 t i ≡ x))
+abbrev pub Stands : ℕ → List ℕ → List ℕ → Type 0
+Stands w t x = (occupied w (word x) ≡ true) × ((i : ℕ) × (i < slots w t) × (entryAt w t i ≡ x))
 
--- What tcam_plan_insert returned and left: words are the plan.
-pub record InsertPlanned (t : List ℕ) (rule : Rule) (result : ℕ) (plan after : List ℕ) (count count′ spot spot′ : ℕ) : Type 0 where
+-- What tcam_plan_insert returned and left: words are the plan; the rule is the one that was lent.
+pub record InsertPlanned (w : ℕ) (t : List ℕ) (rule : Rule) (result : ℕ) (plan after : List ℕ) (count count′ spot spot′ : ℕ) : Type 0 where
   pub words : List ℕ
   -- it moves rules toward one end only, loses none, keeps the table in order, and its last write puts the new rule in
-  pub class : OneWay t rule words
+  pub class : OneWay w t rule words
   -- after it each old rule stands, and the new one, and none besides, each in one slot
-  pub stands : (x : List ℕ) → Stands (applyWords 2 t rule words) x ↔ (Stands t x ⊎ (recordOf 2 rule ≡ x))
-  pub once : (i k : ℕ) → i < k → k < slots 2 (applyWords 2 t rule words)
-      → OneId 2 (slotWords 2 (applyWords 2 t rule words) i) (slotWords 2 (applyWords 2 t rule words) k) → ⊥
+  pub stands : (x : List ℕ) → Stands w (applyWords w t rule words) x ↔ (Stands w t x ⊎ (recordOf w rule ≡ x))
+  pub once : (i k : ℕ) → i < k → k < slots w (applyWords w t rule words)
+      → OneId w (slotWords w (applyWords w t rule words) i) (slotWords w (applyWords w t rule words) k) → ⊥
   -- no other sequence that does all this is shorter
-  pub least : (other : List ℕ) → OneWay t rule other → length words ≤ length other
+  pub least : (other : List ℕ) → OneWay w t rule other → length words ≤ length other
   -- buffer enough is the cost plus 1, and as many words as the table has slots always do
-  pub cost : length words ≡ suc (insertChoiceOf 2 t rule .cost)
-  pub few : length words ≤ slots 2 t
+  pub cost : length words ≡ suc (insertChoiceOf w t rule .cost)
+  pub few : length words ≤ slots w t
   -- given buffer enough the call returns the plan and its count, and leaves the words past it; else it declines with 11 and the words needed
   pub enough : length words ≤ length plan → (result ≡ 0) × (count′ ≡ length words) × (after ≡ words ++ drop (length words) plan)
   pub short : length plan < length words → (result ≡ 11) × (spot′ ≡ length words) × (after ≡ plan)
 
 -- Document 01 words the premises by the checks: a table that passes 1 to 4 is sound; a rule that passes 5 to 8 is sound, of new id and ties with none; 9 is
--- the empty slot, 10 the crossed neighbours. These are the rows of an insert without 11.
-pub record ThirdDemand : Type 0 where
-  pub plans : (t : List ℕ) (rule : Rule) → rule .action < 4294967296 → Accepts (newRuleRows 2 t rule)
-      → (result : ℕ) (plan after : List ℕ) (count count′ spot spot′ : ℕ) → InsertLeft t rule result plan after count count′ spot spot′
-      → InsertPlanned t rule result plan after count count′ spot spot′
+-- the empty slot, 10 the crossed neighbours. These are the rows of an insert without 11. The rule is lent as a record of as many words, whose own
+-- words are then the record that stands; w is the width that the call names, and is one that there is.
+pub record ThirdDemand (w : ℕ) : Type 0 where
+  pub plans : (t rule : List ℕ) → length rule ≡ recordWords w → Accepts (newRuleRows w t (ruleOf w (word rule)))
+      → (result : ℕ) (plan after : List ℕ) (count count′ spot spot′ : ℕ) → InsertLeft w t rule result plan after count count′ spot spot′
+      → InsertPlanned w t (ruleOf w (word rule)) result plan after count count′ spot spot′ × (recordOf w (ruleOf w (word rule)) ≡ rule)

@@ -1,6 +1,6 @@
 -- End theorems on the checks, in document 01's words: shape, records, ids and order, each exactly, and each spot the lowest.
 -- These are the sentences a reader goes by; callers cite them and not the text of the definitions.
-use mathlib.Core.Path.{_≡_, refl, sym, ap, _∙_, fun-ext}
+use mathlib.Core.Path.{_≡_, refl, sym, ap, _∙_}
 use mathlib.Core.Bool.{Bool, true, false, not, cond, _&&_, and-comm, false≢true, true≢false}
 use mathlib.Core.Logic.{_↔_, _⊎_, ⊎-elim}
 use mathlib.Core.Logic._⊎_.{inl, inr}
@@ -16,7 +16,7 @@ use borrow.Author.Tests.{eqb-true, eqb-false, eq-eqb, ne-eqb, leb-true, le-leb, 
 use Rattle.search.specs.Search.{least, Least, any}
 use Rattle.search.specs.SearchLaws.{all-law, all-not, least-law, least-cong, any-no, any-none, decided, and-law, and-left, and-right, and-both}
 use Rattle.ternary.specs.Pattern.{Words, Matches, Within, within}
-use Rattle.ternary.specs.PatternLaws.{overlaps-law, matches-law, matches-cong, within-law}
+use Rattle.ternary.specs.PatternLaws.{overlaps-law, matches-law, within-law}
 use Rattle.records.specs.Record.{recordWords, slotWords, value, mask, ident, rank, empty, occupied, sound, soundParts, slotMatches}
 use Rattle.records.specs.Record.{patternMatches}
 use Rattle.records.specs.Order.{slots, overlapping, sameId, distinct, precedes, tied, misordered, Ordered, InOrder, Overlapping}
@@ -154,9 +154,6 @@ table-checks-law w t =
 pub slot-checks-length : (w : ℕ) (t : List ℕ) → slotChecks w t ≡ Pass → length t ≤ 1024 * recordWords w
 slot-checks-length w t e = shape-length w t (slot-checks-law w t .0 e .0)
 
-pub table-checks-length : (w : ℕ) (t : List ℕ) → tableChecks w t ≡ Pass → length t ≤ 1024 * recordWords w
-table-checks-length w t e = slot-checks-length w t (table-checks-law w t .0 e .0)
-
 -- the lowest slot that fails a check, exactly
 pub lowest-pass : (cause : Cause) (p : ℕ → Bool) (n : ℕ) → (lowest cause p n ≡ Pass) ↔ ((i : ℕ) → i < n → p i ≡ false)
 unfolding lowest
@@ -230,13 +227,6 @@ pub first-match-law : (w : ℕ) (t : List ℕ) (key : Words)
     → Least (λ (i : ℕ). slotMatches w key (slotWords w t i)) 0 (slots w t) (firstMatch w t key)
 unfolding firstMatch
 first-match-law w t key = rw zero-add at (least-law (λ (i : ℕ). slotMatches w key (slotWords w t i)) (slots w t) 0)
-
--- the first match reads the key's first w words alone
-pub first-match-cong : (w : ℕ) (t : List ℕ) {key key′ : Words} → ((j : ℕ) → j < w → key j ≡ key′ j) → firstMatch w t key ≡ firstMatch w t key′
-unfolding firstMatch slotMatches
-first-match-cong w t h =
-    ap (λ (p : ℕ → Bool). least p (slots w t) 0)
-    (fun-ext (λ i. ap (λ (b : Bool). b && occupied w (slotWords w t i)) (matches-cong w h (λ j l. refl) (λ j l. refl))))
 
 -- a slot's record lies within the table
 pub slot-within : (w : ℕ) (t : List ℕ) (i : ℕ) → i < slots w t → i * recordWords w + recordWords w ≤ length t

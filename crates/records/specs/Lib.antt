@@ -1,11 +1,13 @@
 -- What the words of a lent table mean: slot records, rules, order, the first match, and the checks that refuse a table.
--- Record, Order, Checks: the definitions; Laws: what they say. Rules: rules as records. Entries, Writes, ClassWords, Inserts: tables as layouts.
+-- Record, Order, Checks: the definitions; Laws: what they say. Widths: which numbers of words the calls take. Rules: rules as records. Entries, Writes, ClassWords, Inserts: tables as layouts.
 pub mod Record
 pub mod Order
 pub mod OrderLaws
 pub mod Checks
 pub mod ChecksLaws
 pub mod Laws
+pub mod Widths
+pub mod WidthsLaws
 pub mod Rules
 pub mod RulesLaws
 pub mod Entries

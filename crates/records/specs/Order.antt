@@ -6,12 +6,17 @@ use mathlib.Core.List.{List}
 use Prim.Native.Nat.{ℕ, _/_, _<_}
 use lib.Dec.{eqb, ltb, leb}
 use lib.ListN.{length}
+use Rattle.ternary.specs.Word.{agree, both}
 use Rattle.ternary.specs.Pattern.{Words, Overlap, overlaps}
 use Rattle.records.specs.Record.{recordWords, slotWords, value, mask, ident, rank, occupied}
 
 -- how many slots a table has
 abbrev pub slots : ℕ → List ℕ → ℕ
 slots w t = length t / recordWords w
+
+-- two patterns do not differ in word j at bits that both care for
+abbrev pub overlapAt : ℕ → Words → Words → ℕ → Bool
+overlapAt w a b j = agree (value a j) (value b j) (both (mask w a j) (mask w b j))
 
 abbrev pub overlapping : ℕ → Words → Words → Bool
 overlapping w a b = overlaps w (value a) (mask w a) (value b) (mask w b)

@@ -22,6 +22,13 @@ listed (suc n) f = listed n f ++ (f n ∷ [])
 abbrev pub recordWords : ℕ → ℕ
 recordWords w = 2 * w + 2
 
+-- document 01: a table has at most so many slots, and so many words
+abbrev pub mostSlots : ℕ
+mostSlots = 1024
+
+abbrev pub mostWords : ℕ → ℕ
+mostWords w = mostSlots * recordWords w
+
 -- the record in slot i of a table, read in the table itself
 abbrev pub slotWords : ℕ → List ℕ → ℕ → Words
 slotWords w t i j = getD t (i * recordWords w + j) 0

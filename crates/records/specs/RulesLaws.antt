@@ -1,22 +1,21 @@
 -- End theorems on a rule and its slot record: each field of the record is the rule's, and there and back nothing is lost where the priority has 32 bits.
 -- So the record, which a table holds, and the rule, which a call takes, say the same.
 use mathlib.Core.Path.{_≡_, refl, sym, ap, ap₂, _∙_}
-use mathlib.Core.Bool.{Bool, not, _&&_}
+use mathlib.Core.Bool.{Bool, true, not, _&&_}
 use mathlib.Core.List.{List, [], _∷_, _++_}
 use Prim.Native.Nat.{ℕ, zero, suc, _+_, _-_, _*_, _/_, _%_, _≤_, _<_, min}
-use native.Mathlib.Nat.{div-add-mod'}
+use native.Mathlib.Nat.{div-add-mod', mod-lt}
 use native.Mathlib.Decide.{ℕ-discrete, decLt, decLe}
 use native.Mathlib.Omega.{arith}
 use lib.Arith.{digits-div, digits-mod}
 use lib.Dec.{eqb, leb}
 use borrow.Author.Tests.{le-leb, lt-leb}
-use lib.ListN.{length, getD, set, replicate, length-append, List·getD-append}
-use native.Mathlib.Numerals.{add-one, add-two, add-three, add-four, add-five}
-use lib.Seq.{getD-append-add, getD-at, ext-getD, sets-eq}
+use lib.ListN.{length, getD, replicate, length-append, List·getD-append}
+use lib.Seq.{getD-append-add, getD-at, ext-getD}
 use Rattle.ternary.specs.Pattern.{Words}
 use Rattle.ternary.specs.PatternLaws.{within-cong}
 use Rattle.records.specs.Record.{word, listed, recordWords, value, mask, ident, action, rank, sound, soundParts, soundRule, recordOf, ruleOf}
-use Rattle.records.specs.Record.{putSlot}
+use Rattle.records.specs.Laws.{sound-law}
 use Rattle.records.specs.declared.Rule.{Rule}
 use Rattle.records.specs.Rules.{Fields}
 
@@ -44,12 +43,6 @@ word-listed (suc n) f j h = pick (ℕ-discrete j n) (word-listed n f j)
 pub listed-words : (n : ℕ) (l : List ℕ) → length l ≡ n → listed n (word l) ≡ l
 listed-words n l e =
     ext-getD 0 (listed n (word l)) l (length-listed n (word l) ∙ sym e) (λ i h. word-listed n (word l) i (let k = length-listed n (word l) in omega arith))
-
--- the first two words of a list, as a list of two
-pub two-words : (l : List ℕ) (j : ℕ) → j < 2 → word (getD l 0 0 ∷ getD l 1 0 ∷ []) j ≡ word l j
-two-words l zero h = refl
-two-words l (suc zero) h = refl
-two-words l (suc (suc j)) h = absurd (omega arith)
 
 pub listed-cong : (n : ℕ) {f g : Words} → ((j : ℕ) → j < n → f j ≡ g j) → listed n f ≡ listed n g
 unfolding listed
@@ -181,11 +174,12 @@ rule-sound w x =
         pick (yes h) = le-leb (min r 4294967295) 65535 (omega arith) ∙ sym (le-leb r 65535 h)
         pick (no h) = lt-leb (min r 4294967295) 65535 (omega arith) ∙ sym (lt-leb r 65535 (omega arith))
 
--- six stores in a row put a record's words into a slot
-pub six-stores : (t : List ℕ) (i a b c d e f : ℕ) → i * 6 + 6 ≤ length t
-    → set (set (set (set (set (set t (i * 6) a) (i * 6 + 1) b) (i * 6 + 2) c) (i * 6 + 3) d) (i * 6 + 4) e) (i * 6 + 5) f
-    ≡ putSlot 2 t i (a ∷ b ∷ c ∷ d ∷ e ∷ f ∷ [])
-unfolding putSlot
-six-stores t i a b c d e f h =
-    rw (add-one (i * 6), add-two (i * 6), add-three (i * 6), add-four (i * 6), add-five (i * 6))
-    (sets-eq (a ∷ b ∷ c ∷ d ∷ e ∷ f ∷ []) t (i * 6) h)
+-- a record lent as a sound rule is the record of its rule
+pub given-record : (w : ℕ) (l : List ℕ) → length l ≡ recordWords w → sound w (word l) ≡ true → recordOf w (ruleOf w (word l)) ≡ l
+given-record w l size e =
+    record-of-rule w (word l) (let h = sound-law w _ _ _ _ .0 e in omega (arith, h .1)) ∙ listed-words (recordWords w) l size
+
+-- an action has 32 bits
+pub rule-action : (w : ℕ) (x : Words) → ruleOf w x .action < 4294967296
+unfolding ruleOf
+rule-action w x = mod-lt (x (2 * w)) (omega arith)

@@ -1,9 +1,44 @@
-// A rule, the causes of refusals and what a check answers; specs/ has what the words of a lent table mean, for any number of words of a value.
-// The code that reads the words is in `slots`, the checks of a whole table in `table_checks`.
+// A rule, the sizes of records and tables, the causes of refusals and what a check answers; specs/ has what the words of a lent table mean, for any
+// number of words of a value. The code that reads the words is in `slots`, the checks of a whole table in `table_checks`.
 ghost use mathlib.Core.Path.{_≡_};
+ghost use Prim.Native.Nat.{_≤_};
+ghost use Rattle.records.specs.Record.{recordWords};
 ghost use Rattle.records.specs.Checks.{causeNumber};
+ghost use Rattle.records.specs.Widths.{checkWidth, checkWords, checkKey, checkRule};
 
-// A rule as the calls take it: value and mask as two words each, high word first.
+// How many words a value has, and a mask: document 01's two, or document 02's five.
+pub const NARROW: usize = 2;
+
+pub const WIDE: usize = 5;
+
+// The most slots that a table has, twice as many for a list of two numbers a slot, and the words of such a table at either width.
+pub const MOST_SLOTS: usize = 1024;
+
+pub const LIST_NUMBERS: usize = 2048;
+
+pub const NARROW_TABLE: usize = 6144;
+
+pub const WIDE_TABLE: usize = 12288;
+
+// The words of a record at either width.
+pub const NARROW_RECORD: usize = 6;
+
+pub const WIDE_RECORD: usize = 12;
+
+// How a call reads its tables.
+pub struct Mode {
+    pub width: usize,
+}
+
+// How many words a slot record has: value, mask, id and action, priority.
+pub fn record_words(width: usize) -> usize
+    requires { ⌜ width ≤ 5 ⌝ }
+    ensures { λ r. ⌜ r ≡ recordWords width ⌝ }
+{
+    2 * width + 2
+}
+
+// Document 01's rule at two words: value and mask, high word first.
 pub struct Rule {
     pub id: u32,
     pub priority: u32,
@@ -56,4 +91,46 @@ pub fn cause_number(cause: Cause) -> u32
         Cause::Line => 13,
         Cause::Image => 14,
     }
+}
+
+// 1 for a width that there is not.
+pub fn check_width(width: usize) -> Check
+    ensures { λ r. ⌜ r ≡ checkWidth width ⌝ }
+{
+    if (width == NARROW) | (width == WIDE) {
+        return Check::Pass;
+    }
+    Check::Fail(Cause::Shape, 0)
+}
+
+// 1 for another number of words than is needed.
+fn check_words(words: usize, needed: usize) -> Check
+    ensures { λ r. ⌜ r ≡ checkWords words needed ⌝ }
+{
+    if words == needed {
+        return Check::Pass;
+    }
+    Check::Fail(Cause::Shape, 0)
+}
+
+// 1 for a width that there is not, and for a key of another number of words.
+pub fn check_key(width: usize, words: usize) -> Check
+    ensures { λ r. ⌜ r ≡ checkKey width words ⌝ }
+{
+    let known = check_width(width);
+    if let Check::Fail(cause, spot) = known {
+        return Check::Fail(cause, spot);
+    }
+    check_words(words, width)
+}
+
+// 1 for a width that there is not, and for a rule's record of another number of words.
+pub fn check_rule(width: usize, words: usize) -> Check
+    ensures { λ r. ⌜ r ≡ checkRule width words ⌝ }
+{
+    let known = check_width(width);
+    if let Check::Fail(cause, spot) = known {
+        return Check::Fail(cause, spot);
+    }
+    check_words(words, record_words(width))
 }

@@ -10,7 +10,7 @@ use lib.ListN.{length, getD}
 use Rattle.ternary.specs.Pattern.{Words, Within}
 use Rattle.layout.specs.Write.{put}
 use Rattle.plan_words.specs.PlanWords.{writeOf}
-use Rattle.records.specs.Record.{word, slotWords, occupied, ident, rank, value, mask, recordOf}
+use Rattle.records.specs.Record.{word, recordWords, slotWords, occupied, ident, rank, value, mask, recordOf, ruleOf}
 use Rattle.records.specs.Order.{slots, Overlapping}
 use Rattle.records.specs.Checks.{Shaped}
 use Rattle.records.specs.Entries.{entries}
@@ -178,3 +178,37 @@ loadRows w b t =
     ++ rowsInTurn (entryRows w b (slots w t) (rulesIn b)) (rulesIn b)
     ++ rowsInTurn (bodyRows w b (rulesIn b)) (rulesIn b)
     ++ (twiceRow w (meant w b (length t)) ∷ orderRow w (meant w b (length t)) ∷ [])
+
+-- Document 02: 1 also covers a width that there is not, and a key or a rule of another number of words than the width asks for.
+abbrev pub OtherWidth : ℕ → Type 0
+OtherWidth w = (w ≡ 2 → ⊥) × (w ≡ 5 → ⊥)
+
+abbrev pub OtherKey : ℕ → List ℕ → Type 0
+OtherKey w key = OtherWidth w ⊎ (length key ≡ w → ⊥)
+
+abbrev pub OtherRule : ℕ → List ℕ → Type 0
+OtherRule w rule = OtherWidth w ⊎ (length rule ≡ recordWords w → ⊥)
+
+-- the rows of a call, whose first row, 1, holds on this condition too
+abbrev pub rowsOr : Type 0 → List Row → List Row
+rowsOr Other [] = []
+rowsOr Other (row ∷ rows) = record { cause = row .cause; condition = Other ⊎ row .condition; spot = row .spot } ∷ rows
+
+-- each exported call, on what is lent to it: of a rule its record
+abbrev pub lookupCallRows : ℕ → List ℕ → List ℕ → List Row
+lookupCallRows w t key = rowsOr (OtherKey w key) (lookupRows w t)
+
+abbrev pub insertCallRows : ℕ → List ℕ → List ℕ → ℕ → List Row
+insertCallRows w t rule room = rowsOr (OtherRule w rule) (insertRows w t (ruleOf w (word rule)) room)
+
+abbrev pub deleteCallRows : ℕ → List ℕ → ℕ → ℕ → List Row
+deleteCallRows w t id room = rowsOr (OtherWidth w) (deleteRows w t id room)
+
+abbrev pub saveCallRows : ℕ → List ℕ → ℕ → List Row
+saveCallRows w t room = rowsOr (OtherWidth w) (saveRows w t room)
+
+abbrev pub loadCallRows : ℕ → List ℕ → List ℕ → List Row
+loadCallRows w b t = rowsOr (OtherWidth w) (loadRows w b t)
+
+abbrev pub stepCallRows : ℕ → List ℕ → List ℕ → List ℕ → ℕ → ℕ → List Row
+stepCallRows w t plan rule done total = rowsOr (OtherRule w rule) (stepRows w t plan (ruleOf w (word rule)) done total)

@@ -6,21 +6,24 @@ use Prim.Native.Nat.{ℕ, _+_}
 use lib.Dec.{eqb, ltb}
 use lib.ListN.{length}
 use Rattle.ternary.specs.Pattern.{Words}
+use Rattle.records.specs.Record.{word, ruleOf}
 use Rattle.records.specs.Order.{slots}
 use Rattle.records.specs.Checks.{success, unless, slotChecks, firstMatch}
 use Rattle.records.specs.declared.Rule.{Rule}
 use Rattle.records.specs.declared.Check.{Check}
 use Rattle.buffers.specs.Buffers.{checkRoom, bufferAnswer}
-use Rattle.lookups.specs.Lookup.{matchTold, lookupAnswer}
-use Rattle.insert_plans.specs.Inserts.{insertAnswer, insertWords}
-use Rattle.delete_plans.specs.Deletes.{deleteAnswer}
-use Rattle.carrying.specs.Carrying.{stepAnswer}
+use Rattle.lookups.specs.Lookup.{matchTold, lookupAnswer, lookupCall}
+use Rattle.insert_plans.specs.Inserts.{insertAnswer, insertWords, insertCall}
+use Rattle.delete_plans.specs.Deletes.{deleteAnswer, deleteCall}
+use Rattle.carrying.specs.Carrying.{stepAnswer, stepCall}
 use Rattle.image.specs.Format.{imageBytes, ruleCount}
-use Rattle.image.specs.Answers.{saveAnswer, loadAnswer}
+use Rattle.image.specs.Answers.{saveAnswer, loadAnswer, saveCall, loadCall}
 use Rattle.refusals.specs.Rows.{Row, AnsweredBy}
 use Rattle.refusals.specs.RowsLaws.{Agrees, rows-then, answered}
 use Rattle.refusals.specs.Calls.{shortRow, lookupRows, insertRows, deleteRows, saveRows, stepRows, loadRows}
+use Rattle.refusals.specs.Calls.{lookupCallRows, insertCallRows, deleteCallRows, saveCallRows, stepCallRows, loadCallRows}
 use Rattle.refusals.specs.TableLaws.{slot-rows, table-rows}
+use Rattle.refusals.specs.WidthsLaws.{lent-answered, width-row, key-row, rule-row}
 use Rattle.refusals.specs.PlanningLaws.{short-row, insert-rows, delete-rows}
 use Rattle.refusals.specs.CarryingLaws.{stepChecks, step-told, step-rows}
 use Rattle.refusals.specs.ImageLaws.{load-rows}
@@ -62,3 +65,23 @@ step-by-rows w t plan rule done total =
         (unless (stepChecks w t plan rule done total) (cond finished (success []) (success ((done + 1) ∷ []))))
     pick true = answered (stepChecks w t plan rule done total) _ [] (step-rows w t plan rule done total)
     pick false = answered (stepChecks w t plan rule done total) _ ((done + 1) ∷ []) (step-rows w t plan rule done total)
+
+-- the exported calls: what is lent with them is checked first
+pub lookup-call-rows : (w : ℕ) (t key : List ℕ) → AnsweredBy (lookupCallRows w t key) (lookupCall w t key)
+unfolding lookupCall
+lookup-call-rows w t key = lent-answered _ _ _ _ _ (key-row w key) (lookup-by-rows w t (word key))
+
+pub insert-call-rows : (w : ℕ) (t rule : List ℕ) (room : ℕ) → AnsweredBy (insertCallRows w t rule room) (insertCall w t rule room)
+insert-call-rows w t rule room = lent-answered _ _ _ _ _ (rule-row w rule) (insert-by-rows w t (ruleOf w (word rule)) room)
+
+pub delete-call-rows : (w : ℕ) (t : List ℕ) (id room : ℕ) → AnsweredBy (deleteCallRows w t id room) (deleteCall w t id room)
+delete-call-rows w t id room = lent-answered _ _ _ _ _ (width-row w) (delete-by-rows w t id room)
+
+pub save-call-rows : (w : ℕ) (t : List ℕ) (room : ℕ) → AnsweredBy (saveCallRows w t room) (saveCall w t room)
+save-call-rows w t room = lent-answered _ _ _ _ _ (width-row w) (save-by-rows w t room)
+
+pub load-call-rows : (w : ℕ) (b t : List ℕ) → AnsweredBy (loadCallRows w b t) (loadCall w b t)
+load-call-rows w b t = lent-answered _ _ _ _ _ (width-row w) (load-by-rows w b t)
+
+pub step-call-rows : (w : ℕ) (t plan rule : List ℕ) (done total : ℕ) → AnsweredBy (stepCallRows w t plan rule done total) (stepCall w t plan rule done total)
+step-call-rows w t plan rule done total = lent-answered _ _ _ _ _ (rule-row w rule) (step-by-rows w t plan (ruleOf w (word rule)) done total)

@@ -6,6 +6,7 @@ pub mod TableLaws
 pub mod PlanningLaws
 pub mod CarryingLaws
 pub mod ImageLaws
+pub mod WidthsLaws
 pub mod CallsLaws
 pub mod Lines
 pub mod LinesLaws

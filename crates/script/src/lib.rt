@@ -1,6 +1,8 @@
 // One line of a script on lent buffers: the table changes as the line says, and the answer is written as bytes.
 // The memory has room for the largest table, the output for the longest answer; the table is the words at the memory's start.
 use records::Cause;
+use records::MOST_SLOTS;
+use records::NARROW_TABLE;
 use records::Rule;
 use records::cause_number;
 use script_answers::print_refusal;
@@ -20,7 +22,7 @@ ghost use Prim.Native.Nat.{_≤_, min};
 ghost use lib.ListN.{length, replicate};
 ghost use Rattle.records.specs.Checks.{refusal};
 ghost use Rattle.records.specs.declared.Cause.the-variants.{Line};
-ghost use Rattle.records.specs.Record.{word};
+ghost use Rattle.records.specs.Record.{mostSlots, mostWords, word};
 ghost use Rattle.lookups.specs.Lookup.{lookupAnswer};
 ghost use Rattle.script_printing.specs.Printing.{Shown};
 ghost use Rattle.script_commands.specs.Commands.{commandOf};
@@ -50,12 +52,12 @@ fn clear_words(words: &mut [u64])
 
 // A T line.
 fn new_table(memory: &mut [u64], present: usize, slots: u32, out: &mut [u8; 14343]) -> Ran
-    requires { ⌜ (length (now memory) ≡ 6144) × (present ≤ 1024) ⌝ }
+    requires { ⌜ (length (now memory) ≡ mostWords 2) × (present ≤ mostSlots) ⌝ }
     ensures { λ r. ⌜ Left (tableOutcome (tableIn (now (memory .entry)) present) slots) r (now (memory .entry)) (now (memory .exit)) (now (out .entry)) (now (out .exit)) ⌝ }
     ensures { λ r. ⌜ lineTold (r .answer) ≡ tableTold slots ⌝ }
 {
     let count = slots as usize;
-    if (1 <= count) & (count <= 1024) {
+    if (1 <= count) & (count <= MOST_SLOTS) {
         clear_words(&mut memory[..count * 6]);
         let length = print_table(out, slots);
         return Ran {
@@ -73,7 +75,7 @@ fn new_table(memory: &mut [u64], present: usize, slots: u32, out: &mut [u8; 1434
 }
 
 fn insert_in(memory: &mut [u64], present: usize, rule: Rule, out: &mut [u8; 14343]) -> Ran
-    requires { ⌜ (length (now memory) ≡ 6144) × (present ≤ 1024) ⌝ }
+    requires { ⌜ (length (now memory) ≡ mostWords 2) × (present ≤ mostSlots) ⌝ }
     ensures { λ r. ⌜ Left (insertOutcome (tableIn (now (memory .entry)) present) rule) r (now (memory .entry)) (now (memory .exit)) (now (out .entry)) (now (out .exit)) ⌝ }
     ensures { λ r. ⌜ lineTold (r .answer) ≡ insertTold (tableIn (now (memory .entry)) present) rule ⌝ }
 {
@@ -87,7 +89,7 @@ fn insert_in(memory: &mut [u64], present: usize, rule: Rule, out: &mut [u8; 1434
 }
 
 fn delete_in(memory: &mut [u64], present: usize, id: u32, out: &mut [u8; 14343]) -> Ran
-    requires { ⌜ (length (now memory) ≡ 6144) × (present ≤ 1024) ⌝ }
+    requires { ⌜ (length (now memory) ≡ mostWords 2) × (present ≤ mostSlots) ⌝ }
     ensures { λ r. ⌜ Left (deleteOutcome (tableIn (now (memory .entry)) present) id) r (now (memory .entry)) (now (memory .exit)) (now (out .entry)) (now (out .exit)) ⌝ }
     ensures { λ r. ⌜ lineTold (r .answer) ≡ deleteTold (tableIn (now (memory .entry)) present) id ⌝ }
 {
@@ -101,7 +103,7 @@ fn delete_in(memory: &mut [u64], present: usize, id: u32, out: &mut [u8; 14343])
 }
 
 fn lookup_in(memory: &[u64], present: usize, key: [u64; 2], out: &mut [u8; 14343]) -> Ran
-    requires { ⌜ (length (now memory) ≡ 6144) × (present ≤ 1024) ⌝ }
+    requires { ⌜ (length (now memory) ≡ mostWords 2) × (present ≤ mostSlots) ⌝ }
     ensures { λ r. ⌜ Left (lookupOutcome (tableIn (now (memory .entry)) present) key) r (now (memory .entry)) (now (memory .entry)) (now (out .entry)) (now (out .exit)) ⌝ }
     ensures { λ r. ⌜ lineTold (r .answer) ≡ lookedTold (lookupAnswer 2 (tableIn (now (memory .entry)) present) (word key)) ⌝ }
 {
@@ -134,7 +136,7 @@ fn run_command(
     command: Command,
     out: &mut [u8; 14343],
 ) -> Ran
-    requires { ⌜ (length (now memory) ≡ 6144) × (present ≤ 1024) ⌝ }
+    requires { ⌜ (length (now memory) ≡ mostWords 2) × (present ≤ mostSlots) ⌝ }
     ensures { λ r. ⌜ Left (commandOutcome (tableIn (now (memory .entry)) present) number command) r (now (memory .entry)) (now (memory .exit)) (now (out .entry)) (now (out .exit)) ⌝ }
     ensures { λ r. ⌜ lineTold (r .answer) ≡ commandTold (tableIn (now (memory .entry)) present) number command ⌝ }
 {
@@ -149,17 +151,17 @@ fn run_command(
 
 // A table has at most 1,024 slots: no more fit into the memory.
 pub fn slots_present(slots: usize) -> usize
-    ensures { λ r. ⌜ r ≡ min slots 1024 ⌝ }
+    ensures { λ r. ⌜ r ≡ min slots mostSlots ⌝ }
 {
-    if slots < 1024 {
+    if slots < MOST_SLOTS {
         return slots;
     }
-    1024
+    MOST_SLOTS
 }
 
 // One line, without its newline, of this number: what it does to the table in the memory, and what it prints.
 pub fn run_line(
-    memory: &mut [u64; 6144],
+    memory: &mut [u64; NARROW_TABLE],
     slots: usize,
     number: u64,
     line: &[u8],

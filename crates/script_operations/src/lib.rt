@@ -3,11 +3,14 @@
 use buffers::PlanAnswer;
 use buffers::PlanInfo;
 use delete_plans::plan_delete;
-use insert_plans::plan_insert;
+use insert_plans::plan_rule;
 use lookups::Hit;
 use lookups::LookupAnswer;
 use lookups::lookup::lookup;
 use records::Cause;
+use records::MOST_SLOTS;
+use records::Mode;
+use records::NARROW;
 use records::Rule;
 use records::cause_number;
 use script_answers::print_hit;
@@ -20,7 +23,7 @@ ghost use mathlib.Core.Path.{_≡_};
 ghost use Prim.Native.Nat.{_≤_};
 ghost use lib.ListN.{length};
 ghost use Rattle.records.specs.Checks.{causeNumber};
-ghost use Rattle.records.specs.Record.{word};
+ghost use Rattle.records.specs.Record.{mostSlots, word};
 ghost use Rattle.buffers.specs.Buffers.{planTold};
 ghost use Rattle.lookups.specs.Lookup.{lookupAnswer, lookupTold};
 ghost use Rattle.script_printing.specs.Printing.{Shown};
@@ -88,7 +91,7 @@ pub fn look_up(table: &[u64], key: [u64; 2], out: &mut [u8; 14343]) -> Said
     ensures { λ r. ⌜ Shown (now (out .entry)) (lookupBytes (lookupAnswer 2 (now (table .entry)) (word key))) (r .length) (now (out .exit)) ⌝ }
     ensures { λ r. ⌜ lineTold (r .answer) ≡ lookedTold (lookupAnswer 2 (now (table .entry)) (word key)) ⌝ }
 {
-    let found = lookup(table, key);
+    let found = lookup(table, &key, NARROW);
     let length = print_lookup(found, out);
     Said {
         length,
@@ -104,7 +107,7 @@ fn carry_and_print(
     rule: Rule,
     out: &mut [u8; 14343],
 ) -> usize
-    requires { ⌜ WithinRoom (planTold answer) (length (now plan)) × (length (now plan) ≤ 1024) ⌝ }
+    requires { ⌜ WithinRoom (planTold answer) (length (now plan)) × (length (now plan) ≤ mostSlots) ⌝ }
     ensures { λ r. ⌜ Changed (planOutcome (planTold answer) (now (table .entry)) (now (plan .entry)) rule) r (now (table .exit)) (now (out .entry)) (now (out .exit)) ⌝ }
 {
     match answer {
@@ -118,11 +121,11 @@ fn carry_and_print(
 
 // An I line, with a working plan.
 fn insert(table: &mut [u64], rule: Rule, plan: &mut [u32], out: &mut [u8; 14343]) -> Said
-    requires { ⌜ length (now plan) ≡ 1024 ⌝ }
+    requires { ⌜ length (now plan) ≡ mostSlots ⌝ }
     ensures { λ r. ⌜ Changed (insertOutcome (now (table .entry)) rule) (r .length) (now (table .exit)) (now (out .entry)) (now (out .exit)) ⌝ }
     ensures { λ r. ⌜ lineTold (r .answer) ≡ insertTold (now (table .entry)) rule ⌝ }
 {
-    let answer = plan_insert(table, rule, plan);
+    let answer = plan_rule(table, rule, plan);
     let length = carry_and_print(answer, table, plan, rule, out);
     Said {
         length,
@@ -132,11 +135,11 @@ fn insert(table: &mut [u64], rule: Rule, plan: &mut [u32], out: &mut [u8; 14343]
 
 // A D line, with a working plan.
 fn delete(table: &mut [u64], id: u32, plan: &mut [u32], out: &mut [u8; 14343]) -> Said
-    requires { ⌜ length (now plan) ≡ 1024 ⌝ }
+    requires { ⌜ length (now plan) ≡ mostSlots ⌝ }
     ensures { λ r. ⌜ Changed (deleteOutcome (now (table .entry)) id) (r .length) (now (table .exit)) (now (out .entry)) (now (out .exit)) ⌝ }
     ensures { λ r. ⌜ lineTold (r .answer) ≡ deleteTold (now (table .entry)) id ⌝ }
 {
-    let answer = plan_delete(table, id, plan);
+    let answer = plan_delete(table, id, plan, Mode { width: NARROW });
     let rule = Rule {
         id: 0,
         priority: 0,
@@ -156,7 +159,7 @@ pub fn insert_line(table: &mut [u64], rule: Rule, out: &mut [u8; 14343]) -> Said
     ensures { λ r. ⌜ Changed (insertOutcome (now (table .entry)) rule) (r .length) (now (table .exit)) (now (out .entry)) (now (out .exit)) ⌝ }
     ensures { λ r. ⌜ lineTold (r .answer) ≡ insertTold (now (table .entry)) rule ⌝ }
 {
-    let mut plan = [0u32; 1024];
+    let mut plan = [0u32; MOST_SLOTS];
     insert(table, rule, &mut plan, out)
 }
 
@@ -165,6 +168,6 @@ pub fn delete_line(table: &mut [u64], id: u32, out: &mut [u8; 14343]) -> Said
     ensures { λ r. ⌜ Changed (deleteOutcome (now (table .entry)) id) (r .length) (now (table .exit)) (now (out .entry)) (now (out .exit)) ⌝ }
     ensures { λ r. ⌜ lineTold (r .answer) ≡ deleteTold (now (table .entry)) id ⌝ }
 {
-    let mut plan = [0u32; 1024];
+    let mut plan = [0u32; MOST_SLOTS];
     delete(table, id, &mut plan, out)
 }

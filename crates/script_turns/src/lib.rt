@@ -1,5 +1,6 @@
 // Reading a script block by block: each turn takes bytes out of a block, and runs the line that they complete.
 // What is held between turns is a few numbers, the table's memory and the line's buffer; however the input is cut, the answers are the same.
+use records::NARROW_TABLE;
 use script::run_line;
 use script::slots_present;
 use script_lines::line_stands;
@@ -8,6 +9,7 @@ use script_lines::take_bytes;
 ghost use mathlib.Core.Path.{_≡_};
 ghost use Prim.Native.Nat.{_*_, min};
 ghost use lib.ListN.{length, drop};
+ghost use Rattle.records.specs.Record.{mostWords};
 ghost use Rattle.script_lines.specs.Held.{takenOf};
 ghost use Rattle.script_lines.specs.Blocks.{handedOut, finished};
 ghost use Rattle.script.specs.Script.{lineOutcome, tableIn};
@@ -39,7 +41,7 @@ fn bytes_held(held: usize, size: usize) -> usize
 
 // The slots of the table in the memory, which has room for 1,024.
 fn slots_in(memory: &[u64], slots: usize) -> usize
-    requires { ⌜ length (now memory) ≡ 6144 ⌝ }
+    requires { ⌜ length (now memory) ≡ mostWords 2 ⌝ }
     ensures { λ r. ⌜ r * 6 ≡ length (tableIn (now (memory .entry)) slots) ⌝ }
 {
     slots_present(slots)
@@ -47,7 +49,7 @@ fn slots_in(memory: &[u64], slots: usize) -> usize
 
 // The line held is run, and the next line begins.
 fn run_held(
-    memory: &mut [u64; 6144],
+    memory: &mut [u64; NARROW_TABLE],
     line: &[u8],
     place: Place,
     next: usize,
@@ -70,7 +72,7 @@ fn run_held(
 
 // Takes bytes out of a block, from a place in it on, and runs the line that they complete.
 pub fn take_turn(
-    memory: &mut [u64; 6144],
+    memory: &mut [u64; NARROW_TABLE],
     line: &mut [u8; 257],
     place: Place,
     block: &[u8],
@@ -97,7 +99,7 @@ pub fn take_turn(
 
 // At the end of the input: the last line, where it lacks its newline.
 pub fn last_turn(
-    memory: &mut [u64; 6144],
+    memory: &mut [u64; NARROW_TABLE],
     line: &[u8; 257],
     place: Place,
     out: &mut [u8; 14343],

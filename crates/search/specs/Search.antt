@@ -44,3 +44,7 @@ NoneFrom p from n i = (from ≤ i) × (i ≤ n) × ((k : ℕ) → from ≤ k →
 -- the invariant of a search loop that counts down: the test has held nowhere from i on
 abbrev pub NoneAbove : (ℕ → Bool) → ℕ → ℕ → Type 0
 NoneAbove p n i = (i ≤ n) × ((k : ℕ) → i ≤ k → k < n → p k ≡ false)
+
+-- the invariant of a loop that ends where a test fails: it has held below i
+abbrev pub AllBelow : (ℕ → Bool) → ℕ → ℕ → Type 0
+AllBelow p n i = (i ≤ n) × ((k : ℕ) → k < i → p k ≡ true)

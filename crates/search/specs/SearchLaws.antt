@@ -6,7 +6,7 @@ use mathlib.Core.Logic._⊎_.{inl, inr}
 use Prim.Native.Nat.{ℕ, zero, suc, _+_, _-_, _≤_, _<_}
 use native.Mathlib.Omega.{arith}
 use native.Mathlib.Decide.{ℕ-discrete, decLt}
-use Rattle.search.specs.Search.{all, any, least, AfterLast, Least, afterLast, NoneFrom, NoneAbove}
+use Rattle.search.specs.Search.{all, any, least, AfterLast, Least, afterLast, NoneFrom, NoneAbove, AllBelow}
 
 -- a Bool is one of the two, with the equation at hand
 pub decided : (b : Bool) → (b ≡ true) ⊎ (b ≡ false)
@@ -203,13 +203,6 @@ after-last-cong (suc n) h = rw (h n (omega arith), after-last-cong n (λ j l. h 
 pub none-from-start : (p : ℕ → Bool) (from n : ℕ) → from ≤ n → NoneFrom p from n from
 none-from-start p from n h = (omega arith, h, λ k l r. absurd (omega arith))
 
-pub none-from-more : (p : ℕ → Bool) (from n i : ℕ) → NoneFrom p from n i → i < n → p i ≡ false → NoneFrom p from n (i + 1)
-none-from-more p from n i inv h f = (omega (arith, inv .0), omega arith, λ k l r. pick k l r (ℕ-discrete k i))
-  where
-    pick : (k : ℕ) → from ≤ k → k < i + 1 → Dec (k ≡ i) → p k ≡ false
-    pick k l r (yes e) = ap p e ∙ f
-    pick k l r (no e) = inv .2 k l (omega arith)
-
 pub none-above : (p : ℕ → Bool) (n : ℕ) → NoneAbove p n n
 none-above p n = (omega arith, λ k l r. absurd (omega arith))
 
@@ -230,3 +223,16 @@ pub after-last-none : (p : ℕ → Bool) (n i : ℕ) → NoneAbove p n i → i �
 after-last-none p n i inv h =
     after-last-unique (after-last-law p n)
     (record { high = omega arith; after = λ j l r. inv .1 j (omega arith) r; hit = λ j e. absurd (omega arith) })
+
+-- a loop that ends where a test fails: its start, a step, its end, and the way out
+pub all-start : (p : ℕ → Bool) (n : ℕ) → AllBelow p n 0
+all-start p n = (omega arith, λ k h. absurd (omega arith))
+
+pub all-more : (p : ℕ → Bool) (n i : ℕ) → AllBelow p n i → i < n → p i ≡ true → AllBelow p n (i + 1)
+all-more p n i inv h t = (omega arith, λ k l. below-suc (λ (j : ℕ). p j ≡ true) i (inv .1) t k (omega arith))
+
+pub all-end : (p : ℕ → Bool) (n i : ℕ) → AllBelow p n i → n ≤ i → true ≡ all p n
+all-end p n i inv h = sym (all-law p n .1 (λ k l. inv .1 k (omega arith)))
+
+pub all-out : (p : ℕ → Bool) (n i : ℕ) → i < n → p i ≡ false → false ≡ all p n
+all-out p n i h f = sym (all-not p n i h f)

@@ -1,6 +1,8 @@
-// A rule and its slot record of six words, and when a rule is sound.
-// Calls take the rule; tables hold the record.
-use crate::parts_sound;
+// Document 01's rule struct, of two words, and its slot record; the halves of a record's word of id and action.
+// Tables hold records, and the calls of either width take one.
+use crate::slot_sound;
+use records::NARROW;
+use records::NARROW_RECORD;
 use records::Rule;
 ghost use mathlib.Core.Path.{_≡_};
 ghost use Prim.Native.Nat.{_/_, _%_, min};
@@ -37,7 +39,7 @@ fn priority_of(word: u64) -> u32
 }
 
 // The slot record of a rule.
-pub fn record_of(rule: Rule) -> [u64; 6]
+pub fn record_of(rule: Rule) -> [u64; NARROW_RECORD]
     ensures { λ r. ⌜ r ≡ recordOf 2 rule ⌝ }
 {
     let value = rule.value;
@@ -54,7 +56,7 @@ pub fn record_of(rule: Rule) -> [u64; 6]
 }
 
 // The rule of a slot record.
-pub fn rule_of(words: [u64; 6]) -> Rule
+pub fn rule_of(words: [u64; NARROW_RECORD]) -> Rule
     ensures { λ r. ⌜ r ≡ ruleOf 2 (word words) ⌝ }
 {
     Rule {
@@ -70,14 +72,6 @@ pub fn rule_of(words: [u64; 6]) -> Rule
 pub fn rule_sound(rule: Rule) -> bool
     ensures { λ r. ⌜ r ≡ soundRule 2 rule ⌝ }
 {
-    let value = rule.value;
-    let mask = rule.mask;
-    parts_sound(
-        wide(rule.id),
-        wide(rule.priority),
-        value[0],
-        value[1],
-        mask[0],
-        mask[1],
-    )
+    let record = record_of(rule);
+    slot_sound(&record, 0, NARROW)
 }

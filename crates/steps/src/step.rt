@@ -6,21 +6,27 @@ use plan_words::PlanWrite;
 use plan_words::write_of;
 use records::Cause;
 use records::Check;
+use records::NARROW;
 use records::Rule;
-use slots::rules::rule_sound;
+use records::check_rule;
+use slots::rules::record_of;
+use slots::slot_sound;
 use table_checks::check_slots;
 use writes::make_write;
 use writes::word_fits;
 ghost use mathlib.Core.Path.{_≡_};
 ghost use lib.ListN.{length};
 ghost use Rattle.plan_words.specs.PlanWords.{writeOf};
-ghost use Rattle.carrying.specs.Carrying.{stepTold, progressChecks, putSound, writeChecks, stepAnswer, stepTable};
+ghost use Rattle.records.specs.Record.{word as wordOf, recordWords, ruleOf};
+ghost use Rattle.records.specs.Widths.{Width};
+ghost use Rattle.carrying.specs.Carrying.{stepTold, progressChecks, putSound, writeChecks, stepAnswer, stepTable, stepCall, stepCallTable};
 
 // Checks 1 and 2, and 12 for more writes done than in all or more in all than the plan has words.
-fn check_progress(table: &[u64], plan: &[u32], done: u32, total: u32) -> Check
-    ensures { λ r. ⌜ r ≡ progressChecks 2 (now (table .entry)) (length (now (plan .entry))) done total ⌝ }
+fn check_progress(table: &[u64], plan: &[u32], done: u32, total: u32, width: usize) -> Check
+    requires { ⌜ Width width ⌝ }
+    ensures { λ r. ⌜ r ≡ progressChecks width (now (table .entry)) (length (now (plan .entry))) done total ⌝ }
 {
-    let slots = check_slots(table);
+    let slots = check_slots(table, width);
     if let Check::Fail(cause, spot) = slots {
         return Check::Fail(cause, spot);
     }
@@ -31,36 +37,46 @@ fn check_progress(table: &[u64], plan: &[u32], done: u32, total: u32) -> Check
 }
 
 // Whether the rule that a plan word puts in is sound; other words put none in.
-fn put_sound(rule: Rule, word: u32) -> bool
-    ensures { λ r. ⌜ r ≡ putSound 2 rule (writeOf word) ⌝ }
+fn put_sound(rule: &[u64], word: u32, width: usize) -> bool
+    requires { ⌜ (Width width) × (length (now rule) ≡ recordWords width) ⌝ }
+    ensures { λ r. ⌜ r ≡ putSound width (ruleOf width (wordOf (now (rule .entry)))) (writeOf word) ⌝ }
 {
     match write_of(word) {
         PlanWrite::Copy(_, _) => true,
-        PlanWrite::PutIn(_) => rule_sound(rule),
+        PlanWrite::PutIn(_) => slot_sound(rule, 0, width),
         PlanWrite::Clear(_) => true,
     }
 }
 
 // 5 for an unsound rule where one is put in, then 12 for a write that does not fit.
-fn check_write(table: &[u64], rule: Rule, word: u32, done: u32) -> Check
-    ensures { λ r. ⌜ r ≡ writeChecks 2 (now (table .entry)) rule word done ⌝ }
+fn check_write(table: &[u64], rule: &[u64], word: u32, done: u32, width: usize) -> Check
+    requires { ⌜ (Width width) × (length (now rule) ≡ recordWords width) ⌝ }
+    ensures { λ r. ⌜ r ≡ writeChecks width (now (table .entry)) (ruleOf width (wordOf (now (rule .entry)))) word done ⌝ }
 {
-    let sound = put_sound(rule, word);
+    let sound = put_sound(rule, word, width);
     if !sound {
         return Check::Fail(Cause::Rule, 0);
     }
-    if word_fits(table, word) {
+    if word_fits(table, word, width) {
         return Check::Pass;
     }
     Check::Fail(Cause::Write, done)
 }
 
-// The next write of a plan, or "finished", or a refusal that leaves the table as it was.
-pub fn step(table: &mut [u64], plan: &[u32], rule: Rule, done: u32, total: u32) -> StepAnswer
-    ensures { λ r. ⌜ stepTold r ≡ stepAnswer 2 (now (table .entry)) (now (plan .entry)) rule done total ⌝ }
-    ensures { λ _. ⌜ now (table .exit) ≡ stepTable 2 (now (table .entry)) (now (plan .entry)) rule done total ⌝ }
+// The next write of a plan at a width that there is, its rule lent as a record.
+fn step_at(
+    table: &mut [u64],
+    plan: &[u32],
+    rule: &[u64],
+    done: u32,
+    total: u32,
+    width: usize,
+) -> StepAnswer
+    requires { ⌜ (Width width) × (length (now rule) ≡ recordWords width) ⌝ }
+    ensures { λ r. ⌜ stepTold r ≡ stepAnswer width (now (table .entry)) (now (plan .entry)) (ruleOf width (wordOf (now (rule .entry)))) done total ⌝ }
+    ensures { λ _. ⌜ now (table .exit) ≡ stepTable width (now (table .entry)) (now (plan .entry)) (ruleOf width (wordOf (now (rule .entry)))) done total ⌝ }
 {
-    let progress = check_progress(table, plan, done, total);
+    let progress = check_progress(table, plan, done, total, width);
     if let Check::Fail(cause, spot) = progress {
         return StepAnswer::Refused(cause, spot);
     }
@@ -68,10 +84,38 @@ pub fn step(table: &mut [u64], plan: &[u32], rule: Rule, done: u32, total: u32) 
         return StepAnswer::Finished;
     }
     let word = plan[done as usize];
-    let fitting = check_write(table, rule, word, done);
+    let fitting = check_write(table, rule, word, done, width);
     if let Check::Fail(cause, spot) = fitting {
         return StepAnswer::Refused(cause, spot);
     }
-    make_write(table, rule, word);
+    make_write(table, rule, word, width);
     StepAnswer::Wrote(StepInfo { done: done + 1 })
+}
+
+// The next write of a plan, or "finished", or a refusal that leaves the table as it was.
+pub fn step(
+    table: &mut [u64],
+    plan: &[u32],
+    rule: &[u64],
+    done: u32,
+    total: u32,
+    width: usize,
+) -> StepAnswer
+    ensures { λ r. ⌜ stepTold r ≡ stepCall width (now (table .entry)) (now (plan .entry)) (now (rule .entry)) done total ⌝ }
+    ensures { λ _. ⌜ now (table .exit) ≡ stepCallTable width (now (table .entry)) (now (plan .entry)) (now (rule .entry)) done total ⌝ }
+{
+    let lent = check_rule(width, rule.len());
+    if let Check::Fail(cause, spot) = lent {
+        return StepAnswer::Refused(cause, spot);
+    }
+    step_at(table, plan, rule, done, total, width)
+}
+
+// The same of document 01's rule struct, at two words.
+pub fn step_rule(table: &mut [u64], plan: &[u32], rule: Rule, done: u32, total: u32) -> StepAnswer
+    ensures { λ r. ⌜ stepTold r ≡ stepAnswer 2 (now (table .entry)) (now (plan .entry)) rule done total ⌝ }
+    ensures { λ _. ⌜ now (table .exit) ≡ stepTable 2 (now (table .entry)) (now (plan .entry)) rule done total ⌝ }
+{
+    let record = record_of(rule);
+    step_at(table, plan, &record, done, total, NARROW)
 }

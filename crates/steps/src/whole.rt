@@ -1,6 +1,6 @@
-// A plan carried out in full, for callers that look nothing up between its writes.
+// A plan of a rule of two words carried out in full, for callers that look nothing up between its writes.
 // Step after step; it ends with the first that does not write.
-use crate::step::step;
+use crate::step::step_rule;
 use carrying::StepAnswer;
 use records::Rule;
 ghost use mathlib.Core.Path.{_≡_};
@@ -12,7 +12,7 @@ fn advance(table: &mut [u64], plan: &[u32], rule: Rule, done: u32, total: u32) -
     ensures { λ r. ⌜ r ≡ stepDone 2 (now (table .entry)) (now (plan .entry)) rule done total ⌝ }
     ensures { λ _. ⌜ now (table .exit) ≡ stepTable 2 (now (table .entry)) (now (plan .entry)) rule done total ⌝ }
 {
-    match step(table, plan, rule, done, total) {
+    match step_rule(table, plan, rule, done, total) {
         StepAnswer::Wrote(info) => info.done,
         StepAnswer::Finished => done,
         StepAnswer::Refused(_, _) => done,
@@ -31,5 +31,5 @@ pub fn carry_whole(table: &mut [u64], plan: &[u32], rule: Rule, total: u32) -> S
         wrote = done < next;
         done = next;
     }
-    step(table, plan, rule, done, total)
+    step_rule(table, plan, rule, done, total)
 }

@@ -3,16 +3,29 @@
 use image::LoadAnswer;
 use image::SaveAnswer;
 use loads::load;
+use records::Mode;
 use records::cause_number;
 use saves::save;
 ghost use Rattle.tcam.specs.Images.{SaveLeft, LoadLeft};
 
 // The image of a table, into the lent buffer: its bytes, or a refusal.
 #[no_mangle]
-pub extern "C" fn tcam_save(table: &[u64], image: &mut [u8], bytes: &mut u32, spot: &mut u32) -> u32
-    ensures { λ r. ⌜ SaveLeft (now (table .entry)) r (now (image .entry)) (now (image .exit)) (now (bytes .entry)) (now (bytes .exit)) (now (spot .entry)) (now (spot .exit)) ⌝ }
+pub extern "C" fn tcam_save(
+    table: &[u64],
+    width: u32,
+    image: &mut [u8],
+    bytes: &mut u32,
+    spot: &mut u32,
+) -> u32
+    ensures { λ r. ⌜ SaveLeft width (now (table .entry)) r (now (image .entry)) (now (image .exit)) (now (bytes .entry)) (now (bytes .exit)) (now (spot .entry)) (now (spot .exit)) ⌝ }
 {
-    match save(table, image) {
+    match save(
+        table,
+        image,
+        Mode {
+            width: width as usize,
+        },
+    ) {
         SaveAnswer::Saved(info) => {
             *bytes = info.bytes;
             0
@@ -26,10 +39,16 @@ pub extern "C" fn tcam_save(table: &[u64], image: &mut [u8], bytes: &mut u32, sp
 
 // The table of an image, into the lent table, or a refusal.
 #[no_mangle]
-pub extern "C" fn tcam_load(image: &[u8], table: &mut [u64], spot: &mut u32) -> u32
-    ensures { λ r. ⌜ LoadLeft (now (image .entry)) r (now (table .entry)) (now (table .exit)) (now (spot .entry)) (now (spot .exit)) ⌝ }
+pub extern "C" fn tcam_load(image: &[u8], table: &mut [u64], width: u32, spot: &mut u32) -> u32
+    ensures { λ r. ⌜ LoadLeft width (now (image .entry)) r (now (table .entry)) (now (table .exit)) (now (spot .entry)) (now (spot .exit)) ⌝ }
 {
-    match load(image, table) {
+    match load(
+        image,
+        table,
+        Mode {
+            width: width as usize,
+        },
+    ) {
         LoadAnswer::Loaded => 0,
         LoadAnswer::Refused(cause, place) => {
             *spot = place;

@@ -4,32 +4,31 @@ pub mod carry;
 pub mod images;
 
 ghost use mathlib.Core.Path.{_≡_};
-ghost use Rattle.lookups.specs.Lookup.{partStart, partLength};
-ghost use Rattle.marshalling.specs.Cells.{ruleFrom};
+ghost use Rattle.lookups.specs.Lookup.{partStartCall, partLengthCall};
 ghost use Rattle.tcam.specs.Cells.{LookupLeft, InsertLeft, DeleteLeft};
 use delete_plans::plan_delete;
 use insert_plans::plan_insert;
 use lookups::LookupAnswer;
 use lookups::lookup::lookup;
 use lookups::lookup::slot_record;
-use marshalling::rule_from;
 use marshalling::spread;
+use records::Mode;
 use records::cause_number;
 
 // Slot, id and action of the lowest-numbered slot that matches a key; all 0 for a miss.
 #[no_mangle]
 pub extern "C" fn tcam_lookup(
     table: &[u64],
-    key_high: u64,
-    key_low: u64,
+    width: u32,
+    key: &[u64],
     slot: &mut u32,
     id: &mut u32,
     action: &mut u32,
     spot: &mut u32,
 ) -> u32
-    ensures { λ r. ⌜ LookupLeft (now (table .entry)) «key_high» «key_low» r (now (slot .entry)) (now (slot .exit)) (now (id .entry)) (now (id .exit)) (now (action .entry)) (now (action .exit)) (now (spot .entry)) (now (spot .exit)) ⌝ }
+    ensures { λ r. ⌜ LookupLeft width (now (table .entry)) (now (key .entry)) r (now (slot .entry)) (now (slot .exit)) (now (id .entry)) (now (id .exit)) (now (action .entry)) (now (action .exit)) (now (spot .entry)) (now (spot .exit)) ⌝ }
 {
-    match lookup(table, [key_high, key_low]) {
+    match lookup(table, key, width as usize) {
         LookupAnswer::Found(hit) => {
             *slot = hit.slot;
             *id = hit.id;
@@ -51,46 +50,36 @@ pub extern "C" fn tcam_lookup(
 
 // A slot's record as a part of the table: its number of words, and in `first` the index of its first word.
 #[no_mangle]
-pub extern "C" fn tcam_slot_record(table: &[u64], slot: u32, first: &mut u32) -> u32
-    ensures { λ r. ⌜ r ≡ partLength 2 (now (table .entry)) slot ⌝ }
-    ensures { λ _. ⌜ now (first .exit) ≡ partStart 2 (now (table .entry)) slot ⌝ }
+pub extern "C" fn tcam_slot_record(table: &[u64], width: u32, slot: u32, first: &mut u32) -> u32
+    ensures { λ r. ⌜ r ≡ partLengthCall width (now (table .entry)) slot ⌝ }
+    ensures { λ _. ⌜ now (first .exit) ≡ partStartCall width (now (table .entry)) slot ⌝ }
 {
-    let part = slot_record(table, slot as usize);
-    if part.len() == 0 {
+    let part = slot_record(table, slot as usize, width as usize);
+    let words = part.len() as u32;
+    if words == 0 {
         *first = 0;
         return 0;
     }
-    *first = slot * 6;
-    6
+    *first = slot * words;
+    words
 }
 
 // The shortest plan of an insert, into the lent buffer: its count, or a refusal.
 #[no_mangle]
 pub extern "C" fn tcam_plan_insert(
     table: &[u64],
-    id: u32,
-    priority: u32,
-    value_high: u64,
-    value_low: u64,
-    mask_high: u64,
-    mask_low: u64,
-    action: u32,
+    width: u32,
+    rule: &[u64],
     plan: &mut [u32],
     count: &mut u32,
     spot: &mut u32,
 ) -> u32
-    ensures { λ r. ⌜ InsertLeft (now (table .entry)) (ruleFrom id priority «value_high» «value_low» «mask_high» «mask_low» action) r (now (plan .entry)) (now (plan .exit)) (now (count .entry)) (now (count .exit)) (now (spot .entry)) (now (spot .exit)) ⌝ }
+    ensures { λ r. ⌜ InsertLeft width (now (table .entry)) (now (rule .entry)) r (now (plan .entry)) (now (plan .exit)) (now (count .entry)) (now (count .exit)) (now (spot .entry)) (now (spot .exit)) ⌝ }
 {
-    let rule = rule_from(
-        id,
-        priority,
-        value_high,
-        value_low,
-        mask_high,
-        mask_low,
-        action,
-    );
-    let answer = plan_insert(table, rule, plan);
+    let mode = Mode {
+        width: width as usize,
+    };
+    let answer = plan_insert(table, rule, plan, mode);
     spread(answer, count, spot)
 }
 
@@ -98,13 +87,17 @@ pub extern "C" fn tcam_plan_insert(
 #[no_mangle]
 pub extern "C" fn tcam_plan_delete(
     table: &[u64],
+    width: u32,
     id: u32,
     plan: &mut [u32],
     count: &mut u32,
     spot: &mut u32,
 ) -> u32
-    ensures { λ r. ⌜ DeleteLeft (now (table .entry)) id r (now (plan .entry)) (now (plan .exit)) (now (count .entry)) (now (count .exit)) (now (spot .entry)) (now (spot .exit)) ⌝ }
+    ensures { λ r. ⌜ DeleteLeft width (now (table .entry)) id r (now (plan .entry)) (now (plan .exit)) (now (count .entry)) (now (count .exit)) (now (spot .entry)) (now (spot .exit)) ⌝ }
 {
-    let answer = plan_delete(table, id, plan);
+    let mode = Mode {
+        width: width as usize,
+    };
+    let answer = plan_delete(table, id, plan, mode);
     spread(answer, count, spot)
 }

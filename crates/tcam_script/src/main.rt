@@ -17,6 +17,7 @@ use console::number_of;
 use console::receive;
 use console::send;
 use console::sent_well;
+use records::NARROW_TABLE;
 use script_turns::Place;
 use script_turns::last_turn;
 use script_turns::take_turn;
@@ -38,7 +39,7 @@ pub struct Went {
 
 // Takes the bytes of a block, turn by turn, and writes each answer; stops where one cannot be written.
 fn run_block(
-    memory: &mut [u64; 6144],
+    memory: &mut [u64; NARROW_TABLE],
     line: &mut [u8; 257],
     first: Place,
     before: Sent,
@@ -63,7 +64,7 @@ fn run_block(
 
 // What a read comes to: a failure, the end of the input, or so many bytes, which are taken.
 fn take_read(
-    memory: &mut [u64; 6144],
+    memory: &mut [u64; NARROW_TABLE],
     line: &mut [u8; 257],
     place: Place,
     sent: Sent,
@@ -99,7 +100,7 @@ fn take_read(
 
 // Reads a block and takes its bytes.
 fn read_block(
-    memory: &mut [u64; 6144],
+    memory: &mut [u64; NARROW_TABLE],
     line: &mut [u8; 257],
     before: Went,
     buffer: &mut [u8; 4096],
@@ -117,7 +118,7 @@ fn read_block(
 
 // Reads all blocks.
 fn read_blocks(
-    memory: &mut [u64; 6144],
+    memory: &mut [u64; NARROW_TABLE],
     line: &mut [u8; 257],
     buffer: &mut [u8; 4096],
     out: &mut [u8; 14343],
@@ -144,7 +145,7 @@ fn read_blocks(
 }
 
 // Reads the whole script; a read or a write that fails ends it.
-fn run(memory: &mut [u64; 6144], buffer: &mut [u8; 4096], out: &mut [u8; 14343]) -> Went
+fn run(memory: &mut [u64; NARROW_TABLE], buffer: &mut [u8; 4096], out: &mut [u8; 14343]) -> Went
     ensures { λ r. ⌜ RanAll (opening (now (memory .entry)) (replicate 257 0)) r (now (memory .exit)) (now (out .exit)) ⌝ }
 {
     let mut line = [0u8; 257];
@@ -166,7 +167,7 @@ fn run(memory: &mut [u64; 6144], buffer: &mut [u8; 4096], out: &mut [u8; 14343])
 }
 
 fn main() {
-    let mut memory = [0u64; 6144];
+    let mut memory = [0u64; NARROW_TABLE];
     let mut buffer = io::buffer();
     let mut out = [0u8; 14343];
     run(&mut memory, &mut buffer, &mut out);

@@ -1,6 +1,6 @@
 -- Laws on bits: what the operators of words do at each bit position.
 -- A word is 0 exactly when each of its bits is; so a test against zero speaks of every position.
-use mathlib.Core.Path.{_≡_, refl, sym, ap, _∙_}
+use mathlib.Core.Path.{_≡_, refl, sym, ap, ap₂, _∙_}
 use mathlib.Core.Logic.{_↔_}
 use Prim.Native.Nat.{ℕ, zero, suc, _+_, _*_, _/_, _%_, _^_, _<_, min, max}
 use native.Mathlib.Nat.{mod-lt, zero-lt-suc, pow-suc, mul-comm, zero-div, div-one, div-div-eq-div-mul}
@@ -41,6 +41,21 @@ bit-or = bit-op bitOr max (λ x y h k. omega arith) or-step or-shr
 
 pub bit-xor : (a b i : ℕ) → bit (bitXor a b) i ≡ differ (bit a i) (bit b i)
 bit-xor = bit-op bitXor differ differ-lt xor-step xor-shr
+
+-- of three words it is the same which two are masked first
+pub and-assoc : (a b c : ℕ) → bitAnd (bitAnd a b) c ≡ bitAnd a (bitAnd b c)
+and-assoc =
+    bin-ind (λ (n : ℕ). (b c : ℕ) → bitAnd (bitAnd n b) c ≡ bitAnd n (bitAnd b c)) (λ b c. refl)
+    (λ n ih b c. and-step (bitAnd n b) c
+    ∙ (ap₂ (λ (x y : ℕ). bitAnd x (c / 2) * 2 + min y (c % 2)) (half n b) (low n b)
+    ∙ (ap₂ (λ (x y : ℕ). x * 2 + y) (ih (b / 2) (c / 2)) (omega arith)
+    ∙ sym (and-step n (bitAnd b c) ∙ ap₂ (λ (x y : ℕ). bitAnd (n / 2) x * 2 + min (n % 2) y) (half b c) (low b c)))))
+  where
+    half : (a b : ℕ) → bitAnd a b / 2 ≡ bitAnd (a / 2) (b / 2)
+    half a b = and-shr a b 1
+
+    low : (a b : ℕ) → bitAnd a b % 2 ≡ min (a % 2) (b % 2)
+    low a b = ap (λ (x : ℕ). x % 2) (and-step a b) ∙ last-digit _ _ (omega arith)
 
 pub bit-zero : (i : ℕ) → bit 0 i ≡ 0
 unfolding bit

@@ -14,7 +14,7 @@ pub fn word_matches(key: u64, value: u64, mask: u64) -> bool
 pub fn words_overlap(value: u64, mask: u64, other_value: u64, other_mask: u64) -> bool
     ensures { λ r. ⌜ r ≡ agree value «other_value» (both mask «other_mask») ⌝ }
 {
-    (value ^ other_value) & (mask & other_mask) == 0
+    (value ^ other_value) & mask & other_mask == 0
 }
 
 // Whether each bit of a value's word outside its mask is 0.

@@ -3,37 +3,43 @@
 use pairs::same_id;
 use plan_words::PlanWrite;
 use plan_words::write_of;
-use records::Rule;
+use records::WIDE_RECORD;
+use records::record_words;
 use slots::put_record;
-use slots::rules::record_of;
+use slots::read_record;
+use slots::slot_count;
 use slots::slot_empty;
-use slots::slot_word;
 ghost use mathlib.Core.Path.{_≡_};
 ghost use mathlib.Core.Bool.{true};
-ghost use Prim.Native.Nat.{_<_, _/_};
+ghost use Prim.Native.Nat.{_<_};
 ghost use lib.ListN.{length};
 ghost use Rattle.layout.specs.Write.{copy, put, clear};
-ghost use Rattle.records.specs.Entries.{entryAt};
+ghost use Rattle.plan_words.specs.PlanWords.{writeOf};
+ghost use Rattle.records.specs.Record.{word as wordOf, recordWords, ruleOf, putSlot};
+ghost use Rattle.records.specs.Order.{slots};
+ghost use Rattle.records.specs.Entries.{entryAt, vacant};
+ghost use Rattle.records.specs.Widths.{Width};
+ghost use Rattle.carrying.specs.Carrying.{putSound};
 ghost use Rattle.records.specs.Writes.{heldAt, standsElsewhere, freeAt, fitsWrite, fitsWord, applyWord};
 
 // Whether another slot holds a slot's id.
-fn held_at(table: &[u64], slot: usize, other: usize) -> bool
-    requires { ⌜ (slot < length (now table) / 6) × (other < length (now table) / 6) ⌝ }
-    ensures { λ r. ⌜ r ≡ heldAt 2 (now (table .entry)) slot other ⌝ }
+fn held_at(table: &[u64], slot: usize, other: usize, width: usize) -> bool
+    requires { ⌜ (Width width) × (slot < slots width (now table)) × (other < slots width (now table)) ⌝ }
+    ensures { λ r. ⌜ r ≡ heldAt width (now (table .entry)) slot other ⌝ }
 {
-    let same = same_id(table, other, table, slot);
+    let same = same_id(table, other, table, slot, width);
     (other != slot) & same
 }
 
 // Whether a slot's id stands in another slot too.
-fn stands_elsewhere(table: &[u64], slot: usize) -> bool
-    requires { ⌜ slot < length (now table) / 6 ⌝ }
-    ensures { λ r. ⌜ r ≡ standsElsewhere 2 (now (table .entry)) slot ⌝ }
+fn stands_elsewhere(table: &[u64], slot: usize, width: usize) -> bool
+    requires { ⌜ (Width width) × (slot < slots width (now table)) ⌝ }
+    ensures { λ r. ⌜ r ≡ standsElsewhere width (now (table .entry)) slot ⌝ }
 {
-    let slots = table.len() / 6;
+    let slots = slot_count(table, width);
     let mut other = 0;
     while other < slots {
-        if held_at(table, slot, other) {
+        if held_at(table, slot, other, width) {
             return true;
         }
         other += 1;
@@ -42,83 +48,90 @@ fn stands_elsewhere(table: &[u64], slot: usize) -> bool
 }
 
 // Whether a write to a slot loses no rule: the slot is empty, or its id stands in another slot too.
-fn slot_free(table: &[u64], slot: usize) -> bool
-    requires { ⌜ slot < length (now table) / 6 ⌝ }
-    ensures { λ r. ⌜ r ≡ freeAt 2 (now (table .entry)) slot ⌝ }
+fn slot_free(table: &[u64], slot: usize, width: usize) -> bool
+    requires { ⌜ (Width width) × (slot < slots width (now table)) ⌝ }
+    ensures { λ r. ⌜ r ≡ freeAt width (now (table .entry)) slot ⌝ }
 {
-    if slot_empty(table, slot) {
+    if slot_empty(table, slot, width) {
         return true;
     }
-    stands_elsewhere(table, slot)
+    stands_elsewhere(table, slot, width)
 }
 
 // Whether a rule may be put into a slot.
-fn put_fits(table: &[u64], to: usize) -> bool
-    ensures { λ r. ⌜ r ≡ fitsWrite 2 (now (table .entry)) (put to) ⌝ }
+fn put_fits(table: &[u64], to: usize, width: usize) -> bool
+    requires { ⌜ Width width ⌝ }
+    ensures { λ r. ⌜ r ≡ fitsWrite width (now (table .entry)) (put to) ⌝ }
 {
-    if to < table.len() / 6 {
-        return slot_free(table, to);
+    if to < slot_count(table, width) {
+        return slot_free(table, to, width);
     }
     false
 }
 
 // Whether there is a rule in a slot.
-fn rule_in(table: &[u64], slot: usize) -> bool
-    ensures { λ r. ⌜ r ≡ fitsWrite 2 (now (table .entry)) (clear slot) ⌝ }
+fn rule_in(table: &[u64], slot: usize, width: usize) -> bool
+    requires { ⌜ Width width ⌝ }
+    ensures { λ r. ⌜ r ≡ fitsWrite width (now (table .entry)) (clear slot) ⌝ }
 {
-    if slot < table.len() / 6 {
-        return !slot_empty(table, slot);
+    if slot < slot_count(table, width) {
+        return !slot_empty(table, slot, width);
     }
     false
 }
 
 // Whether a slot's rule may be copied to another slot.
-fn copy_fits(table: &[u64], from: usize, to: usize) -> bool
-    ensures { λ r. ⌜ r ≡ fitsWrite 2 (now (table .entry)) (copy from to) ⌝ }
+fn copy_fits(table: &[u64], from: usize, to: usize, width: usize) -> bool
+    requires { ⌜ Width width ⌝ }
+    ensures { λ r. ⌜ r ≡ fitsWrite width (now (table .entry)) (copy from to) ⌝ }
 {
-    if (from != to) & rule_in(table, from) {
-        return put_fits(table, to);
+    if (from != to) & rule_in(table, from, width) {
+        return put_fits(table, to, width);
     }
     false
 }
 
 // Whether the write of a plan word fits.
-pub fn word_fits(table: &[u64], word: u32) -> bool
-    ensures { λ r. ⌜ r ≡ fitsWord 2 (now (table .entry)) word ⌝ }
+pub fn word_fits(table: &[u64], word: u32, width: usize) -> bool
+    requires { ⌜ Width width ⌝ }
+    ensures { λ r. ⌜ r ≡ fitsWord width (now (table .entry)) word ⌝ }
 {
     match write_of(word) {
-        PlanWrite::Copy(from, to) => copy_fits(table, from as usize, to as usize),
-        PlanWrite::PutIn(to) => put_fits(table, to as usize),
-        PlanWrite::Clear(slot) => rule_in(table, slot as usize),
+        PlanWrite::Copy(from, to) => copy_fits(table, from as usize, to as usize, width),
+        PlanWrite::PutIn(to) => put_fits(table, to as usize, width),
+        PlanWrite::Clear(slot) => rule_in(table, slot as usize, width),
     }
 }
 
-// The six words of a slot.
-fn record_words(table: &[u64], slot: usize) -> [u64; 6]
-    requires { ⌜ slot < length (now table) / 6 ⌝ }
-    ensures { λ r. ⌜ r ≡ entryAt 2 (now (table .entry)) slot ⌝ }
+// Copies a slot's record to another slot, by way of a record of its own.
+fn copy_slot(table: &mut [u64], from: usize, to: usize, width: usize)
+    requires { ⌜ (Width width) × (from < slots width (now table)) × (to < slots width (now table)) ⌝ }
+    ensures { λ _. ⌜ now (table .exit) ≡ putSlot width (now (table .entry)) to (entryAt width (now (table .entry)) from) ⌝ }
 {
-    [
-        slot_word(table, slot, 0),
-        slot_word(table, slot, 1),
-        slot_word(table, slot, 2),
-        slot_word(table, slot, 3),
-        slot_word(table, slot, 4),
-        slot_word(table, slot, 5),
-    ]
+    let mut words = [0u64; WIDE_RECORD];
+    let length = record_words(width);
+    read_record(table, from, &mut words[0..length], width);
+    put_record(table, to, &words[0..length], width);
 }
 
-// Makes the write of a plan word that fits.
-pub fn make_write(table: &mut [u64], rule: Rule, word: u32)
-    requires { ⌜ fitsWord 2 (now table) word ≡ true ⌝ }
-    ensures { λ _. ⌜ now (table .exit) ≡ applyWord 2 (now (table .entry)) rule word ⌝ }
+// Empties a slot.
+fn clear_slot(table: &mut [u64], slot: usize, width: usize)
+    requires { ⌜ (Width width) × (slot < slots width (now table)) ⌝ }
+    ensures { λ _. ⌜ now (table .exit) ≡ putSlot width (now (table .entry)) slot (vacant width) ⌝ }
+{
+    let words = [0u64; WIDE_RECORD];
+    put_record(table, slot, &words[0..record_words(width)], width);
+}
+
+// Makes the write of a plan word that fits; a rule that is put in is sound.
+pub fn make_write(table: &mut [u64], rule: &[u64], word: u32, width: usize)
+    requires { ⌜ (Width width) × (length (now rule) ≡ recordWords width) × (fitsWord width (now table) word ≡ true) ⌝ }
+    requires { ⌜ putSound width (ruleOf width (wordOf (now rule))) (writeOf word) ≡ true ⌝ }
+    ensures { λ _. ⌜ now (table .exit) ≡ applyWord width (now (table .entry)) (ruleOf width (wordOf (now (rule .entry)))) word ⌝ }
 {
     match write_of(word) {
-        PlanWrite::Copy(from, to) => {
-            let words = record_words(table, from as usize);
-            put_record(table, to as usize, words)
-        }
-        PlanWrite::PutIn(to) => put_record(table, to as usize, record_of(rule)),
-        PlanWrite::Clear(slot) => put_record(table, slot as usize, [0; 6]),
+        PlanWrite::Copy(from, to) => copy_slot(table, from as usize, to as usize, width),
+        PlanWrite::PutIn(to) => put_record(table, to as usize, rule, width),
+        PlanWrite::Clear(slot) => clear_slot(table, slot as usize, width),
     }
 }

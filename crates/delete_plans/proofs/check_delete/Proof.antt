@@ -27,13 +27,16 @@ returns-2 c = passed (c .before .before .before .check-table .ensures) (c .befor
 slot-of-id-requires : tie.Need-slot-of-id-requires
 slot-of-id-requires c κs = search needs
 
+slot-count-requires : tie.Need-slot-count-requires
+slot-count-requires c κs = search needs
+
 returns-3 : tie.Need-returns-3
 unfolding deleteChecks
-returns-3 c = passed (c .before .before .before .before .before .check-table .ensures) (c .before .before .before .enum-told .given .1) (id-accepted _ (c .before .before .if1 .left) (id-found 2 _ _ _ (c .before .slot-of-id .ensures) (c .if2 .taken)))
+returns-3 c = passed (c .before .before .before .before .before .before .check-table .ensures) (c .before .before .before .before .enum-told .given .1) (id-accepted _ (c .before .before .before .if1 .left) (id-found _ _ _ _ (c .before .before .slot-of-id .ensures) (rw (c .before .slot-count .ensures) at (c .if2 .taken))))
 
 returns-4 : tie.Need-returns-4
 unfolding deleteChecks
-returns-4 c = passed (c .before .before .before .before .before .check-table .ensures) (c .before .before .before .enum-told .given .1) (id-accepted _ (c .before .before .if1 .left) (id-absent 2 _ _ _ (c .before .slot-of-id .ensures) (c .if2 .left)))
+returns-4 c = passed (c .before .before .before .before .before .before .check-table .ensures) (c .before .before .before .before .enum-told .given .1) (id-accepted _ (c .before .before .before .if1 .left) (id-absent _ _ _ _ (c .before .before .slot-of-id .ensures) (rw (c .before .slot-count .ensures) at (c .if2 .left))))
 
 pub check-delete-spec : {M : Type 1} → statement M
 check-delete-spec =
@@ -45,5 +48,6 @@ check-delete-spec =
     enum-told
     returns-2
     slot-of-id-requires
+    slot-count-requires
     returns-3
     returns-4)

@@ -3,22 +3,26 @@
 use Prim.Native.Nat.{_-_}
 use mathlib.Core.Path.{sym, _∙_}
 use native.Mathlib.Omega.{arith}
+use borrow.Author.Needs.{needs}
 use Rattle.search.specs.SearchLaws.{NoneBelow, none-start, none-more, least-at, least-none}
 use Rattle.delete_plans.specs.Deletes.{hasId, slotOfId}
 use Rattle.delete_plans.proofs.slot_of_id.Statement.{statement}
 use Rattle.delete_plans.proofs.slot_of_id.Tie as tie
 
 abbrev Inv-loop : tie.InvT-loop
-Inv-loop table id slots slot₀ slot = NoneBelow (hasId 2 table id) slots slot
+Inv-loop table id width slots slot₀ slot = NoneBelow (hasId width table id) slots slot
 
 abbrev μ-loop : tie.MeasureT-loop
-μ-loop table id slots slot₀ slot = slots - slot
+μ-loop table id width slots slot₀ slot = slots - slot
+
+slot-count-requires : tie.Need-slot-count-requires Inv-loop μ-loop
+slot-count-requires c κs = search needs
 
 loop-holds : tie.Need-loop-holds Inv-loop μ-loop
 loop-holds c = none-start _ _
 
 has-id-requires : tie.Need-has-id-requires Inv-loop μ-loop
-has-id-requires c κs = omega arith
+has-id-requires c κs = (c .before .before .before .before .pre, omega arith)
 
 returns : tie.Need-returns Inv-loop μ-loop
 unfolding slotOfId
@@ -35,7 +39,7 @@ loop-again c = none-more _ _ _ (c .before .before .before .loop .inv) (omega ari
 
 returns-2 : tie.Need-returns-2 Inv-loop μ-loop
 unfolding slotOfId
-returns-2 c = sym (least-none _ _ (λ k h. c .before .loop .inv .1 k (omega arith)))
+returns-2 c = c .before .before .slot-count .ensures ∙ sym (least-none _ _ (λ k h. c .before .loop .inv .1 k (omega arith)))
 
 pub slot-of-id-spec : {M : Type 1} → statement M
 slot-of-id-spec =
@@ -43,6 +47,7 @@ slot-of-id-spec =
     (tie.spec
     Inv-loop
     μ-loop
+    slot-count-requires
     loop-holds
     has-id-requires
     returns

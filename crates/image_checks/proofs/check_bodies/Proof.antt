@@ -9,16 +9,16 @@ use Rattle.image_checks.proofs.check_bodies.Statement.{statement}
 use Rattle.image_checks.proofs.check_bodies.Tie as tie
 
 abbrev Inv-loop : tie.InvT-loop
-Inv-loop image rules entry₀ entry = PassBelow (checkBody 2 image rules) rules entry
+Inv-loop image rules width entry₀ entry = PassBelow (checkBody width image rules) rules entry
 
 abbrev μ-loop : tie.MeasureT-loop
-μ-loop image rules entry₀ entry = rules - entry
+μ-loop image rules width entry₀ entry = rules - entry
 
 loop-holds : tie.Need-loop-holds Inv-loop μ-loop
 loop-holds c = pass-start _ _
 
 check-body-requires : tie.Need-check-body-requires Inv-loop μ-loop
-check-body-requires c κs = omega arith
+check-body-requires c κs = search needs
 
 enum-known-check : tie.Need-enum-known-check Inv-loop μ-loop
 enum-known-check c = search needs

@@ -1,130 +1,105 @@
 -- `image_checks::check_body` meets its contract.
--- The numbers read are the parts of the record that entry and body mean.
-use mathlib.Core.Path.{_≡_, sym, _∙_}
-use mathlib.Core.List.{List, [], _∷_}
-use Prim.Native.Nat.{ℕ, _+_, _*_, _/_}
+-- The numbers read in the image tell whether the record that entry and body mean is sound.
+use mathlib.Core.Path.{_≡_, sym, ap, ap₂, _∙_}
+use mathlib.Core.Bool.{Bool, _&&_}
+use mathlib.Core.Logic.{⊎-elim}
+use mathlib.Core.List.{List}
+use Prim.Native.Nat.{ℕ, _+_, _*_}
 use native.Mathlib.Omega.{arith}
-use native.Mathlib.Nat.{add-zero}
-use borrow.Author.Needs.{needs}
-use Rattle.search.specs.Search.{all}
+use Rattle.search.specs.SearchLaws.{and-both}
 use Rattle.ternary.specs.Pattern.{within}
-use Rattle.records.specs.Record.{word, listed, soundParts, sound}
+use Rattle.records.specs.Record.{word, mask, sound, soundParts}
+use Rattle.records.specs.declared.Cause.the-variants.{Image}
+use Rattle.records.specs.declared.Check.the-variants.{Fail}
 use Rattle.image.specs.Bytes.{Bytes, numberAt}
-use Rattle.image.specs.BytesLaws.{number-small}
-use Rattle.image.specs.Format.{bodyPlace, idAt, recordAt}
+use Rattle.image.specs.Format.{bodyPlace, entryPlace, bodyWord, recordAt}
+use Rattle.image.specs.SaveLaws.{body-within, image-small}
+use Rattle.image.specs.Meaning.{body-sound}
 use Rattle.image.specs.Checks.{checkBody}
 use Rattle.image.specs.ChecksLaws.{field-last, field-last-wrong}
+use borrow.Author.Needs.{needs}
 use Rattle.image_checks.proofs.check_body.Statement.{statement}
 use Rattle.image_checks.proofs.check_body.Tie as tie
-use Rattle.image_checks.proofs.check_body.Reads as reads
-use Rattle.image_checks.proofs.check_body.Lts as lts
-use Rattle.image.proofs.fields.number_at.Reads as number-at-reads
-use Rattle.image.proofs.fields.word_at.Reads as word-at-reads
-use Rattle.slots.proofs.parts_sound.Reads as parts-sound-reads
 
-mul-at : tie.Need-mul-at
-mul-at c = search needs
+body-place-requires : tie.Need-body-place-requires
+body-place-requires c κs = search needs
 
-add-at : tie.Need-add-at
-add-at c = search needs
+entry-place-requires : tie.Need-entry-place-requires
+entry-place-requires c κs = search needs
 
-mul-at-2 : tie.Need-mul-at-2
-mul-at-2 c = search needs
-
-add-at-2 : tie.Need-add-at-2
-add-at-2 c = search needs
+number-at-requires : tie.Need-number-at-requires
+number-at-requires c κs = search needs
 
 mul-number-at : tie.Need-mul-number-at
 mul-number-at c = search needs
 
 add-number-at : tie.Need-add-number-at
-add-number-at c = search needs
-
-number-at-requires : tie.Need-number-at-requires
-number-at-requires c κs = search needs
-
-add-number-at-2 : tie.Need-add-number-at-2
-add-number-at-2 c = search needs
+add-number-at c =
+    let a = c .before .before .before .before .args in
+    let asked = c .before .before .before .before .pre in
+    omega (arith, c .before .before .body-place .ensures, body-within (a .width) (a .rules) (a .entry) (asked .2))
 
 number-at-requires-2 : tie.Need-number-at-requires-2
-number-at-requires-2 c κs = search needs
+number-at-requires-2 c κs =
+    let a = c .before .before .before .before .args in
+    let asked = c .before .before .before .before .pre in
+    (omega arith, omega (arith, c .before .before .body-place .ensures, body-within (a .width) (a .rules) (a .entry) (asked .2)))
 
-word-at-requires : tie.Need-word-at-requires
-word-at-requires c κs = search needs
+body-within-requires : tie.Need-body-within-requires
+body-within-requires c κs =
+    let a = c .before .before .before .before .before .before .args in
+    let asked = c .before .before .before .before .before .before .pre in
+    (asked .0, omega (arith, c .before .before .before .before .body-place .ensures, body-within (a .width) (a .rules) (a .entry) (asked .2)))
 
-add-word-at : tie.Need-add-word-at
-add-word-at c = search needs
-
-word-at-requires-2 : tie.Need-word-at-requires-2
-word-at-requires-2 c κs = search needs
-
-add-word-at-2 : tie.Need-add-word-at-2
-add-word-at-2 c = search needs
-
-word-at-requires-3 : tie.Need-word-at-requires-3
-word-at-requires-3 c κs = search needs
-
-add-word-at-3 : tie.Need-add-word-at-3
-add-word-at-3 c = search needs
-
-word-at-requires-4 : tie.Need-word-at-requires-4
-word-at-requires-4 c κs = search needs
-
-parts-sound-requires : tie.Need-parts-sound-requires
-parts-sound-requires c κs = search needs
-
--- the parts of the record that entry and body k mean, each the number at its place
-parts-read : (b : List ℕ) (e k : ℕ)
-    → Bytes b
-    → soundParts 2 (idAt b k) (numberAt b (bodyPlace 2 e k + 32) 4)
-    (word (numberAt b (bodyPlace 2 e k) 8 ∷ numberAt b (bodyPlace 2 e k + 8) 8 ∷ []))
-    (word (numberAt b (bodyPlace 2 e k + 16) 8 ∷ numberAt b (bodyPlace 2 e k + 24) 8 ∷ []))
-    ≡ sound 2 (word (recordAt 2 b e k))
-unfolding recordAt listed soundParts within all
-parts-read b e k h =
-    let id : (idAt b k * 4294967296 + numberAt b (bodyPlace 2 e k + 36) 4) / 4294967296 ≡ idAt b k = omega (arith, number-small 4 b (bodyPlace 2 e k + 36) h) in
-    rw (id, add-zero (bodyPlace 2 e k))
-
--- what the test answers, of the record meant
-answered : (c : lts.After-parts-sound (number-at-reads.Asked, number-at-reads.Learnt, word-at-reads.Asked, word-at-reads.Learnt, parts-sound-reads.Asked, parts-sound-reads.Learnt) reads.Pre reads.Post)
-    → sound 2 (word (recordAt 2 (c .before .before .before .before .before .before .before .before .args .image .now) (c .before .before .before .before .before .before .before .before .args .rules) (c .before .before .before .before .before .before .before .before .args .entry))) ≡ c .parts-sound .result
-answered c =
-    let a = c .before .before .before .before .before .before .before .before .args in
-    sym (parts-read (a .image .now) (a .rules) (a .entry) (λ i. omega (arith, c .before .before .before .before .before .before .before .shared-slice-known .given i)))
-    ∙ sym (rw (c .before .word-at4 .ensures, c .before .before .word-at3 .ensures, c .before .before .before .word-at2 .ensures, c .before .before .before .before .word-at .ensures, c .before .before .before .before .before .number-at2 .ensures, c .before .before .before .before .before .before .number-at .ensures) at (c .parts-sound .ensures))
+-- the numbers read, and the record that they mean
+read : (w : ℕ) (b : List ℕ) (e k : ℕ) {id rank place entry : ℕ} → Bytes b → entry ≡ entryPlace k → place ≡ bodyPlace w e k
+    → id ≡ numberAt b entry 4 → rank ≡ numberAt b (place + 16 * w) 4
+    → sound w (word (recordAt w b e k)) ≡ soundParts w id rank (bodyWord b place) (mask w (bodyWord b place))
+read w b e k {id} {rank} {place} h f p i r =
+    let at : place + 16 * w ≡ bodyPlace w e k + 2 * w * 8 = omega arith in
+    body-sound w b e k h
+    ∙ (ap₂ (λ (n m : ℕ). soundParts w n m (bodyWord b (bodyPlace w e k)) (mask w (bodyWord b (bodyPlace w e k))))
+    (sym (i ∙ ap (λ (n : ℕ). numberAt b n 4) f)) (sym (r ∙ ap (λ (n : ℕ). numberAt b n 4) at))
+    ∙ ap (λ (q : ℕ). soundParts w id rank (bodyWord b q) (mask w (bodyWord b q))) (sym p))
 
 returns : tie.Need-returns
-unfolding checkBody
-returns c = field-last _ (answered (c .before) ∙ c .if1 .taken)
+unfolding checkBody soundParts
+returns c =
+    let a = c .before .before .before .before .before .before .before .before .args in
+    field-last _
+    (read (a .width) (a .image .now) (a .rules) (a .entry) (λ i. omega (arith, c .before .before .before .before .before .before .before .shared-slice-known .given i))
+    (c .before .before .before .before .before .entry-place .ensures) (c .before .before .before .before .before .before .body-place .ensures) (c .before .before .before .before .number-at .ensures) (c .before .before .before .number-at2 .ensures)
+    ∙ and-both _ _ (c .before .before .if1 .taken) (sym (c .before .body-within .ensures) ∙ c .if2 .taken))
 
-cast-t20 : tie.Need-cast-t20
-cast-t20 c = search needs
+cast-t15 : tie.Need-cast-t15
+cast-t15 c =
+    let a = c .before .before .before .before .before .before .args in
+    let asked = c .before .before .before .before .before .before .pre in
+    omega (arith, c .before .before .before .before .body-place .ensures, body-within (a .width) (a .rules) (a .entry) (asked .2), image-small (a .width) (a .rules) (asked .0 .1))
 
 returns-2 : tie.Need-returns-2
-unfolding checkBody
-returns-2 c = field-last-wrong _ (answered (c .before) ∙ c .if1 .left)
+unfolding checkBody soundParts
+returns-2 c =
+    let a = c .before .before .before .before .before .before .args in
+    let x = bodyWord (a .image .now) (c .before .before .before .before .body-place .result) in
+    ap (Fail Image) (c .before .before .before .before .body-place .ensures)
+    ∙ field-last-wrong _
+    (read (a .width) (a .image .now) (a .rules) (a .entry) (λ i. omega (arith, c .before .before .before .before .before .shared-slice-known .given i))
+    (c .before .before .before .entry-place .ensures) (c .before .before .before .before .body-place .ensures) (c .before .before .number-at .ensures) (c .before .number-at2 .ensures)
+    ∙ ⊎-elim (λ way. ap₂ _&&_ (way .0 .taken) (sym (way .1 .ensures) ∙ way .2 .left))
+    (λ way. ap (λ (q : Bool). q && within (a .width) x (mask (a .width) x)) (way .left)) (c .if1 .came))
 
 pub check-body-spec : {M : Type 1} → statement M
 check-body-spec =
     tie.close
     (tie.spec
-    mul-at
-    add-at
-    mul-at-2
-    add-at-2
+    body-place-requires
+    entry-place-requires
+    number-at-requires
     mul-number-at
     add-number-at
-    number-at-requires
-    add-number-at-2
     number-at-requires-2
-    word-at-requires
-    add-word-at
-    word-at-requires-2
-    add-word-at-2
-    word-at-requires-3
-    add-word-at-3
-    word-at-requires-4
-    parts-sound-requires
+    body-within-requires
     returns
-    cast-t20
+    cast-t15
     returns-2)

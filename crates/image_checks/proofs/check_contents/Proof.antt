@@ -9,16 +9,16 @@ use Rattle.image_checks.proofs.check_contents.Statement.{statement}
 use Rattle.image_checks.proofs.check_contents.Tie as tie
 
 abbrev Inv-loop : tie.InvT-loop
-Inv-loop image slots rules entry₀ entry = PassBelow (checkEntry 2 image slots rules) rules entry
+Inv-loop image slots rules width entry₀ entry = PassBelow (checkEntry width image slots rules) rules entry
 
 abbrev μ-loop : tie.MeasureT-loop
-μ-loop image slots rules entry₀ entry = rules - entry
+μ-loop image slots rules width entry₀ entry = rules - entry
 
 loop-holds : tie.Need-loop-holds Inv-loop μ-loop
 loop-holds c = pass-start _ _
 
 check-entry-requires : tie.Need-check-entry-requires Inv-loop μ-loop
-check-entry-requires c κs = omega arith
+check-entry-requires c κs = search needs
 
 enum-known-check : tie.Need-enum-known-check Inv-loop μ-loop
 enum-known-check c = search needs

@@ -18,7 +18,11 @@ use Rattle.image_checks.proofs.check_header.Tie as tie
 
 returns : tie.Need-returns
 unfolding checkHeader
-returns c = field-wrong 0 (field (leb (rulesIn (c .before .before .args .image .now)) (c .before .before .args .slots) && eqb (length (c .before .before .args .image .now)) (imageBytes 2 (rulesIn (c .before .before .args .image .now)))) 2) (ap (λ (q : Bool). q && eqb (numberAt (c .before .before .args .image .now) 0 2) (c .before .before .args .slots)) (lt-leb 4 _ (c .if1 .taken)))
+returns c =
+    let a = c .before .before .args in
+    let b = a .image .now in
+    field-wrong 0 (field (leb (rulesIn b) (a .slots) && eqb (length b) (imageBytes (a .width) (rulesIn b))) 2)
+    (ap (λ (q : Bool). q && eqb (numberAt b 0 2) (a .slots)) (lt-leb 4 _ (c .if1 .taken)))
 
 number-at-requires : tie.Need-number-at-requires
 number-at-requires c κs = search needs
@@ -30,25 +34,21 @@ returns-2 c = field-wrong 0 _ (ap₂ _&&_ (le-leb 4 _ (c .before .before .if1 .l
 number-at-requires-2 : tie.Need-number-at-requires-2
 number-at-requires-2 c κs = search needs
 
-mul-if3 : tie.Need-mul-if3
-mul-if3 c =
-    omega (arith, c .number-at2 .ensures, number-small 2 (c .before .before .before .before .before .args .image .now) 2 (λ i. omega (arith, c .before .before .before .before .shared-slice-known .given i)))
-
-add-if3 : tie.Need-add-if3
-add-if3 c =
-    omega (arith, c .number-at2 .ensures, number-small 2 (c .before .before .before .before .before .args .image .now) 2 (λ i. omega (arith, c .before .before .before .before .shared-slice-known .given i)))
+image-bytes-requires : tie.Need-image-bytes-requires
+image-bytes-requires c κs =
+    (c .before .before .before .before .before .pre, omega (arith, c .number-at2 .ensures, number-small 2 (c .before .before .before .before .before .args .image .now) 2 (λ i. omega (arith, c .before .before .before .before .shared-slice-known .given i))))
 
 returns-3 : tie.Need-returns-3
 unfolding checkHeader
 returns-3 c =
-    field-right 0 (and-both _ _ (le-leb 4 _ (c .before .before .before .before .if1 .left)) (eq-eqb _ _ (sym (c .before .before .before .number-at .ensures) ∙ c .before .before .if2 .left)))
-    (field-last 2 (rw (c .before .number-at2 .ensures) at (c .if3 .taken)))
+    field-right 0 (and-both _ _ (le-leb 4 _ (c .before .before .before .before .before .if1 .left)) (eq-eqb _ _ (sym (c .before .before .before .before .number-at .ensures) ∙ c .before .before .before .if2 .left)))
+    (field-last 2 (rw (c .before .image-bytes .ensures, c .before .before .number-at2 .ensures) at (c .if3 .taken)))
 
 returns-4 : tie.Need-returns-4
 unfolding checkHeader
 returns-4 c =
-    field-right 0 (and-both _ _ (le-leb 4 _ (c .before .before .before .before .if1 .left)) (eq-eqb _ _ (sym (c .before .before .before .number-at .ensures) ∙ c .before .before .if2 .left)))
-    (field-last-wrong 2 (rw (c .before .number-at2 .ensures) at (c .if3 .left)))
+    field-right 0 (and-both _ _ (le-leb 4 _ (c .before .before .before .before .before .if1 .left)) (eq-eqb _ _ (sym (c .before .before .before .before .number-at .ensures) ∙ c .before .before .before .if2 .left)))
+    (field-last-wrong 2 (rw (c .before .image-bytes .ensures, c .before .before .number-at2 .ensures) at (c .if3 .left)))
 
 pub check-header-spec : {M : Type 1} → statement M
 check-header-spec =
@@ -58,7 +58,6 @@ check-header-spec =
     number-at-requires
     returns-2
     number-at-requires-2
-    mul-if3
-    add-if3
+    image-bytes-requires
     returns-3
     returns-4)

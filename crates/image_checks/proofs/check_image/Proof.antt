@@ -3,6 +3,7 @@
 use mathlib.Core.Path.{sym, ap, _∙_}
 use Prim.Native.Nat.{ℕ}
 use native.Mathlib.Omega.{arith}
+use native.Mathlib.Nat.{le-of-eq}
 use borrow.Author.Needs.{needs}
 use Rattle.records.specs.Laws.{failed, passed}
 use Rattle.image.specs.Checks.{checkContents, checkBodies, imageChecks}
@@ -26,14 +27,14 @@ enum-told c = search needs
 number-at-requires : tie.Need-number-at-requires
 number-at-requires c κs =
     let a = c .before .before .before .before .args in
-    let h = header-law 2 (a .image .now) (a .slots) .0 (sym (c .before .before .check-header .ensures) ∙ c .enum-told .given .1) in
+    let h = header-law (a .width) (a .image .now) (a .slots) .0 (sym (c .before .before .check-header .ensures) ∙ c .enum-told .given .1) in
     (omega arith, h .0)
 
 check-contents-requires : tie.Need-check-contents-requires
 check-contents-requires c κs =
     let a = c .before .before .before .before .before .args in
-    let h = header-law 2 (a .image .now) (a .slots) .0 (sym (c .before .before .before .check-header .ensures) ∙ c .before .enum-told .given .1) in
-    (omega (arith, h .2, c .number-at .ensures), omega (arith, h .3, c .number-at .ensures))
+    let h = header-law (a .width) (a .image .now) (a .slots) .0 (sym (c .before .before .before .check-header .ensures) ∙ c .before .enum-told .given .1) in
+    (c .before .before .before .before .before .pre .0, omega (arith, h .2, c .number-at .ensures), rw (sym (c .number-at .ensures)) at (le-of-eq (sym (h .3))))
 
 enum-known-contents : tie.Need-enum-known-contents
 enum-known-contents c = search needs
@@ -43,7 +44,7 @@ unfolding imageChecks
 returns-2 c =
     let a = c .before .before .before .before .before .before .before .before .before .args in
     passed (c .before .before .before .before .before .before .before .check-header .ensures) (c .before .before .before .before .before .enum-told .given .1)
-    (failed _ (c .before .before .before .check-contents .ensures ∙ ap (λ (e : ℕ). checkContents 2 (a .image .now) (a .slots) e) (c .before .before .before .before .number-at .ensures)) (c .before .contents .given .1))
+    (failed _ (c .before .before .before .check-contents .ensures ∙ ap (λ (e : ℕ). checkContents (a .width) (a .image .now) (a .slots) e) (c .before .before .before .before .number-at .ensures)) (c .before .contents .given .1))
 
 enum-told-2 : tie.Need-enum-told-2
 enum-told-2 c = search needs
@@ -51,16 +52,16 @@ enum-told-2 c = search needs
 check-bodies-requires : tie.Need-check-bodies-requires
 check-bodies-requires c κs =
     let a = c .before .before .before .before .before .before .before .before .args in
-    let h = header-law 2 (a .image .now) (a .slots) .0 (sym (c .before .before .before .before .before .before .check-header .ensures) ∙ c .before .before .before .before .enum-told .given .1) in
-    (omega (arith, h .2, c .before .before .before .number-at .ensures), omega (arith, h .3, c .before .before .before .number-at .ensures))
+    let h = header-law (a .width) (a .image .now) (a .slots) .0 (sym (c .before .before .before .before .before .before .check-header .ensures) ∙ c .before .before .before .before .enum-told .given .1) in
+    (c .before .before .before .before .before .before .before .before .pre .0, omega (arith, h .2, c .before .before .before .number-at .ensures), rw (sym (c .before .before .before .number-at .ensures)) at (le-of-eq (sym (h .3))))
 
 returns-3 : tie.Need-returns-3
 unfolding imageChecks
 returns-3 c =
     let a = c .before .before .before .before .before .before .before .before .before .args in
     passed (c .before .before .before .before .before .before .before .check-header .ensures) (c .before .before .before .before .before .enum-told .given .1)
-    (passed (c .before .before .before .check-contents .ensures ∙ ap (λ (e : ℕ). checkContents 2 (a .image .now) (a .slots) e) (c .before .before .before .before .number-at .ensures)) (c .before .enum-told2 .given .1)
-    (c .check-bodies .ensures ∙ ap (λ (e : ℕ). checkBodies 2 (a .image .now) e) (c .before .before .before .before .number-at .ensures)))
+    (passed (c .before .before .before .check-contents .ensures ∙ ap (λ (e : ℕ). checkContents (a .width) (a .image .now) (a .slots) e) (c .before .before .before .before .number-at .ensures)) (c .before .enum-told2 .given .1)
+    (c .check-bodies .ensures ∙ ap (λ (e : ℕ). checkBodies (a .width) (a .image .now) e) (c .before .before .before .before .number-at .ensures)))
 
 pub check-image-spec : {M : Type 1} → statement M
 check-image-spec =

@@ -1,9 +1,10 @@
 -- `image_checks::lowest_slot` meets its contract.
 -- One above the slot of the entry before.
 use mathlib.Core.Path.{_≡_, ap}
-use Prim.Native.Nat.{suc, _+_, _-_, _*_}
+use Prim.Native.Nat.{ℕ, suc, _+_, _-_}
 use native.Mathlib.Omega.{arith}
 use borrow.Author.Needs.{needs}
+use Rattle.image.specs.Bytes.{numberAt}
 use Rattle.image.specs.Checks.{lowestSlot}
 use Rattle.image.specs.BytesLaws.{number-small}
 use Rattle.image_checks.proofs.lowest_slot.Statement.{statement}
@@ -12,40 +13,37 @@ use Rattle.image_checks.proofs.lowest_slot.Tie as tie
 returns : tie.Need-returns
 returns c = search needs
 
-sub-number-at : tie.Need-sub-number-at
-sub-number-at c = search needs
+sub-entry-place : tie.Need-sub-entry-place
+sub-entry-place c = search needs
 
-mul-number-at : tie.Need-mul-number-at
-mul-number-at c = search needs
+entry-place-requires : tie.Need-entry-place-requires
+entry-place-requires c κs = search needs
 
 add-number-at : tie.Need-add-number-at
 add-number-at c = search needs
-
-add-number-at-2 : tie.Need-add-number-at-2
-add-number-at-2 c = search needs
 
 number-at-requires : tie.Need-number-at-requires
 number-at-requires c κs = search needs
 
 add-result : tie.Need-add-result
 add-result c =
-    omega (arith, c .number-at .ensures, number-small 2 (c .before .before .before .args .image .now) (4 + (c .before .before .before .args .entry - 1) * 10 + 4) (λ i. omega (arith, c .before .before .shared-slice-known .given i)))
+    let a = c .before .before .before .before .args in
+    omega (arith, c .number-at .ensures, number-small 2 (a .image .now) (c .before .entry-place .result + 4) (λ i. omega (arith, c .before .before .before .shared-slice-known .given i)))
 
 returns-2 : tie.Need-returns-2
 returns-2 c =
-    let a = c .before .before .before .args in
+    let a = c .before .before .before .before .args in
     let back : suc (a .entry - 1) ≡ a .entry = omega arith in
-    omega (arith, c .number-at .ensures, ap (lowestSlot (a .image .now)) back)
+    omega (arith, c .number-at .ensures, ap (λ (place : ℕ). numberAt (a .image .now) (place + 4) 2) (c .before .entry-place .ensures), ap (lowestSlot (a .image .now)) back)
 
 pub lowest-slot-spec : {M : Type 1} → statement M
 lowest-slot-spec =
     tie.close
     (tie.spec
     returns
-    sub-number-at
-    mul-number-at
+    sub-entry-place
+    entry-place-requires
     add-number-at
-    add-number-at-2
     number-at-requires
     add-result
     returns-2)

@@ -1,64 +1,74 @@
 -- `insert_plans::plan_insert` meets its contract.
--- A refusal where a check of the table fails; else the plan by its neighbour list.
-use mathlib.Core.Path.{refl, sym, _∙_}
-use native.Mathlib.Omega.{arith}
+-- The check of the width and of the rule's words decides first, and leaves the buffer as it was; demand 3 is of calls that pass it.
+use mathlib.Core.Path.{sym, ap, _∙_}
+use mathlib.Core.Bool.{false≢true}
 use denote.Ref.{now}
 use borrow.Author.Needs.{needs}
-use Rattle.records.specs.Laws.{failed}
-use Rattle.buffers.specs.BuffersLaws.{buffer-refused}
-use Rattle.neighbours.specs.Neighbours.{insertChecks}
-use Rattle.insert_plans.specs.Inserts.{insertWords}
+use Rattle.records.specs.Record.{word, ruleOf}
+use Rattle.records.specs.Checks.{passes}
+use Rattle.records.specs.Laws.{told-refused, told-answered}
+use Rattle.records.specs.Widths.{leaves}
+use Rattle.records.specs.WidthsLaws.{rule-law}
+use Rattle.records.specs.declared.Check.{Check}
+use Rattle.insert_plans.specs.Inserts.{insertPlan}
+use Rattle.insert_plans.specs.InsertsLaws.{lent-action}
 use Rattle.insert_plans.specs.Demand3Laws.{demand-3-call}
 use Rattle.insert_plans.proofs.plan_insert.Statement.{statement}
 use Rattle.insert_plans.proofs.plan_insert.Tie as tie
 
-slice-aggregate-check-listed : tie.Need-slice-aggregate-check-listed
-slice-aggregate-check-listed c = search needs
+check-rule-requires : tie.Need-check-rule-requires
+check-rule-requires c κs = search needs
 
-check-listed-requires : tie.Need-check-listed-requires
-check-listed-requires c κs = search needs
-
-enum-known-check : tie.Need-enum-known-check
-enum-known-check c = search needs
+enum-known-lent : tie.Need-enum-known-lent
+enum-known-lent c = search needs
 
 returns : tie.Need-returns
-unfolding insertChecks
 returns c =
-    let a = c .before .before .before .before .before .before .before .before .args in
-    let p = buffer-refused (insertWords 2 (now (a .table)) (a .rule)) (now (a .plan)) (failed _ (c .before .before .before .before .check-listed .ensures .0) (c .before .check .given .1)) refl in
-    (p .0, (p .1, demand-3-call 2 (now (a .table)) (a .rule) (now (a .plan)) _ _ (omega arith) (p .0) (p .1)))
+    let a = c .before .before .before .before .before .before .before .args in
+    let w = a .mode .width in
+    let plan = now (a .plan) in
+    let checked = c .before .before .before .check-rule .ensures in
+    let fails = c .before .lent .given .1 in (
+      told-refused _ checked fails,
+      (
+        ap (λ (z : Check). leaves z (insertPlan w (now (a .table)) (ruleOf w (word (now (a .rule)))) plan) plan) (sym fails ∙ checked),
+        λ p. absurd (false≢true (ap passes (sym fails ∙ (checked ∙ rule-law _ _ .1 (p .width, p .words))))),
+      ),
+    )
 
 enum-told : tie.Need-enum-told
 enum-told c = search needs
 
-slice-aggregate-plan-listed : tie.Need-slice-aggregate-plan-listed
-slice-aggregate-plan-listed c = search needs
-
-plan-listed-requires : tie.Need-plan-listed-requires
-plan-listed-requires c κs =
-    let pass = c .before .before .enum-told .given .1 in
-    (sym (c .before .before .before .before .before .check-listed .ensures .0) ∙ pass, omega (arith, c .before .before .before .before .before .check-listed .kept .1 .0), c .before .before .before .before .before .check-listed .ensures .1 pass)
+insert-at-requires : tie.Need-insert-at-requires
+insert-at-requires c κs = rule-law _ _ .0 (sym (c .before .before .before .check-rule .ensures) ∙ c .before .enum-told .given .1)
 
 same-length : tie.Need-same-length
 same-length c = search needs
 
 returns-2 : tie.Need-returns-2
 returns-2 c =
-    let a = c .before .before .before .before .before .before .before .before .before .before .before .before .args in
-    let told = c .before .before .plan-listed .ensures .0 in
-    let buffer = c .before .before .plan-listed .ensures .1 in
-    (told, (buffer, demand-3-call 2 (now (a .table)) (a .rule) (now (a .plan)) _ _ (omega arith) told buffer))
+    let a = c .before .before .before .before .before .before .before .before .before .before .args in
+    let w = a .mode .width in
+    let rule = ruleOf w (word (now (a .rule))) in
+    let plan = now (a .plan) in
+    let checked = c .before .before .before .before .before .before .check-rule .ensures in
+    let pass = c .before .before .before .before .enum-told .given .1 in
+    let called = c .before .before .insert-at .ensures in (
+      told-answered checked pass (called .0),
+      (
+        called .1 ∙ ap (λ (z : Check). leaves z (insertPlan w (now (a .table)) rule plan) plan) (sym pass ∙ checked),
+        λ p. demand-3-call w (now (a .table)) rule plan _ _ (lent-action w (word (now (a .rule)))) (called .0) (called .1) (p .insertable),
+      ),
+    )
 
 pub plan-insert-spec : {M : Type 1} → statement M
 plan-insert-spec =
     tie.close
     (tie.spec
-    slice-aggregate-check-listed
-    check-listed-requires
-    enum-known-check
+    check-rule-requires
+    enum-known-lent
     returns
     enum-told
-    slice-aggregate-plan-listed
-    plan-listed-requires
+    insert-at-requires
     same-length
     returns-2)

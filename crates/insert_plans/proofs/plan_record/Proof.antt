@@ -1,28 +1,38 @@
 -- `insert_plans::plan_record` meets its contract.
 -- Check 10 is made of the A and B that the plan is made between.
 use mathlib.Core.Path.{_≡_, refl, sym, ap₂, subst₂, _∙_}
-use Prim.Native.Nat.{ℕ, _/_, _<_}
+use Prim.Native.Nat.{ℕ, _<_}
 use native.Mathlib.Omega.{arith}
 use lib.ListN.{length}
 use denote.Ref.{now}
 use borrow.Author.Needs.{needs}
 use Rattle.layout.specs.Plan.{Choice}
 use Rattle.records.specs.Record.{slotWords}
-use Rattle.records.specs.Laws.{failed, passed, table-checks-length}
+use Rattle.records.specs.Order.{slots}
+use Rattle.records.specs.Laws.{failed, passed}
 use Rattle.records.specs.Inserts.{planWords}
 use Rattle.records.specs.declared.Check.{Check}
 use Rattle.records.specs.declared.Check.the-variants.{Pass}
 use Rattle.buffers.specs.Buffers.{bufferAnswer, bufferAfter}
 use Rattle.buffers.specs.BuffersLaws.{buffer-refused}
+use Rattle.table_checks.specs.SlotsLaws.{table-few}
 use Rattle.neighbours.specs.Neighbours.{crossedBy, checkCrossed, newChecks}
 use Rattle.neighbours.specs.NeighboursLaws.{after-a-high, slot-b-high, new-row}
 use Rattle.insert_plans.specs.Inserts.{choiceBetween, recordChoice}
 use Rattle.insert_plans.proofs.plan_record.Statement.{statement}
 use Rattle.insert_plans.proofs.plan_record.Tie as tie
 
+-- the checks of a new rule end as check 10 does
+found : (c : tie.After-check-crossed)
+    → c .check-crossed .result ≡ newChecks (c .before .before .before .before .before .before .before .before .before .before .args .mode .width) (now (c .before .before .before .before .before .before .before .before .before .before .args .table)) (slotWords (c .before .before .before .before .before .before .before .before .before .before .args .mode .width) (now (c .before .before .before .before .before .before .before .before .before .before .args .new)) 0)
+unfolding checkCrossed
+found c =
+    passed (c .before .before .before .before .before .check-new .ensures) (c .before .before .before .enum-told .given .1) (c .check-crossed .ensures ∙ ap₂ crossedBy (c .before .before .after-a .ensures) (c .before .slot-b .ensures))
+    ∙ sym (new-row (c .before .before .before .before .before .before .before .before .before .before .args .mode .width) (now (c .before .before .before .before .before .before .before .before .before .before .args .table)) (slotWords (c .before .before .before .before .before .before .before .before .before .before .args .mode .width) (now (c .before .before .before .before .before .before .before .before .before .before .args .new)) 0))
+
 check-new-requires : tie.Need-check-new-requires
 check-new-requires c κs =
-    let h = table-checks-length 2 (now (c .before .before .before .before .args .table)) (c .before .before .before .before .pre .0 .0) in (omega arith, c .before .before .before .before .pre .1 .0)
+    let start = c .before .before .before .before in (start .pre .0 .0, table-few _ _ (start .pre .0 .1), start .pre .1 .0)
 
 enum-known-check : tie.Need-enum-known-check
 enum-known-check c = search needs
@@ -30,9 +40,9 @@ enum-known-check c = search needs
 returns : tie.Need-returns
 returns c =
     let a = c .before .before .before .before .before .before .before .before .args in
-    let new = slotWords 2 (now (a .new)) 0 in
-    buffer-refused (planWords (recordChoice 2 (now (a .table)) new)) (now (a .plan))
-    (failed _ (c .before .before .before .check-new .ensures) (c .before .check .given .1) ∙ sym (new-row 2 (now (a .table)) new)) refl
+    let new = slotWords (a .mode .width) (now (a .new)) 0 in
+    buffer-refused (planWords (recordChoice (a .mode .width) (now (a .table)) new)) (now (a .plan))
+    (failed _ (c .before .before .before .check-new .ensures) (c .before .check .given .1) ∙ sym (new-row (a .mode .width) (now (a .table)) new)) refl
 
 enum-told : tie.Need-enum-told
 enum-told c = search needs
@@ -46,17 +56,9 @@ slot-b-requires c κs = search needs
 check-crossed-requires : tie.Need-check-crossed-requires
 check-crossed-requires c κs =
     let a = c .before .before .before .before .before .before .before .before .before .args in
-    let h = table-checks-length 2 (now (a .table)) (c .before .before .before .before .before .before .before .before .before .pre .0 .0) in
-    let new = slotWords 2 (now (a .new)) 0 in
-    (omega (arith, c .before .after-a .ensures, after-a-high 2 (now (a .table)) new), omega (arith, c .slot-b .ensures, slot-b-high 2 (now (a .table)) new))
-
--- the checks of a new rule end as check 10 does
-found : (c : tie.After-check-crossed)
-    → c .check-crossed .result ≡ newChecks 2 (now (c .before .before .before .before .before .before .before .before .before .before .args .table)) (slotWords 2 (now (c .before .before .before .before .before .before .before .before .before .before .args .new)) 0)
-unfolding checkCrossed
-found c =
-    passed (c .before .before .before .before .before .check-new .ensures) (c .before .before .before .enum-told .given .1) (c .check-crossed .ensures ∙ ap₂ crossedBy (c .before .before .after-a .ensures) (c .before .slot-b .ensures))
-    ∙ sym (new-row 2 (now (c .before .before .before .before .before .before .before .before .before .before .args .table)) (slotWords 2 (now (c .before .before .before .before .before .before .before .before .before .before .args .new)) 0))
+    let few = table-few (a .mode .width) (now (a .table)) (c .before .before .before .before .before .before .before .before .before .pre .0 .1) in
+    let new = slotWords (a .mode .width) (now (a .new)) 0 in
+    (omega (arith, c .before .after-a .ensures, after-a-high (a .mode .width) (now (a .table)) new), omega (arith, c .slot-b .ensures, slot-b-high (a .mode .width) (now (a .table)) new))
 
 enum-known-crossed : tie.Need-enum-known-crossed
 enum-known-crossed c = search needs
@@ -64,7 +66,7 @@ enum-known-crossed c = search needs
 returns-2 : tie.Need-returns-2
 returns-2 c =
     let a = c .before .before .before .before .before .before .before .before .before .before .before .before .before .args in
-    buffer-refused (planWords (recordChoice 2 (now (a .table)) (slotWords 2 (now (a .new)) 0))) (now (a .plan)) (found (c .before .before .before)) (c .before .crossed .given .1)
+    buffer-refused (planWords (recordChoice (a .mode .width) (now (a .table)) (slotWords (a .mode .width) (now (a .new)) 0))) (now (a .plan)) (found (c .before .before .before)) (c .before .crossed .given .1)
 
 enum-told-2 : tie.Need-enum-told-2
 enum-told-2 c = search needs
@@ -73,11 +75,11 @@ plan-between-requires : tie.Need-plan-between-requires
 plan-between-requires c κs =
     let a = c .before .before .before .before .before .before .before .before .before .before .before .before .before .args in
     let pre = c .before .before .before .before .before .before .before .before .before .before .before .before .before .pre in
-    let new = slotWords 2 (now (a .new)) 0 in (
+    let new = slotWords (a .mode .width) (now (a .new)) 0 in (
       pre .0,
       (
-        omega (arith, c .before .before .before .before .slot-b .ensures, slot-b-high 2 (now (a .table)) new),
-        subst₂ (λ (x y : ℕ). choiceBetween 2 (now (a .table)) x y .cost < length (now (a .table)) / 6) (sym (c .before .before .before .before .before .after-a .ensures)) (sym (c .before .before .before .before .slot-b .ensures))
+        omega (arith, c .before .before .before .before .slot-b .ensures, slot-b-high (a .mode .width) (now (a .table)) new),
+        subst₂ (λ (x y : ℕ). choiceBetween (a .mode .width) (now (a .table)) x y .cost < slots (a .mode .width) (now (a .table))) (sym (c .before .before .before .before .before .after-a .ensures)) (sym (c .before .before .before .before .slot-b .ensures))
             (pre .1 .1 (sym (found (c .before .before .before)) ∙ c .before .enum-told2 .given .1)),
       ),
     )
@@ -89,8 +91,8 @@ returns-3 : tie.Need-returns-3
 returns-3 c =
     let a = c .before .before .before .before .before .before .before .before .before .before .before .before .before .before .before .before .args in
     let plan = now (a .plan) in
-    let e : Pass ≡ newChecks 2 (now (a .table)) (slotWords 2 (now (a .new)) 0) = sym (c .before .before .before .before .enum-told2 .given .1) ∙ found (c .before .before .before .before .before .before) in
-    let between = ap₂ (choiceBetween 2 (now (a .table))) (c .before .before .before .before .before .before .before .before .after-a .ensures) (c .before .before .before .before .before .before .before .slot-b .ensures) in (
+    let e : Pass ≡ newChecks (a .mode .width) (now (a .table)) (slotWords (a .mode .width) (now (a .new)) 0) = sym (c .before .before .before .before .enum-told2 .given .1) ∙ found (c .before .before .before .before .before .before) in
+    let between = ap₂ (choiceBetween (a .mode .width) (now (a .table))) (c .before .before .before .before .before .before .before .before .after-a .ensures) (c .before .before .before .before .before .before .before .slot-b .ensures) in (
       c .before .before .plan-between .ensures .0 ∙ ap₂ (λ (k : Check) (x : Choice). bufferAnswer k (length (planWords x)) (length plan)) e between,
       c .before .before .plan-between .ensures .1 ∙ ap₂ (λ (k : Check) (x : Choice). bufferAfter k (planWords x) plan) e between,
     )

@@ -2,45 +2,54 @@
 -- The records of the entries passed stand in their slots.
 use mathlib.Core.Path.{_≡_, refl, sym, ap, ap₂, _∙_}
 use mathlib.Core.List.{List}
-use Prim.Native.Nat.{ℕ, _-_, _≤_}
+use Prim.Native.Nat.{ℕ, _+_, _-_, _/_, _≤_}
 use native.Mathlib.Numerals.{add-one}
 use native.Mathlib.Omega.{arith}
 use lib.ListN.{length}
-use Rattle.records.specs.Record.{listed, word, putSlot}
-use Rattle.records.specs.RulesLaws.{listed-words}
+use Rattle.records.specs.Record.{recordWords, putSlot}
+use Rattle.image.specs.Bytes.{numberAt}
 use Rattle.image.specs.Format.{recordAt}
 use Rattle.image.specs.Checks.{rulesPut}
-use Rattle.image.specs.LoadLaws.{record-at-length}
 use Rattle.loads.proofs.fill.Statement.{statement}
 use Rattle.loads.proofs.fill.Tie as tie
 
 abbrev Inv-loop : tie.InvT-loop
-Inv-loop image rules table₀ entry₀ table entry = (entry ≤ rules) × (length table ≡ length table₀) × (table ≡ rulesPut 2 image rules table₀ entry)
+Inv-loop image rules table₀ width entry₀ table entry =
+    (entry ≤ rules) × (length table ≡ length table₀) × (table ≡ rulesPut width image rules table₀ entry)
 
 abbrev μ-loop : tie.MeasureT-loop
-μ-loop image rules table₀ entry₀ table entry = rules - entry
+μ-loop image rules table₀ width entry₀ table entry = rules - entry
 
 loop-holds : tie.Need-loop-holds Inv-loop μ-loop
 unfolding rulesPut
 loop-holds c = (omega arith, refl, refl)
 
-mul-number-at : tie.Need-mul-number-at Inv-loop μ-loop
-mul-number-at c = omega arith
+entry-place-requires : tie.Need-entry-place-requires Inv-loop μ-loop
+entry-place-requires c κs = omega arith
 
 add-number-at : tie.Need-add-number-at Inv-loop μ-loop
-add-number-at c = omega arith
-
-add-number-at-2 : tie.Need-add-number-at-2 Inv-loop μ-loop
-add-number-at-2 c = omega arith
+add-number-at c = omega (arith, c .entry-place .ensures)
 
 number-at-requires : tie.Need-number-at-requires Inv-loop μ-loop
-number-at-requires c κs = omega arith
+number-at-requires c κs = omega (arith, c .entry-place .ensures)
 
-record-at-requires : tie.Need-record-at-requires Inv-loop μ-loop
-record-at-requires c κs = omega arith
-
-put-record-requires : tie.Need-put-record-requires Inv-loop μ-loop
-put-record-requires c κs = omega (arith, c .before .before .number-at .ensures, c .before .before .before .before .before .before .before .pre .1 (c .before .before .before .before .loop .entry) (c .before .before .before .loop-test .taken), c .before .before .before .before .loop .inv .1)
+put-meant-requires : tie.Need-put-meant-requires Inv-loop μ-loop
+put-meant-requires c κs =
+    let a = c .before .before .before .before .before .before .before .args in
+    let asked = c .before .before .before .before .before .before .before .pre in
+    let turn = c .before .before .before .before .loop in (
+      asked .0 .0,
+      asked .0 .1,
+      c .before .before .before .loop-test .taken,
+      asked .0 .2,
+      omega (
+        arith,
+        c .before .number-at .ensures,
+        ap (λ (place : ℕ). numberAt (a .image .now) (place + 4) 2) (c .before .before .entry-place .ensures),
+        asked .1 (turn .entry) (c .before .before .before .loop-test .taken),
+        ap (λ (n : ℕ). n / recordWords (a .width)) (turn .inv .1),
+      ),
+    )
 
 add-entry : tie.Need-add-entry Inv-loop μ-loop
 add-entry c = omega arith
@@ -53,14 +62,13 @@ unfolding rulesPut
 loop-again c =
     let turn = c .before .before .before .before .before .before .before .loop in
     let a = c .before .before .before .before .before .before .before .before .before .before .args in
-    let words = c .before .before .before .record-at .result in
-    let whole : listed 6 (word words) ≡ words = listed-words 6 words (ap length (c .before .before .before .record-at .ensures) ∙ record-at-length 2 (a .image .now) (a .rules) (turn .entry)) in (
+    let x = recordAt (a .width) (a .image .now) (a .rules) (turn .entry) in (
       omega arith,
-      omega (arith, c .before .before .put-record .kept, turn .inv .1),
-      c .before .before .put-record .ensures
-          ∙ (ap₂ (λ (t x : List ℕ). putSlot 2 t (c .before .before .before .before .before .number-at .result) x) (turn .inv .2) (whole ∙ c .before .before .before .record-at .ensures)
-          ∙ (ap (λ (slot : ℕ). putSlot 2 (rulesPut 2 (a .image .now) (a .rules) (a .table .now) (turn .entry)) slot (recordAt 2 (a .image .now) (a .rules) (turn .entry))) (c .before .before .before .before .before .number-at .ensures)
-          ∙ ap (rulesPut 2 (a .image .now) (a .rules) (a .table .now)) (sym (add-one (turn .entry))))),
+      omega (arith, c .before .before .put-meant .kept, turn .inv .1),
+      c .before .before .put-meant .ensures
+          ∙ (ap₂ (λ (t : List ℕ) (slot : ℕ). putSlot (a .width) t slot x) (turn .inv .2)
+          (c .before .before .before .before .number-at .ensures ∙ ap (λ (place : ℕ). numberAt (a .image .now) (place + 4) 2) (c .before .before .before .before .before .entry-place .ensures))
+          ∙ ap (rulesPut (a .width) (a .image .now) (a .rules) (a .table .now)) (sym (add-one (turn .entry)))),
     )
 
 same-length : tie.Need-same-length Inv-loop μ-loop
@@ -70,7 +78,7 @@ returns : tie.Need-returns Inv-loop μ-loop
 returns c =
     let a = c .before .before .before .before .args in
     let end : c .before .loop .entry ≡ a .rules = omega arith in
-    c .before .loop .inv .2 ∙ ap (rulesPut 2 (a .image .now) (a .rules) (a .table .now)) end
+    c .before .loop .inv .2 ∙ ap (rulesPut (a .width) (a .image .now) (a .rules) (a .table .now)) end
 
 pub fill-spec : {M : Type 1} → statement M
 fill-spec =
@@ -79,12 +87,10 @@ fill-spec =
     Inv-loop
     μ-loop
     loop-holds
-    mul-number-at
+    entry-place-requires
     add-number-at
-    add-number-at-2
     number-at-requires
-    record-at-requires
-    put-record-requires
+    put-meant-requires
     add-entry
     loop-less
     loop-again

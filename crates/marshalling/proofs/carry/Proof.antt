@@ -8,9 +8,6 @@ use Rattle.marshalling.specs.CarriedLaws.{carried-refused, carry-ends}
 use Rattle.marshalling.proofs.carry.Statement.{statement}
 use Rattle.marshalling.proofs.carry.Tie as tie
 
-rule-from-requires : tie.Need-rule-from-requires
-rule-from-requires c κs = search needs
-
 step-requires : tie.Need-step-requires
 step-requires c κs = search needs
 
@@ -26,17 +23,17 @@ enum-known-cause c = search needs
 cause-number-requires : tie.Need-cause-number-requires
 cause-number-requires c κs = search needs
 
-cast-t22 : tie.Need-cast-t22
-cast-t22 c = search needs
+cast-t17 : tie.Need-cast-t17
+cast-t17 c = search needs
 
-cast-t23 : tie.Need-cast-t23
-cast-t23 c = search needs
+cast-t18 : tie.Need-cast-t18
+cast-t18 c = search needs
 
-mul-t24 : tie.Need-mul-t24
-mul-t24 c = search needs
+mul-t19 : tie.Need-mul-t19
+mul-t19 c = search needs
 
-add-t25 : tie.Need-add-t25
-add-t25 c = search needs
+add-t20 : tie.Need-add-t20
+add-t20 c = search needs
 
 same-length : tie.Need-same-length
 same-length c = search needs
@@ -45,8 +42,7 @@ returns : tie.Need-returns
 returns c =
     let a = c .before .before .before .before .before .before .before .before .before .before .args in
     let told = c .before .before .before .before .before .step .ensures in
-    carry-ends (now (a .table)) (now (a .plan)) (a .done) (a .total) (c .before .before .before .before .before .before .before .rule-from .ensures)
-    (sym (ap stepTold (c .before .info .given .1)) ∙ told .0) (told .1) refl
+    (carry-ends (a .width) (now (a .table)) (now (a .plan)) (now (a .rule)) (a .done) (a .total) (sym (ap stepTold (c .before .info .given .1)) ∙ told .0) refl, told .1)
 
 same-length-2 : tie.Need-same-length-2
 same-length-2 c = search needs
@@ -55,8 +51,7 @@ returns-2 : tie.Need-returns-2
 returns-2 c =
     let a = c .before .before .before .before .before .before .before .before .before .args in
     let told = c .before .before .before .before .step .ensures in
-    carry-ends (now (a .table)) (now (a .plan)) (a .done) (a .total) (c .before .before .before .before .before .before .rule-from .ensures)
-    (sym (ap stepTold (c .enum-told .given .1)) ∙ told .0) (told .1) refl
+    (carry-ends (a .width) (now (a .table)) (now (a .plan)) (now (a .rule)) (a .done) (a .total) (sym (ap stepTold (c .enum-told .given .1)) ∙ told .0) refl, told .1)
 
 same-length-3 : tie.Need-same-length-3
 same-length-3 c = search needs
@@ -65,23 +60,21 @@ returns-3 : tie.Need-returns-3
 returns-3 c =
     let a = c .before .before .before .before .before .before .before .before .before .before .before .args in
     let told = c .before .before .before .before .before .before .step .ensures in
-    carry-ends (now (a .table)) (now (a .plan)) (a .done) (a .total) (c .before .before .before .before .before .before .before .before .rule-from .ensures)
-    (sym (ap stepTold (c .before .before .cause .given .1)) ∙ told .0) (told .1) (carried-refused (c .before .before .cause .given .0 .0) _ (a .done) (c .cause-number .ensures))
+    (carry-ends (a .width) (now (a .table)) (now (a .plan)) (now (a .rule)) (a .done) (a .total) (sym (ap stepTold (c .before .before .cause .given .1)) ∙ told .0) (carried-refused (c .before .before .cause .given .0 .0) _ (a .done) (c .cause-number .ensures)), told .1)
 
 pub carry-spec : {M : Type 1} → statement M
 carry-spec =
     tie.close
     (tie.spec
-    rule-from-requires
     step-requires
     enum-known-info
     enum-told
     enum-known-cause
     cause-number-requires
-    cast-t22
-    cast-t23
-    mul-t24
-    add-t25
+    cast-t17
+    cast-t18
+    mul-t19
+    add-t20
     same-length
     returns
     same-length-2

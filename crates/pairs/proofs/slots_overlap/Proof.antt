@@ -1,38 +1,20 @@
 -- `pairs::slots_overlap` meets its contract.
--- The words at hand are the other slot's.
-use mathlib.Core.Path.{_∙_}
-use borrow.Author.Needs.{needs}
-use Rattle.search.specs.Search.{all}
-use Rattle.ternary.specs.Pattern.{overlaps}
+-- A width that is not 2 is 5.
+use Rattle.records.specs.WidthsLaws.{other-width}
 use Rattle.pairs.proofs.slots_overlap.Statement.{statement}
 use Rattle.pairs.proofs.slots_overlap.Tie as tie
 
-slot-word-requires : tie.Need-slot-word-requires
-slot-word-requires c κs = search needs
-
-slot-word-requires-2 : tie.Need-slot-word-requires-2
-slot-word-requires-2 c κs = search needs
-
-slot-word-requires-3 : tie.Need-slot-word-requires-3
-slot-word-requires-3 c κs = search needs
-
-slot-word-requires-4 : tie.Need-slot-word-requires-4
-slot-word-requires-4 c κs = search needs
-
-pattern-overlaps-requires : tie.Need-pattern-overlaps-requires
-pattern-overlaps-requires c κs = search needs
+slots-overlap-by-requires : tie.Need-slots-overlap-by-requires
+slots-overlap-by-requires c κs = rw (c .if1 .taken) at (c .before .before .before .pre)
 
 returns : tie.Need-returns
-unfolding overlaps all
-returns c = c .pattern-overlaps .ensures ∙ rw (c .before .slot-word4 .ensures, c .before .before .slot-word3 .ensures, c .before .before .before .slot-word2 .ensures, c .before .before .before .before .slot-word .ensures)
+returns c = rw (c .before .if1 .taken) (c .slots-overlap-by .ensures)
+
+slots-overlap-by-requires-2 : tie.Need-slots-overlap-by-requires-2
+slots-overlap-by-requires-2 c κs = rw (other-width (c .before .before .before .pre .0) (c .if1 .left)) at (c .before .before .before .pre)
+
+returns-2 : tie.Need-returns-2
+returns-2 c = rw (other-width (c .before .before .before .before .pre .0) (c .before .if1 .left)) (c .slots-overlap-by2 .ensures)
 
 pub slots-overlap-spec : {M : Type 1} → statement M
-slots-overlap-spec =
-    tie.close
-    (tie.spec
-    slot-word-requires
-    slot-word-requires-2
-    slot-word-requires-3
-    slot-word-requires-4
-    pattern-overlaps-requires
-    returns)
+slots-overlap-spec = tie.close (tie.spec slots-overlap-by-requires returns slots-overlap-by-requires-2 returns-2)

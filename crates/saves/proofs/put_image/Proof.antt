@@ -2,13 +2,15 @@
 -- Behind the header stand the rules, and past the image what stood there.
 use mathlib.Core.Path.{ap, _∙_}
 use Prim.Native.Nat.{ℕ}
-use native.Mathlib.Omega.{arith}
 use borrow.Author.Needs.{needs}
 use Rattle.image.specs.Bytes.{bytesOf, store}
 use Rattle.image.specs.SaveLaws.{image-stored}
 use Rattle.image.specs.Format.{stored}
 use Rattle.saves.proofs.put_image.Statement.{statement}
 use Rattle.saves.proofs.put_image.Tie as tie
+
+slot-count-requires : tie.Need-slot-count-requires
+slot-count-requires c κs = search needs
 
 put-number-requires : tie.Need-put-number-requires
 put-number-requires c κs = search needs
@@ -24,13 +26,22 @@ same-length c = search needs
 
 returns : tie.Need-returns
 returns c =
-    let a = c .before .before .before .before .before .before .before .before .before .before .before .before .before .before .args in
-    let e = c .before .before .before .before .before .before .before .before .before .before .before .before .before .before .pre .1 in
-    image-stored 2 (a .table .now) (a .image .now) (omega arith) (c .before .before .before .before .before .before .before .before .before .before .put-number .ensures)
-    (c .before .before .before .before .before .before .put-number2 .ensures ∙ ap (λ (n : ℕ). store (c .before .before .before .before .before .before .before .before .before .before .put-number .last .0) 2 (bytesOf 2 n)) e)
-    (c .before .before .put-rules .ensures ∙ ap (stored 2 (a .table .now) (c .before .before .before .before .before .before .put-number2 .last .0)) e)
+    let a = c .before .before .before .before .before .before .before .before .before .before .before .before .before .before .before .args in
+    let asked = c .before .before .before .before .before .before .before .before .before .before .before .before .before .before .before .pre in
+    let first = c .before .before .before .before .before .before .before .before .before .before .put-number in
+    let second = c .before .before .before .before .before .before .put-number2 in
+    image-stored (a .width) (a .table .now) (a .image .now) (rw (asked .2) at (asked .3))
+    (first .ensures ∙ ap (λ (n : ℕ). store (a .image .now) 0 (bytesOf 2 n)) (c .before .before .before .before .before .before .before .before .before .before .before .slot-count .ensures))
+    (second .ensures ∙ ap (λ (n : ℕ). store (first .last .0) 2 (bytesOf 2 n)) (asked .2))
+    (c .before .before .put-rules .ensures ∙ ap (stored (a .width) (a .table .now) (second .last .0)) (asked .2))
 
 pub put-image-spec : {M : Type 1} → statement M
 put-image-spec =
     tie.close
-    (tie.spec put-number-requires put-number-requires-2 put-rules-requires same-length returns)
+    (tie.spec
+    slot-count-requires
+    put-number-requires
+    put-number-requires-2
+    put-rules-requires
+    same-length
+    returns)

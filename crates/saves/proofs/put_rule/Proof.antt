@@ -1,32 +1,22 @@
 -- `saves::put_rule` meets its contract.
 -- The entry goes to the contents, the body to the bodies.
-use mathlib.Core.Path.{ap, _∙_}
+use mathlib.Core.Path.{ap, ap₂, _∙_}
 use mathlib.Core.List.{List}
 use Prim.Native.Nat.{ℕ}
+use native.Mathlib.Omega.{arith}
 use borrow.Author.Needs.{needs}
-use Rattle.records.specs.Record.{slotWords}
+use Rattle.records.specs.Record.{slotWords, ident}
 use Rattle.image.specs.Bytes.{store}
-use Rattle.image.specs.Format.{entryPlace, bodyPlace, entryOf, bodyOf}
+use Rattle.image.specs.Format.{entryPlace, entryOf, bodyOf}
+use Rattle.image.specs.SaveLaws.{body-within}
 use Rattle.saves.proofs.put_rule.Statement.{statement}
 use Rattle.saves.proofs.put_rule.Tie as tie
 
-mul-body : tie.Need-mul-body
-mul-body c = search needs
+body-place-requires : tie.Need-body-place-requires
+body-place-requires c κs = search needs
 
-add-body : tie.Need-add-body
-add-body c = search needs
-
-mul-body-2 : tie.Need-mul-body-2
-mul-body-2 c = search needs
-
-add-body-2 : tie.Need-add-body-2
-add-body-2 c = search needs
-
-mul-put-entry : tie.Need-mul-put-entry
-mul-put-entry c = search needs
-
-add-put-entry : tie.Need-add-put-entry
-add-put-entry c = search needs
+entry-place-requires : tie.Need-entry-place-requires
+entry-place-requires c κs = search needs
 
 slot-id-requires : tie.Need-slot-id-requires
 slot-id-requires c κs = search needs
@@ -35,30 +25,32 @@ put-entry-requires : tie.Need-put-entry-requires
 put-entry-requires c κs = search needs
 
 put-body-requires : tie.Need-put-body-requires
-put-body-requires c κs = search needs
+put-body-requires c κs =
+    let a = c .before .before .before .before .before .before .before .before .before .before .args in
+    let asked = c .before .before .before .before .before .before .before .before .before .before .pre in
+    (asked .0, omega (arith, c .before .before .before .before .before .before .before .body-place .ensures, body-within (a .width) (a .rules) (a .rule) (asked .2)), asked .3)
 
 same-length : tie.Need-same-length
 same-length c = search needs
 
 returns : tie.Need-returns
 returns c =
-    let a = c .before .before .before .before .before .before .before .before .before .before .before .args in
+    let a = c .before .before .before .before .before .before .before .before .before .before .before .before .before .args in
+    let x = slotWords (a .width) (a .table .now) (a .slot) in
+    let body = c .before .before .before .before .before .before .before .before .before .before .body-place in
     c .before .before .put-body .ensures
-    ∙ ap (λ (x : List ℕ). store x (bodyPlace 2 (a .rules) (a .rule)) (bodyOf 2 (slotWords 2 (a .table .now) (a .slot))))
+    ∙ ap₂ (λ (i : List ℕ) (p : ℕ). store i p (bodyOf (a .width) x))
     (c .before .before .before .before .before .before .put-entry .ensures
-    ∙ ap (λ (id : ℕ). store (a .image .now) (entryPlace (a .rule)) (entryOf id (a .slot) (bodyPlace 2 (a .rules) (a .rule))))
-    (c .before .before .before .before .before .before .before .slot-id .ensures))
+    ∙ (ap₂ (λ (p id : ℕ). store (a .image .now) p (entryOf id (a .slot) (body .result))) (c .before .before .before .before .before .before .before .before .entry-place .ensures) (c .before .before .before .before .before .before .before .slot-id .ensures)
+    ∙ ap (λ (p : ℕ). store (a .image .now) (entryPlace (a .rule)) (entryOf (ident (a .width) x) (a .slot) p)) (body .ensures)))
+    (body .ensures)
 
 pub put-rule-spec : {M : Type 1} → statement M
 put-rule-spec =
     tie.close
     (tie.spec
-    mul-body
-    add-body
-    mul-body-2
-    add-body-2
-    mul-put-entry
-    add-put-entry
+    body-place-requires
+    entry-place-requires
     slot-id-requires
     put-entry-requires
     put-body-requires

@@ -1,9 +1,10 @@
 -- `script_operations::delete` meets its contract.
--- The plan is carried out and printed, and the answer is the planning call's.
+-- The plan is carried out and printed, and the answer is the planning call's at two words.
 use mathlib.Core.Path.{_∙_}
 use native.Mathlib.Omega.{arith}
 use denote.Ref.{now}
 use borrow.Author.Needs.{needs}
+use Rattle.records.specs.Widths.{known, checkWidth}
 use Rattle.script_operations.specs.OutcomesLaws.{delete-is, delete-told, changed-is}
 use Rattle.script_operations.proofs.delete.Statement.{statement}
 use Rattle.script_operations.proofs.delete.Tie as tie
@@ -12,6 +13,7 @@ plan-delete-requires : tie.Need-plan-delete-requires
 plan-delete-requires c κs = search needs
 
 carry-and-print-requires : tie.Need-carry-and-print-requires
+unfolding checkWidth known
 carry-and-print-requires c κs =
     let s = c .before .before .before .before .before .before .before .before .before .before in
     let p = c .before .before .before .before .before .plan-delete in
@@ -27,6 +29,7 @@ same-length-2 : tie.Need-same-length-2
 same-length-2 c = search needs
 
 returns : tie.Need-returns
+unfolding checkWidth known
 returns c =
     let s = c .before .before .before .before .before .before .before .before .before .before .before .before .before .before in
     let p = c .before .before .before .before .before .before .before .before .before .plan-delete in (

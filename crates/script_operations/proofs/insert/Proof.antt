@@ -8,13 +8,13 @@ use Rattle.script_operations.specs.OutcomesLaws.{insert-is, insert-told,
 use Rattle.script_operations.proofs.insert.Statement.{statement}
 use Rattle.script_operations.proofs.insert.Tie as tie
 
-plan-insert-requires : tie.Need-plan-insert-requires
-plan-insert-requires c κs = search needs
+plan-rule-requires : tie.Need-plan-rule-requires
+plan-rule-requires c κs = search needs
 
 carry-and-print-requires : tie.Need-carry-and-print-requires
 carry-and-print-requires c κs =
     let s = c .before .before .before .before .before .before .before .before .before .before in
-    let p = c .before .before .before .before .before .plan-insert in
+    let p = c .before .before .before .before .before .plan-rule in
     (insert-is (now (s .args .table)) (s .args .rule) (now (s .args .plan)) (p .last .1 .1 .0) _ (omega arith) (s .pre) (p .ensures .0) (p .ensures .1 .0) .0, omega (arith, p .kept .1 .1 .0, s .pre))
 
 of-plan-requires : tie.Need-of-plan-requires
@@ -29,7 +29,7 @@ same-length-2 c = search needs
 returns : tie.Need-returns
 returns c =
     let s = c .before .before .before .before .before .before .before .before .before .before .before .before .before .before in
-    let p = c .before .before .before .before .before .before .before .before .before .plan-insert in (
+    let p = c .before .before .before .before .before .before .before .before .before .plan-rule in (
       changed-is (insert-is (now (s .args .table)) (s .args .rule) (now (s .args .plan)) (p .last .1 .1 .0) _ (omega arith) (s .pre) (p .ensures .0) (p .ensures .1 .0) .1) (c .before .before .before .carry-and-print .ensures),
       c .of-plan .ensures ∙ insert-told (now (s .args .table)) (s .args .rule) _ _ (omega arith) (s .pre) (p .ensures .0),
     )
@@ -38,7 +38,7 @@ pub insert-spec : {M : Type 1} → statement M
 insert-spec =
     tie.close
     (tie.spec
-    plan-insert-requires
+    plan-rule-requires
     carry-and-print-requires
     of-plan-requires
     same-length

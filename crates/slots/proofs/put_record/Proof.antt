@@ -1,119 +1,108 @@
 -- `slots::put_record` meets its contract.
--- Six stores in a row are the record's words in the slot.
+-- The words below the loop's are copied into the slot, and the rest of the table is as it was.
+use mathlib.Core.Path.{_≡_, refl, sym, ap, _∙_}
+use mathlib.Core.List.{List, _++_}
+use Prim.Native.Nat.{ℕ, _+_, _-_, _*_, _≤_}
 use native.Mathlib.Omega.{arith}
-use lib.ListN.{length-set}
+use native.Mathlib.Numerals.{add-one}
+use lib.ListN.{length, getD, set, take, drop, length-set}
+use lib.Seq.{paste, paste-zero, paste-suc, take-all}
+use denote.Ref.{now}
+use Rattle.records.specs.Record.{recordWords, putSlot}
+use Rattle.records.specs.Laws.{slot-within}
 use borrow.Author.Needs.{needs}
-use Rattle.records.specs.Record.{listed}
-use Rattle.records.specs.RulesLaws.{six-stores}
 use Rattle.slots.proofs.put_record.Statement.{statement}
 use Rattle.slots.proofs.put_record.Tie as tie
 
-mul-first : tie.Need-mul-first
-mul-first c = search needs
+abbrev Inv-loop : tie.InvT-loop
+Inv-loop table₀ slot words width first index₀ table index =
+    (index ≤ length words) × (first + length words ≤ length table₀) × (length table ≡ length table₀) × (table ≡ paste table₀ first words index)
 
-array-read-table : tie.Need-array-read-table
-array-read-table c = search needs
+abbrev μ-loop : tie.MeasureT-loop
+μ-loop table₀ slot words width first index₀ table index = length words - index
 
-mul-table : tie.Need-mul-table
-mul-table c = search needs
+record-words-requires : tie.Need-record-words-requires Inv-loop μ-loop
+record-words-requires c κs = search needs
 
-slice-write-table : tie.Need-slice-write-table
-slice-write-table c = search needs
+mul-first : tie.Need-mul-first Inv-loop μ-loop
+mul-first c = let e = c .before .before .before in rw (c .record-words .ensures) (omega (arith, slot-within (e .args .width) (now (e .args .table)) (e .args .slot) (e .pre .1)))
 
-array-read-table-2 : tie.Need-array-read-table-2
-array-read-table-2 c = search needs
+loop-holds : tie.Need-loop-holds Inv-loop μ-loop
+loop-holds c =
+    let e = c .before .before .before in (
+      omega arith,
+      rw (c .record-words .ensures) (omega (arith, slot-within (e .args .width) (now (e .args .table)) (e .args .slot) (e .pre .1))),
+      refl,
+      paste-zero (now (e .args .table)) (e .args .slot * c .record-words .result) (now (e .args .words)),
+    )
 
-add-table : tie.Need-add-table
-add-table c = search needs
+mul-table : tie.Need-mul-table Inv-loop μ-loop
+mul-table c = omega arith
 
-mul-table-2 : tie.Need-mul-table-2
-mul-table-2 c = search needs
+shared-slice-read-table : tie.Need-shared-slice-read-table Inv-loop μ-loop
+shared-slice-read-table c = omega arith
 
-slice-write-table-2 : tie.Need-slice-write-table-2
-slice-write-table-2 c = simp length-set (omega arith)
+add-table : tie.Need-add-table Inv-loop μ-loop
+add-table c = omega arith
 
-array-read-table-3 : tie.Need-array-read-table-3
-array-read-table-3 c = search needs
+mul-table-2 : tie.Need-mul-table-2 Inv-loop μ-loop
+mul-table-2 c = omega arith
 
-add-table-2 : tie.Need-add-table-2
-add-table-2 c = search needs
+slice-write-table : tie.Need-slice-write-table Inv-loop μ-loop
+slice-write-table c = omega arith
 
-mul-table-3 : tie.Need-mul-table-3
-mul-table-3 c = search needs
+add-index : tie.Need-add-index Inv-loop μ-loop
+add-index c = omega arith
 
-slice-write-table-3 : tie.Need-slice-write-table-3
-slice-write-table-3 c = simp length-set (omega arith)
+loop-less : tie.Need-loop-less Inv-loop μ-loop
+loop-less c = omega arith
 
-array-read-table-4 : tie.Need-array-read-table-4
-array-read-table-4 c = search needs
+loop-again : tie.Need-loop-again Inv-loop μ-loop
+loop-again c =
+    let l = c .before .before .loop in
+    let e = c .before .before .before .before .before .before in
+    let t = now (e .args .table) in
+    let words = now (e .args .words) in
+    let first = e .args .slot * c .before .before .before .record-words .result in (
+      omega arith,
+      l .inv .1,
+      length-set (l .table) _ _ ∙ l .inv .2,
+      ap (λ (u : List ℕ). set u (first + l .index) (getD words (l .index) 0)) (l .inv .3)
+          ∙ (paste-suc t first words (l .index) 0 (omega arith) (omega arith) ∙ ap (paste t first words) (sym (add-one (l .index)))),
+    )
 
-add-table-3 : tie.Need-add-table-3
-add-table-3 c = search needs
+same-length : tie.Need-same-length Inv-loop μ-loop
+same-length c = omega arith
 
-mul-table-4 : tie.Need-mul-table-4
-mul-table-4 c = search needs
-
-slice-write-table-4 : tie.Need-slice-write-table-4
-slice-write-table-4 c = simp length-set (omega arith)
-
-array-read-table-5 : tie.Need-array-read-table-5
-array-read-table-5 c = search needs
-
-add-table-4 : tie.Need-add-table-4
-add-table-4 c = search needs
-
-mul-table-5 : tie.Need-mul-table-5
-mul-table-5 c = search needs
-
-slice-write-table-5 : tie.Need-slice-write-table-5
-slice-write-table-5 c = simp length-set (omega arith)
-
-array-read-table-6 : tie.Need-array-read-table-6
-array-read-table-6 c = search needs
-
-add-table-5 : tie.Need-add-table-5
-add-table-5 c = search needs
-
-mul-table-6 : tie.Need-mul-table-6
-mul-table-6 c = search needs
-
-slice-write-table-6 : tie.Need-slice-write-table-6
-slice-write-table-6 c = simp length-set (omega arith)
-
-same-length : tie.Need-same-length
-same-length c = simp length-set
-
-returns : tie.Need-returns
-unfolding listed
-returns c = six-stores _ (c .args .slot) _ _ _ _ _ _ (omega arith)
+returns : tie.Need-returns Inv-loop μ-loop
+unfolding putSlot
+returns c =
+    let e = c .before .before .before .before .before in
+    let t = now (e .args .table) in
+    let words = now (e .args .words) in
+    let stride = recordWords (e .args .width) in
+    let first = e .args .slot * stride in
+    let done : c .before .loop .index ≡ stride = omega arith in
+    c .before .loop .inv .3
+    ∙ (ap (λ (n : ℕ). paste t (e .args .slot * n) words (c .before .loop .index)) (c .before .before .record-words .ensures)
+    ∙ (ap (paste t first words) done ∙ ap (λ (x : List ℕ). take first t ++ x ++ drop (first + stride) t) (take-all stride words (omega arith))))
 
 pub put-record-spec : {M : Type 1} → statement M
 put-record-spec =
     tie.close
     (tie.spec
+    Inv-loop
+    μ-loop
+    record-words-requires
     mul-first
-    array-read-table
+    loop-holds
     mul-table
-    slice-write-table
-    array-read-table-2
+    shared-slice-read-table
     add-table
     mul-table-2
-    slice-write-table-2
-    array-read-table-3
-    add-table-2
-    mul-table-3
-    slice-write-table-3
-    array-read-table-4
-    add-table-3
-    mul-table-4
-    slice-write-table-4
-    array-read-table-5
-    add-table-4
-    mul-table-5
-    slice-write-table-5
-    array-read-table-6
-    add-table-5
-    mul-table-6
-    slice-write-table-6
+    slice-write-table
+    add-index
+    loop-less
+    loop-again
     same-length
     returns)

@@ -30,24 +30,24 @@ returns c =
     (ap not (c .slot-zero .ensures))
 
 -- what is left of the definition where the slot has an id
-unsound-with-id : (t : List ℕ) (i id : ℕ) (bounded : Bool)
-    → id ≡ ident 2 (slotWords 2 t i)
+unsound-with-id : (w : ℕ) (t : List ℕ) (i id : ℕ) (bounded : Bool)
+    → id ≡ ident w (slotWords w t i)
     → (id ≡ 0 → ⊥)
-    → bounded ≡ (leb (rank 2 (slotWords 2 t i)) 65535 && within 2 (value (slotWords 2 t i)) (mask 2 (slotWords 2 t i)))
-    → not bounded ≡ unsoundAt 2 t i
+    → bounded ≡ (leb (rank w (slotWords w t i)) 65535 && within w (value (slotWords w t i)) (mask w (slotWords w t i)))
+    → not bounded ≡ unsoundAt w t i
 unfolding unsoundAt soundParts
-unsound-with-id t i id bounded e present b =
-    rw (ap (λ (k : ℕ). eqb k 0) (sym e) ∙ ne-eqb id 0 present, ident-not-empty 2 (slotWords 2 t i) (λ z. present (e ∙ z)), and-true) (ap not b)
+unsound-with-id w t i id bounded e present b =
+    rw (ap (λ (k : ℕ). eqb k 0) (sym e) ∙ ne-eqb id 0 present, ident-not-empty w (slotWords w t i) (λ z. present (e ∙ z)), and-true) (ap not b)
 
 returns-2 : tie.Need-returns-2
 returns-2 c =
     ap not (sym (c .if2 .taken))
-    ∙ unsound-with-id _ _ _ _ (c .before .before .before .slot-id .ensures) (c .before .before .if1 .left) (c .before .slot-bounded .ensures)
+    ∙ unsound-with-id _ _ _ _ _ (c .before .before .before .slot-id .ensures) (c .before .before .if1 .left) (c .before .slot-bounded .ensures)
 
 returns-3 : tie.Need-returns-3
 returns-3 c =
     ap not (sym (c .if2 .left))
-    ∙ unsound-with-id _ _ _ _ (c .before .before .before .slot-id .ensures) (c .before .before .if1 .left) (c .before .slot-bounded .ensures)
+    ∙ unsound-with-id _ _ _ _ _ (c .before .before .before .slot-id .ensures) (c .before .before .if1 .left) (c .before .slot-bounded .ensures)
 
 pub slot-unsound-spec : {M : Type 1} → statement M
 slot-unsound-spec =

@@ -4,22 +4,18 @@ use borrow.Author.Needs.{needs}
 use Rattle.slots.proofs.word_agrees.Statement.{statement}
 use Rattle.slots.proofs.word_agrees.Tie as tie
 
-slot-word-requires : tie.Need-slot-word-requires
-slot-word-requires c κs = search needs
+value-word-requires : tie.Need-value-word-requires
+value-word-requires c κs = search needs
 
-add-slot-word : tie.Need-add-slot-word
-add-slot-word c = search needs
-
-slot-word-requires-2 : tie.Need-slot-word-requires-2
-slot-word-requires-2 c κs = search needs
+mask-word-requires : tie.Need-mask-word-requires
+mask-word-requires c κs = search needs
 
 word-matches-requires : tie.Need-word-matches-requires
 word-matches-requires c κs = search needs
 
 returns : tie.Need-returns
-returns c = rw (c .word-matches .ensures, c .before .slot-word2 .ensures, c .before .before .slot-word .ensures)
+returns c = rw (c .word-matches .ensures, c .before .mask-word .ensures, c .before .before .value-word .ensures)
 
 pub word-agrees-spec : {M : Type 1} → statement M
 word-agrees-spec =
-    tie.close
-    (tie.spec slot-word-requires add-slot-word slot-word-requires-2 word-matches-requires returns)
+    tie.close (tie.spec value-word-requires mask-word-requires word-matches-requires returns)

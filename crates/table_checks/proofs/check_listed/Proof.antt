@@ -5,7 +5,8 @@ use mathlib.Core.Bool.{false≢true}
 use native.Mathlib.Omega.{arith}
 use borrow.Author.Needs.{needs}
 use Rattle.records.specs.Checks.{passes, tableChecks}
-use Rattle.records.specs.Laws.{failed, passed, slot-checks-length, slot-checks-law}
+use Rattle.records.specs.Laws.{failed, passed, slot-checks-law}
+use Rattle.table_checks.specs.SlotsLaws.{few-slots}
 use Rattle.table_checks.proofs.check_listed.Statement.{statement}
 use Rattle.table_checks.proofs.check_listed.Tie as tie
 
@@ -27,8 +28,8 @@ check-pairs-requires c κs =
     let start = c .before .before .before .before .before .before in
     let t = start .args .table .now in
     let pass = sym (c .before .before .before .check-slots .ensures) ∙ c .before .enum-told .given .1 in
-    let small = slot-checks-length 2 t pass in
-    ((omega arith, omega arith), slot-checks-law 2 t .0 pass .1)
+    let few = few-slots _ t pass in
+    ((start .pre .0, few, omega arith), slot-checks-law _ t .0 pass .1)
 
 same-length : tie.Need-same-length
 same-length c = search needs

@@ -1,57 +1,37 @@
 -- `table_checks::check_records` meets its contract.
--- No slot below the loop's is neither empty nor sound.
-use Prim.Native.Nat.{_-_}
-use mathlib.Core.Path.{sym, _∙_}
+-- The lowest slot that is neither empty nor sound is read, or the number of slots.
+use mathlib.Core.Path.{sym}
 use native.Mathlib.Omega.{arith}
-use Rattle.search.specs.SearchLaws.{NoneBelow, none-start, none-more}
-use Rattle.records.specs.Checks.{checkRecords, unsoundAt}
-use Rattle.records.specs.ChecksLaws.{lowest-at, lowest-none}
+use borrow.Author.Needs.{needs}
+use borrow.Author.Tests.{lt-ltb, le-ltb}
+use Rattle.records.specs.Order.{slots}
+use Rattle.records.specs.Checks.{checkRecords, lowest}
 use Rattle.table_checks.proofs.check_records.Statement.{statement}
 use Rattle.table_checks.proofs.check_records.Tie as tie
 
-abbrev Inv-loop : tie.InvT-loop
-Inv-loop table slots slot₀ slot = NoneBelow (unsoundAt 2 table) slots slot
+first-unsound-requires : tie.Need-first-unsound-requires
+first-unsound-requires c κs = search needs
 
-abbrev μ-loop : tie.MeasureT-loop
-μ-loop table slots slot₀ slot = slots - slot
+slot-count-requires : tie.Need-slot-count-requires
+slot-count-requires c κs = search needs
 
-loop-holds : tie.Need-loop-holds Inv-loop μ-loop
-loop-holds c = none-start _ _
+cast-t7 : tie.Need-cast-t7
+cast-t7 c = search needs
 
-slot-unsound-requires : tie.Need-slot-unsound-requires Inv-loop μ-loop
-slot-unsound-requires c κs = omega arith
+returns : tie.Need-returns
+unfolding checkRecords lowest
+returns c =
+    let called = c .before .before .first-unsound in
+    let start = c .before .before .before .before in
+    rw (sym (called .ensures), lt-ltb (called .result) (slots (start .args .width) (start .args .table .now)) (omega arith))
 
-cast-t8 : tie.Need-cast-t8 Inv-loop μ-loop
-cast-t8 c = omega arith
-
-returns : tie.Need-returns Inv-loop μ-loop
-unfolding checkRecords
-returns c = lowest-at _ _ _ _ (omega arith) (c .before .before .before .loop .inv .1) (sym (c .before .slot-unsound .ensures) ∙ c .if1 .taken)
-
-add-slot : tie.Need-add-slot Inv-loop μ-loop
-add-slot c = omega arith
-
-loop-less : tie.Need-loop-less Inv-loop μ-loop
-loop-less c = omega arith
-
-loop-again : tie.Need-loop-again Inv-loop μ-loop
-loop-again c = none-more _ _ _ (c .before .before .before .loop .inv) (omega arith) (sym (c .before .slot-unsound .ensures) ∙ c .if1 .left)
-
-returns-2 : tie.Need-returns-2 Inv-loop μ-loop
-unfolding checkRecords
-returns-2 c = lowest-none _ _ _ (λ k h. c .before .loop .inv .1 k (omega arith))
+returns-2 : tie.Need-returns-2
+unfolding checkRecords lowest
+returns-2 c =
+    let called = c .before .before .first-unsound in
+    let start = c .before .before .before .before in
+    rw (sym (called .ensures), le-ltb (called .result) (slots (start .args .width) (start .args .table .now)) (omega arith))
 
 pub check-records-spec : {M : Type 1} → statement M
 check-records-spec =
-    tie.close
-    (tie.spec
-    Inv-loop
-    μ-loop
-    loop-holds
-    slot-unsound-requires
-    cast-t8
-    returns
-    add-slot
-    loop-less
-    loop-again
-    returns-2)
+    tie.close (tie.spec first-unsound-requires slot-count-requires cast-t7 returns returns-2)

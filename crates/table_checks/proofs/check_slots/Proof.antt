@@ -3,7 +3,8 @@
 use mathlib.Core.Path.{sym, _∙_}
 use borrow.Author.Needs.{needs}
 use Rattle.records.specs.Checks.{slotChecks}
-use Rattle.records.specs.Laws.{failed, passed, shape-length}
+use Rattle.records.specs.Laws.{failed, passed}
+use Rattle.records.specs.EntriesLaws.{shaped-slots}
 use Rattle.table_checks.proofs.check_slots.Statement.{statement}
 use Rattle.table_checks.proofs.check_slots.Tie as tie
 
@@ -21,7 +22,7 @@ enum-told : tie.Need-enum-told
 enum-told c = search needs
 
 check-records-requires : tie.Need-check-records-requires
-check-records-requires c κs = shape-length 2 _ (sym (c .before .before .check-shape .ensures) ∙ c .enum-told .given .1)
+check-records-requires c κs = (c .before .before .before .before .pre, shaped-slots _ _ (sym (c .before .before .check-shape .ensures) ∙ c .enum-told .given .1) .1)
 
 returns-2 : tie.Need-returns-2
 unfolding slotChecks

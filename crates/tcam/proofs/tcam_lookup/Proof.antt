@@ -26,7 +26,7 @@ cause-number-requires c κs = search needs
 
 returns : tie.Need-returns
 returns c =
-    let a = c .before .before .before .before .before .args in
+    let a = c .before .before .before .before .before .before .args in
     let told =
     success-cells _ (now (a .slot)) (now (a .id)) (now (a .action)) (now (a .spot))
     (sym (ap lookupTold (c .before .hit .given .1)) ∙ c .before .before .before .lookup .ensures) in
@@ -34,7 +34,7 @@ returns c =
 
 returns-2 : tie.Need-returns-2
 returns-2 c =
-    let a = c .before .before .before .before .args in
+    let a = c .before .before .before .before .before .args in
     let told =
     success-cells [] (now (a .slot)) (now (a .id)) (now (a .action)) (now (a .spot))
     (sym (ap lookupTold (c .enum-told .given .1)) ∙ c .before .before .lookup .ensures) in
@@ -42,7 +42,7 @@ returns-2 c =
 
 returns-3 : tie.Need-returns-3
 returns-3 c =
-    let a = c .before .before .before .before .before .before .args in
+    let a = c .before .before .before .before .before .before .before .args in
     let told =
     refusal-cells (c .before .before .cause .given .0 .0) _ (now (a .slot)) (now (a .id)) (now (a .action)) (now (a .spot))
     (sym (ap lookupTold (c .before .before .cause .given .1)) ∙ c .before .before .before .before .lookup .ensures) in

@@ -1,9 +1,7 @@
 -- `windows::end_at` meets its contract.
 -- The slot at the position exists; an empty one has no window.
 use mathlib.Core.Path.{sym, _∙_}
-use Prim.Native.Nat.{_/_}
 use native.Mathlib.Omega.{arith}
-use lib.ListN.{length}
 use denote.Ref.{now}
 use borrow.Author.Needs.{needs}
 use Rattle.positions.specs.PositionsLaws.{slot-below}
@@ -13,45 +11,50 @@ use Rattle.windows.specs.ListedLaws.{listed-window}
 use Rattle.windows.proofs.end_at.Statement.{statement}
 use Rattle.windows.proofs.end_at.Tie as tie
 
+slot-count-requires : tie.Need-slot-count-requires
+slot-count-requires c κs = search needs
+
 slot-at-requires : tie.Need-slot-at-requires
 slot-at-requires c κs = search needs
 
 slot-vacant-requires : tie.Need-slot-vacant-requires
 slot-vacant-requires c κs =
-    let a = c .before .before .before .args in
-    let checks = c .before .before .before .pre .1 .0 in (
-      omega (arith, c .slot-at .ensures, slot-below (length (now (a .table)) / 6) (a .up) (a .position) (omega arith)),
-      slot-checks-law 2 (now (a .table)) .0 (table-checks-law 2 (now (a .table)) .0 checks .0) .1,
+    let e = c .before .before .before .before in
+    let a = e .args in (
+      (e .pre .0 .0, omega (arith, c .slot-at .ensures, slot-below (c .before .slot-count .result) (a .up) (a .position) (omega arith))),
+      slot-checks-law (a .mode .width) (now (a .table)) .0 (table-checks-law (a .mode .width) (now (a .table)) .0 (e .pre .1 .0) .0) .1,
     )
 
 returns : tie.Need-returns
 returns c =
-    let a = c .before .before .before .before .before .args in
-    sym (end-empty 2 (now (a .table)) (a .up) (a .position)
-    (rw (c .before .before .slot-at .ensures) at (sym (c .before .slot-vacant .ensures) ∙ c .if1 .taken)))
+    let a = c .before .before .before .before .before .before .args in
+    sym (end-empty (a .mode .width) (now (a .table)) (a .up) (a .position)
+    (rw (c .before .before .slot-at .ensures, c .before .before .before .slot-count .ensures) at (sym (c .before .slot-vacant .ensures) ∙ c .if1 .taken)))
 
 window-end-requires : tie.Need-window-end-requires
 window-end-requires c κs = search needs
 
 cast-result : tie.Need-cast-result
 cast-result c =
-    let a = c .before .before .before .before .before .before .args in
-    let pre = c .before .before .before .before .before .before .pre in
-    omega (arith, c .window-end .ensures, listed-window 2 (now (a .table)) (now (a .near)) (pre .1 .0) (pre .1 .1) (a .up) (a .position) (omega arith), window-high 2 (now (a .table)) (a .up) (a .position))
+    let e = c .before .before .before .before .before .before .before in
+    let a = e .args in
+    omega (arith, rw (c .before .before .before .before .slot-count .ensures) at (c .window-end .ensures), listed-window (a .mode .width) (now (a .table)) (now (a .near)) (e .pre .1 .0) (e .pre .1 .1) (a .up) (a .position) (omega arith), window-high (a .mode .width) (now (a .table)) (a .up) (a .position))
 
 returns-2 : tie.Need-returns-2
 returns-2 c =
-    let a = c .before .before .before .before .before .before .args in
-    let pre = c .before .before .before .before .before .before .pre in
-    c .window-end .ensures
-    ∙ (listed-window 2 (now (a .table)) (now (a .near)) (pre .1 .0) (pre .1 .1) (a .up) (a .position) (omega arith)
-    ∙ sym (end-window 2 (now (a .table)) (a .up) (a .position)
-    (rw (c .before .before .before .slot-at .ensures) at (sym (c .before .before .slot-vacant .ensures) ∙ c .before .if1 .left))))
+    let e = c .before .before .before .before .before .before .before in
+    let a = e .args in
+    let count = c .before .before .before .before .slot-count .ensures in
+    rw count at (c .window-end .ensures)
+    ∙ (listed-window (a .mode .width) (now (a .table)) (now (a .near)) (e .pre .1 .0) (e .pre .1 .1) (a .up) (a .position) (omega arith)
+    ∙ sym (end-window (a .mode .width) (now (a .table)) (a .up) (a .position)
+    (rw (c .before .before .before .slot-at .ensures, count) at (sym (c .before .before .slot-vacant .ensures) ∙ c .before .if1 .left))))
 
 pub end-at-spec : {M : Type 1} → statement M
 end-at-spec =
     tie.close
     (tie.spec
+    slot-count-requires
     slot-at-requires
     slot-vacant-requires
     returns

@@ -1,75 +1,38 @@
 -- `windows::fill_ends` meets its contract.
--- The positions below the loop's have their numbers, and the rest of the array is as it was.
-use mathlib.Core.Path.{_≡_, refl, ap, ap₂, _∙_}
-use mathlib.Core.List.{List, _++_}
-use Prim.Native.Nat.{ℕ, _-_, _/_, _≤_}
-use native.Mathlib.Omega.{arith}
+-- A width that is not 2 is 5.
 use borrow.Author.Needs.{needs}
-use lib.ListN.{length, drop, set, length-set}
-use denote.Ref.{now}
-use Rattle.records.specs.Record.{listed}
-use Rattle.windows.specs.Windows.{endAt}
-use Rattle.windows.specs.WindowsLaws.{fill-next}
+use Rattle.records.specs.WidthsLaws.{other-width}
 use Rattle.windows.proofs.fill_ends.Statement.{statement}
 use Rattle.windows.proofs.fill_ends.Tie as tie
 
-abbrev Inv-loop : tie.InvT-loop
-Inv-loop table near up ends₀ slots position₀ ends position =
-    (position ≤ slots) × (length ends ≡ length ends₀) × (ends ≡ listed position (endAt 2 table up) ++ drop position ends₀)
+fill-ends-by-requires : tie.Need-fill-ends-by-requires
+fill-ends-by-requires c κs = rw (c .before .if1 .taken) at (c .before .before .before .before .before .before .pre)
 
-abbrev μ-loop : tie.MeasureT-loop
-μ-loop table near up ends₀ slots position₀ ends position = slots - position
+fill-ends-by-requires-2 : tie.Need-fill-ends-by-requires-2
+fill-ends-by-requires-2 c κs =
+    let start = c .before .before .before .before .before .before in rw (other-width (start .pre .0 .0) (c .before .if1 .left)) at (start .pre)
 
-loop-holds : tie.Need-loop-holds Inv-loop μ-loop
-unfolding listed
-loop-holds c = (omega arith, refl, refl)
+same-length : tie.Need-same-length
+same-length c = search needs
 
-end-at-requires : tie.Need-end-at-requires Inv-loop μ-loop
-end-at-requires c κs = (omega arith, search needs)
+returns : tie.Need-returns
+returns c = rw (c .before .before .before .before .if1 .taken) (c .before .before .fill-ends-by .ensures)
 
-mul-ends : tie.Need-mul-ends Inv-loop μ-loop
-mul-ends c = omega arith
+same-length-2 : tie.Need-same-length-2
+same-length-2 c = search needs
 
-slice-write-ends : tie.Need-slice-write-ends Inv-loop μ-loop
-slice-write-ends c = omega arith
-
-add-position : tie.Need-add-position Inv-loop μ-loop
-add-position c = omega arith
-
-loop-less : tie.Need-loop-less Inv-loop μ-loop
-loop-less c = omega arith
-
-loop-again : tie.Need-loop-again Inv-loop μ-loop
-loop-again c =
-    let a = c .before .before .before .before .before .before .args in
-    let inv = c .before .before .loop .inv in
-    let i = c .before .before .loop .position in (
-      omega arith,
-      length-set (c .before .before .loop .ends) i (c .end-at .result) ∙ inv .1,
-      ap₂ (λ (l : List ℕ) (v : ℕ). set l i v) (inv .2) (c .end-at .ensures) ∙ fill-next (endAt 2 (now (a .table)) (a .up)) (now (a .ends)) i (omega arith),
-    )
-
-same-length : tie.Need-same-length Inv-loop μ-loop
-same-length c = omega arith
-
-returns : tie.Need-returns Inv-loop μ-loop
-returns c =
-    let a = c .before .before .before .before .before .args in
-    let done : c .before .loop .position ≡ length (now (a .table)) / 6 = omega arith in
-    c .before .loop .inv .2 ∙ ap (λ (n : ℕ). listed n (endAt 2 (now (a .table)) (a .up)) ++ drop n (now (a .ends))) done
+returns-2 : tie.Need-returns-2
+returns-2 c =
+    let start = c .before .before .before .before .before .before .before .before .before in
+    rw (other-width (start .pre .0 .0) (c .before .before .before .before .if1 .left)) (c .before .before .fill-ends-by2 .ensures)
 
 pub fill-ends-spec : {M : Type 1} → statement M
 fill-ends-spec =
     tie.close
     (tie.spec
-    Inv-loop
-    μ-loop
-    loop-holds
-    end-at-requires
-    mul-ends
-    slice-write-ends
-    add-position
-    loop-less
-    loop-again
+    fill-ends-by-requires
+    fill-ends-by-requires-2
     same-length
-    returns)
+    returns
+    same-length-2
+    returns-2)

@@ -13,10 +13,10 @@ put-fits-requires : tie.Need-put-fits-requires
 put-fits-requires c κs = search needs
 
 returns : tie.Need-returns
-returns c = let a = c .before .before .before .before .args in copy-passed 2 (now (a .table)) (a .from) (a .to) (c .before .before .rule-in .ensures) (c .put-fits .ensures) (c .before .if1 .taken)
+returns c = let a = c .before .before .before .before .args in copy-passed (a .width) (now (a .table)) (a .from) (a .to) (c .before .before .rule-in .ensures) (c .put-fits .ensures) (c .before .if1 .taken)
 
 returns-2 : tie.Need-returns-2
-returns-2 c = let a = c .before .before .before .args in copy-stopped 2 (now (a .table)) (a .from) (a .to) (c .before .rule-in .ensures) (c .if1 .left)
+returns-2 c = let a = c .before .before .before .args in copy-stopped (a .width) (now (a .table)) (a .from) (a .to) (c .before .rule-in .ensures) (c .if1 .left)
 
 pub copy-fits-spec : {M : Type 1} → statement M
 copy-fits-spec = tie.close (tie.spec rule-in-requires put-fits-requires returns returns-2)

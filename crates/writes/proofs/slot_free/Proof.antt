@@ -10,13 +10,13 @@ slot-empty-requires : tie.Need-slot-empty-requires
 slot-empty-requires c κs = search needs
 
 returns : tie.Need-returns
-returns c = free-empty 2 _ _ (sym (c .before .slot-empty .ensures) ∙ c .if1 .taken)
+returns c = free-empty _ _ _ (sym (c .before .slot-empty .ensures) ∙ c .if1 .taken)
 
 stands-elsewhere-requires : tie.Need-stands-elsewhere-requires
 stands-elsewhere-requires c κs = search needs
 
 returns-2 : tie.Need-returns-2
-returns-2 c = c .stands-elsewhere .ensures ∙ free-occupied 2 _ _ (sym (c .before .before .slot-empty .ensures) ∙ c .before .if1 .left)
+returns-2 c = c .stands-elsewhere .ensures ∙ free-occupied _ _ _ (sym (c .before .before .slot-empty .ensures) ∙ c .before .if1 .left)
 
 pub slot-free-spec : {M : Type 1} → statement M
 slot-free-spec =

@@ -3,22 +3,26 @@
 use Prim.Native.Nat.{_-_}
 use mathlib.Core.Path.{sym, _∙_}
 use native.Mathlib.Omega.{arith}
+use borrow.Author.Needs.{needs}
 use Rattle.search.specs.SearchLaws.{NoneBelow, none-start, none-more, any-some, any-none}
 use Rattle.records.specs.Writes.{heldAt, standsElsewhere}
 use Rattle.writes.proofs.stands_elsewhere.Statement.{statement}
 use Rattle.writes.proofs.stands_elsewhere.Tie as tie
 
 abbrev Inv-loop : tie.InvT-loop
-Inv-loop table slot slots other₀ other = NoneBelow (heldAt 2 table slot) slots other
+Inv-loop table slot width slots other₀ other = NoneBelow (heldAt width table slot) slots other
 
 abbrev μ-loop : tie.MeasureT-loop
-μ-loop table slot slots other₀ other = slots - other
+μ-loop table slot width slots other₀ other = slots - other
+
+slot-count-requires : tie.Need-slot-count-requires Inv-loop μ-loop
+slot-count-requires c κs = search needs
 
 loop-holds : tie.Need-loop-holds Inv-loop μ-loop
 loop-holds c = none-start _ _
 
 held-at-requires : tie.Need-held-at-requires Inv-loop μ-loop
-held-at-requires c κs = (c .before .before .before .pre, omega arith)
+held-at-requires c κs = let p = c .before .before .before .before .pre in (p .0, p .1, omega (arith, c .before .before .slot-count .ensures))
 
 returns : tie.Need-returns Inv-loop μ-loop
 unfolding standsElsewhere
@@ -43,6 +47,7 @@ stands-elsewhere-spec =
     (tie.spec
     Inv-loop
     μ-loop
+    slot-count-requires
     loop-holds
     held-at-requires
     returns

@@ -42,13 +42,13 @@ rule-in-requires : tie.Need-rule-in-requires
 rule-in-requires c κs = search needs
 
 returns : tie.Need-returns
-returns c = c .copy-fits .ensures ∙ write-fitting 2 (now (c .before .before .before .before .before .before .args .table)) (c .before .before .before .before .before .before .args .word) (write-taken (c .before .before .before .before .write-of .ensures) (c .before .before .from .given .1))
+returns c = c .copy-fits .ensures ∙ write-fitting (c .before .before .before .before .before .before .args .width) (now (c .before .before .before .before .before .before .args .table)) (c .before .before .before .before .before .before .args .word) (write-taken (c .before .before .before .before .write-of .ensures) (c .before .before .from .given .1))
 
 returns-2 : tie.Need-returns-2
-returns-2 c = c .put-fits .ensures ∙ write-fitting 2 (now (c .before .before .before .before .before .before .args .table)) (c .before .before .before .before .before .before .args .word) (write-taken (c .before .before .before .before .write-of .ensures) (c .before .before .to .given .1))
+returns-2 c = c .put-fits .ensures ∙ write-fitting (c .before .before .before .before .before .before .args .width) (now (c .before .before .before .before .before .before .args .table)) (c .before .before .before .before .before .before .args .word) (write-taken (c .before .before .before .before .write-of .ensures) (c .before .before .to .given .1))
 
 returns-3 : tie.Need-returns-3
-returns-3 c = c .rule-in .ensures ∙ write-fitting 2 (now (c .before .before .before .before .before .before .args .table)) (c .before .before .before .before .before .before .args .word) (write-taken (c .before .before .before .before .write-of .ensures) (c .before .before .slot .given .1))
+returns-3 c = c .rule-in .ensures ∙ write-fitting (c .before .before .before .before .before .before .args .width) (now (c .before .before .before .before .before .before .args .table)) (c .before .before .before .before .before .before .args .word) (write-taken (c .before .before .before .before .write-of .ensures) (c .before .before .slot .given .1))
 
 pub word-fits-spec : {M : Type 1} → statement M
 word-fits-spec =

@@ -13,18 +13,18 @@ use Rattle.bitmaps.proofs.maps.fill_word.Statement.{statement}
 use Rattle.bitmaps.proofs.maps.fill_word.Tie as tie
 
 abbrev Inv-loop : tie.InvT-loop
-Inv-loop table slot word places count chosen starts others₀ own₀ before value left₀ used₀ others own left used =
-    (length others ≡ length others₀) × (length own ≡ length own₀) × RowsOf 2 table places count slot others own used
-    × Walk (bitAnd (mask 2 (slotWords 2 table slot) word) (getD chosen word 0)) left used (total chosen (word + 1))
+Inv-loop table slot word places count chosen starts others₀ own₀ before width value left₀ used₀ others own left used =
+    (length others ≡ length others₀) × (length own ≡ length own₀) × RowsOf width table places count slot others own used
+    × Walk (bitAnd (mask width (slotWords width table slot) word) (getD chosen word 0)) left used (total chosen (word + 1))
 
 abbrev μ-loop : tie.MeasureT-loop
-μ-loop table slot word places count chosen starts others₀ own₀ before value left₀ used₀ others own left used = left
+μ-loop table slot word places count chosen starts others₀ own₀ before width value left₀ used₀ others own left used = left
 
 value-word-requires : tie.Need-value-word-requires Inv-loop μ-loop
-value-word-requires c κs = omega arith
+value-word-requires c κs = let p = c .before .before .before .before .before .before .pre .0 in (p .0, p .1, p .2)
 
 mask-word-requires : tie.Need-mask-word-requires Inv-loop μ-loop
-mask-word-requires c κs = omega arith
+mask-word-requires c κs = let p = c .before .before .before .before .before .before .before .pre .0 in (p .0, p .1, p .2)
 
 mul-left : tie.Need-mul-left Inv-loop μ-loop
 mul-left c = omega arith
@@ -36,11 +36,11 @@ loop-holds : tie.Need-loop-holds Inv-loop μ-loop
 loop-holds c =
     let start = c .before .before .before .before .before .before .before .before .before in
     let a = start .args in
-    let cares = mask 2 (slotWords 2 (a .table .now) (a .slot)) (a .word) in
+    let cares = mask (a .width) (slotWords (a .width) (a .table .now) (a .slot)) (a .word) in
     let chosen = getD (a .chosen .now) (a .word) 0 in
     let e = c .before .mask-word .ensures in
     let small : bitAnd cares chosen < 18446744073709551616 = omega (arith, and-le-l cares chosen, e, c .before .mask-word .ok) in
-    (refl, refl, start .pre .1 .1, rw e (walk-start (a .chosen .now) cares (a .word) (a .before) small (start .pre .0 .7)))
+    (refl, refl, start .pre .1 .1, rw e (walk-start (a .chosen .now) cares (a .word) (a .before) small (start .pre .0 .8)))
 
 top-requires : tie.Need-top-requires Inv-loop μ-loop
 top-requires c κs = omega arith
@@ -70,12 +70,15 @@ at-bit c =
     let a = start .args in
     let l = c .before .before .loop in
     let t = c .top .result in
-    let asked = bitAnd (mask 2 (slotWords 2 (a .table .now) (a .slot)) (a .word)) (getD (a .chosen .now) (a .word) 0) in
-    let hit = shared-bit (mask 2 (slotWords 2 (a .table .now) (a .slot)) (a .word)) (getD (a .chosen .now) (a .word) 0) t (l .inv .3 .was t (c .top .ensures .hit)) .1 in
+    let asked = bitAnd (mask (a .width) (slotWords (a .width) (a .table .now) (a .slot)) (a .word)) (getD (a .chosen .now) (a .word) 0) in
+    let hit = shared-bit (mask (a .width) (slotWords (a .width) (a .table .now) (a .slot)) (a .word)) (getD (a .chosen .now) (a .word) 0) t (l .inv .3 .was t (c .top .ensures .hit)) .1 in
     let found = start .pre .1 .0 .1 (a .word) t (c .top .ensures .below) hit in
     let room = walk-room asked (l .left) (l .used) (total (a .chosen .now) (a .word + 1)) t (l .inv .3) (c .top .ensures) in
-    let most = total-more (a .chosen .now) (a .word + 1) 2 (omega (arith, start .pre .0 .1)) in
+    let most = total-more (a .chosen .now) (a .word + 1) (a .width) (omega (arith, start .pre .0 .2)) in
     (omega (arith, found .1, found .2), omega (arith, room, most, start .pre .1 .0 .0))
+
+cast-row : tie.Need-cast-row Inv-loop μ-loop
+cast-row c = omega (arith, at-bit (c .before .before) .0)
 
 sub-others : tie.Need-sub-others Inv-loop μ-loop
 sub-others c = omega (arith, c .before .digit .ensures .1)
@@ -122,15 +125,15 @@ loop-again c =
     let l = c .before .before .before .before .before .loop in
     let t = c .before .before .before .top in
     let v = c .before .before .digit in
-    let asked = bitAnd (mask 2 (slotWords 2 (a .table .now) (a .slot)) (a .word)) (getD (a .chosen .now) (a .word) 0) in
+    let asked = bitAnd (mask (a .width) (slotWords (a .width) (a .table .now) (a .slot)) (a .word)) (getD (a .chosen .now) (a .word) 0) in
     let room = at-bit (c .before .before .before) .1 in
     let others = l .inv .0 in
     let own = l .inv .1 in
-    let e : bit (slotWords 2 (a .table .now) (a .slot) (a .word)) (t .result) ≡ v .result =
+    let e : bit (slotWords (a .width) (a .table .now) (a .slot) (a .word)) (t .result) ≡ v .result =
     sym (v .ensures .0 ∙ ap (λ (x : ℕ). bit x (t .result)) (c .before .before .before .before .before .before .before .before .value-word .ensures)) in (
       simp length-set others,
       simp length-set own,
-      filled-bit 2 (a .table .now) (a .places .now) (a .count) (a .slot) (a .chosen .now) (a .starts .now) (l .others) (l .own) (a .word) (t .result) (v .result) (l .used)
+      filled-bit (a .width) (a .table .now) (a .places .now) (a .count) (a .slot) (a .chosen .now) (a .starts .now) (l .others) (l .own) (a .word) (t .result) (v .result) (l .used)
           (omega arith) (omega arith) (t .ensures .below) (v .ensures .1) (start .pre .1 .0 .1) (l .inv .3 .was (t .result) (t .ensures .hit)) e (l .inv .2),
       rw (c .drop-bit .ensures) (walk-on asked (l .left) (l .used) (total (a .chosen .now) (a .word + 1)) (t .result) (l .inv .3) (t .ensures)),
     )
@@ -161,6 +164,7 @@ fill-word-spec =
     add-row
     mul-row-2
     shared-slice-read-row
+    cast-row
     sub-others
     mul-others
     add-others

@@ -9,13 +9,13 @@ slice-aggregate-fill-scores : tie.Need-slice-aggregate-fill-scores
 slice-aggregate-fill-scores c = search needs
 
 fill-scores-requires : tie.Need-fill-scores-requires
-fill-scores-requires c κs = omega arith
+fill-scores-requires c κs = let p = c .before .before .before .pre in (p .0, p .1, omega arith)
 
 slice-aggregate-take-places : tie.Need-slice-aggregate-take-places
 slice-aggregate-take-places c = search needs
 
 take-places-requires : tie.Need-take-places-requires
-take-places-requires c κs = (search needs, search needs, c .before .before .before .fill-scores .ensures)
+take-places-requires c κs = (c .before .before .before .before .before .before .before .pre .0, omega arith, search needs, c .before .before .before .fill-scores .ensures)
 
 same-length : tie.Need-same-length
 same-length c = search needs

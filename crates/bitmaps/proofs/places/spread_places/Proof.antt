@@ -1,6 +1,6 @@
 -- `bitmaps::places::spread_places` meets its contract. The loop's invariant: the first k places are spread.
 use mathlib.Core.Path.{_≡_, refl}
-use Prim.Native.Nat.{_-_, _/_, _%_, _<_, _≤_}
+use Prim.Native.Nat.{_-_, _*_, _/_, _%_, _<_, _≤_}
 use native.Mathlib.Omega.{arith}
 use lib.ListN.{length, getD, length-set}
 use Rattle.bitmaps.specs.Rows.{Spread, total}
@@ -9,15 +9,15 @@ use Rattle.bitmaps.proofs.places.spread_places.Statement.{statement}
 use Rattle.bitmaps.proofs.places.spread_places.Tie as tie
 
 abbrev Inv-loop : tie.InvT-loop
-Inv-loop places count chosen₀ starts₀ k₀ chosen starts k = (k ≤ count) × (length chosen ≡ length chosen₀) × (length starts ≡ length starts₀) × (total chosen 2 ≤ k) × Spread places k chosen starts
+Inv-loop places count chosen₀ starts₀ width k₀ chosen starts k = (k ≤ count) × (length chosen ≡ length chosen₀) × (length starts ≡ length starts₀) × (total chosen width ≤ k) × Spread places k chosen starts
 
 abbrev μ-loop : tie.MeasureT-loop
-μ-loop places count chosen₀ starts₀ k₀ chosen starts k = count - k
+μ-loop places count chosen₀ starts₀ width k₀ chosen starts k = count - k
 
 loop-holds : tie.Need-loop-holds Inv-loop μ-loop
 loop-holds c =
     let a = c .before .before .before .args in
-    (omega arith, refl, refl, omega (arith, total-none (a .chosen .now) (c .before .before .before .pre .1 .1) 2), spread-none (a .places .now) 0 (a .chosen .now) (a .starts .now) (c .before .before .before .pre .1 .1))
+    (omega arith, refl, refl, omega (arith, total-none (a .chosen .now) (c .before .before .before .pre .1 .1) (a .width)), spread-none (a .places .now) 0 (a .chosen .now) (a .starts .now) (c .before .before .before .pre .1 .1))
 
 mul-place : tie.Need-mul-place Inv-loop μ-loop
 mul-place c = omega arith
@@ -26,7 +26,7 @@ shared-slice-read-place : tie.Need-shared-slice-read-place Inv-loop μ-loop
 shared-slice-read-place c = omega arith
 
 -- the place that a turn reads
-place : (c : tie.In-loop Inv-loop μ-loop) → getD (c .before .before .before .before .before .args .places .now) (c .before .loop .k) 0 < 128
+place : (c : tie.In-loop Inv-loop μ-loop) → getD (c .before .before .before .before .before .args .places .now) (c .before .loop .k) 0 < 64 * c .before .before .before .before .before .args .width
 place c = c .before .before .before .before .before .pre .1 .0 (c .before .loop .k) (c .loop-test .taken)
 
 mul-set-bit : tie.Need-mul-set-bit Inv-loop μ-loop
@@ -46,6 +46,9 @@ slice-write-chosen c = omega (arith, place (c .before .before .before))
 
 mul-starts : tie.Need-mul-starts Inv-loop μ-loop
 mul-starts c = omega arith
+
+cast-starts : tie.Need-cast-starts Inv-loop μ-loop
+cast-starts c = omega arith
 
 mul-starts-2 : tie.Need-mul-starts-2 Inv-loop μ-loop
 mul-starts-2 c = omega (arith, place (c .before .before .before))
@@ -70,7 +73,7 @@ loop-again c =
       omega arith,
       simp length-set chosen,
       simp length-set starts,
-      rw e (omega (arith, total-with (l .chosen) (getD (a .places .now) (l .k) 0 / 64) (getD (a .places .now) (l .k) 0 % 64) 2 (omega arith), l .inv .3)),
+      rw e (omega (arith, total-with (l .chosen) (getD (a .places .now) (l .k) 0 / 64) (getD (a .places .now) (l .k) 0 % 64) (a .width) (omega arith), l .inv .3)),
       rw e (spread-more (a .places .now) (l .chosen) (l .starts) (l .k) (getD (a .places .now) (l .k) 0) (omega arith) (omega arith) refl (l .inv .4)),
     )
 
@@ -100,6 +103,7 @@ spread-places-spec =
     mul-chosen
     slice-write-chosen
     mul-starts
+    cast-starts
     mul-starts-2
     slice-write-starts
     add-k

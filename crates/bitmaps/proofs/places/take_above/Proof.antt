@@ -1,9 +1,9 @@
 -- `bitmaps::places::take_above` meets its contract.
--- A score of at most 256 leaves half of what was left, and a place that is taken is below 128.
+-- A score of at most 256 leaves half of what was left, and a place that is taken is below the number of places.
 use mathlib.Core.Path.{_≡_, refl, ap, _∙_}
 use mathlib.Core.Logic.{⊎-elim}
 use mathlib.Core.Bool.{_&&_}
-use Prim.Native.Nat.{_-_, _≤_}
+use Prim.Native.Nat.{_-_, _*_, _≤_}
 use native.Mathlib.Omega.{arith}
 use lib.Dec.{ltb}
 use lib.ListN.{length, getD, length-set}
@@ -13,19 +13,25 @@ use Rattle.bitmaps.proofs.places.take_above.Statement.{statement}
 use Rattle.bitmaps.proofs.places.take_above.Tie as tie
 
 abbrev Inv-loop : tie.InvT-loop
-Inv-loop scores₀ places₀ level left₀ count₀ place₀ scores places left count place = (place ≤ 128) × (count ≤ 64) × (left ≤ 1073741824) × (length scores ≡ length scores₀) × (length places ≡ length places₀) × Below scores 128 257 × Below places count 128
+Inv-loop scores₀ places₀ level width left₀ count₀ place₀ scores places left count place = (place ≤ 64 * width) × (count ≤ 64) × (left ≤ 1073741824) × (length scores ≡ length scores₀) × (length places ≡ length places₀) × Below scores (64 * width) 257 × Below places count (64 * width)
 
 abbrev μ-loop : tie.MeasureT-loop
-μ-loop scores₀ places₀ level left₀ count₀ place₀ scores places left count place = 128 - place
+μ-loop scores₀ places₀ level width left₀ count₀ place₀ scores places left count place = 64 * width - place
 
 loop-holds : tie.Need-loop-holds Inv-loop μ-loop
 loop-holds c = (omega arith, omega arith, omega arith, refl, refl, c .pre .1 .0, c .pre .1 .1)
+
+mul-loop : tie.Need-mul-loop Inv-loop μ-loop
+mul-loop c = omega arith
 
 mul-score : tie.Need-mul-score Inv-loop μ-loop
 mul-score c = omega arith
 
 slice-read-score : tie.Need-slice-read-score Inv-loop μ-loop
 slice-read-score c = omega arith
+
+cast-score : tie.Need-cast-score Inv-loop μ-loop
+cast-score c = omega (arith, c .before .before .loop .inv .5 (c .before .before .loop .place) (omega arith))
 
 mul-places : tie.Need-mul-places Inv-loop μ-loop
 mul-places c = omega arith
@@ -73,8 +79,8 @@ loop-again c =
       omega (arith, w .3),
       ap length (w .1) ∙ (length-set (turn .scores) (turn .place) 0 ∙ turn .inv .3),
       ap length (w .2) ∙ (length-set (turn .places) (turn .count) (turn .place) ∙ turn .inv .4),
-      rw (w .1) (below-set (turn .scores) 128 257 (turn .place) 0 (omega arith) (omega arith) (turn .inv .5)),
-      rw (w .2, w .4) (below-more (turn .places) (turn .count) 128 (turn .place) (omega arith) (omega arith) (turn .inv .6)),
+      rw (w .1) (below-set (turn .scores) (64 * a .width) 257 (turn .place) 0 (omega arith) (omega arith) (turn .inv .5)),
+      rw (w .2, w .4) (below-more (turn .places) (turn .count) (64 * a .width) (turn .place) (omega arith) (omega arith) (turn .inv .6)),
     ))
     (λ w. (
       omega arith,
@@ -102,8 +108,10 @@ take-above-spec =
     Inv-loop
     μ-loop
     loop-holds
+    mul-loop
     mul-score
     slice-read-score
+    cast-score
     mul-places
     slice-write-places
     add-count

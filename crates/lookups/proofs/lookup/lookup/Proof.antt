@@ -1,57 +1,40 @@
 -- `lookups::lookup::lookup` meets its contract.
--- A refusal where a check fails; else the answer for the first match, which reads the key's two words.
-use mathlib.Core.Path.{sym, ap, _∙_}
+-- The check of the width and of the key's words decides first.
+use mathlib.Core.Path.{sym, _∙_}
 use borrow.Author.Needs.{needs}
-use Rattle.records.specs.Laws.{told-refused, told-answered, slot-checks-length, slot-checks-law, first-compared, first-match-cong}
-use Rattle.records.specs.RulesLaws.{two-words}
-use Rattle.lookups.specs.Lookup.{lookupAnswer, matchTold}
+use Rattle.records.specs.Laws.{told-refused, told-answered}
+use Rattle.records.specs.WidthsLaws.{key-law}
+use Rattle.lookups.specs.Lookup.{lookupCall}
 use Rattle.lookups.proofs.lookup.lookup.Statement.{statement}
 use Rattle.lookups.proofs.lookup.lookup.Tie as tie
 
-check-slots-requires : tie.Need-check-slots-requires
-check-slots-requires c κs = search needs
+check-key-requires : tie.Need-check-key-requires
+check-key-requires c κs = search needs
 
-enum-known-check : tie.Need-enum-known-check
-enum-known-check c = search needs
+enum-known-lent : tie.Need-enum-known-lent
+enum-known-lent c = search needs
 
 returns : tie.Need-returns
-unfolding lookupAnswer
-returns c = told-refused _ (c .before .before .before .check-slots .ensures) (c .before .check .given .1)
+unfolding lookupCall
+returns c = told-refused _ (c .before .before .before .check-key .ensures) (c .before .lent .given .1)
 
 enum-told : tie.Need-enum-told
 enum-told c = search needs
 
-array-read-first-match : tie.Need-array-read-first-match
-array-read-first-match c = search needs
-
-array-read-first-match-2 : tie.Need-array-read-first-match-2
-array-read-first-match-2 c = search needs
-
-first-match-requires : tie.Need-first-match-requires
-first-match-requires c κs = search needs
-
-match-answer-requires : tie.Need-match-answer-requires
-match-answer-requires c κs = slot-checks-length 2 _ (sym (c .before .before .before .check-slots .ensures) ∙ c .before .enum-told .given .1)
+lookup-at-requires : tie.Need-lookup-at-requires
+lookup-at-requires c κs = key-law _ _ .0 (sym (c .before .before .check-key .ensures) ∙ c .enum-told .given .1)
 
 returns-2 : tie.Need-returns-2
-unfolding lookupAnswer
-returns-2 c =
-    let start = c .before .before .before .before .before .before .args in
-    let check = c .before .before .before .before .check-slots .ensures in
-    let passed = c .before .before .enum-told .given .1 in
-    let first = c .before .first-match .ensures ∙ first-compared 2 (start .table .now) _ (slot-checks-law 2 (start .table .now) .0 (sym check ∙ passed) .1) in
-    told-answered check passed (c .match-answer .ensures ∙ ap (matchTold 2 _) (first ∙ first-match-cong 2 _ (two-words (start .t2))))
+unfolding lookupCall
+returns-2 c = told-answered (c .before .before .before .check-key .ensures) (c .before .enum-told .given .1) (c .lookup-at .ensures)
 
 pub lookup-spec : {M : Type 1} → statement M
 lookup-spec =
     tie.close
     (tie.spec
-    check-slots-requires
-    enum-known-check
+    check-key-requires
+    enum-known-lent
     returns
     enum-told
-    array-read-first-match
-    array-read-first-match-2
-    first-match-requires
-    match-answer-requires
+    lookup-at-requires
     returns-2)

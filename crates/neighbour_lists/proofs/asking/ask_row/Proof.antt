@@ -9,15 +9,15 @@ use Rattle.neighbour_lists.proofs.asking.ask_row.Statement.{statement}
 use Rattle.neighbour_lists.proofs.asking.ask_row.Tie as tie
 
 abbrev Inv-loop : tie.InvT-loop
-Inv-loop table near₀ full free₀ low maps rows used later rank block₀ bad₀ near free block bad =
-    (length near ≡ length near₀) × (length free ≡ length free₀) × (block ≤ 16) × InRow (precedesSlot 2 table) (misorderedSlots 2 table) near later block 0 bad
-    × Marks (rankAt 2 table) (occupiedAt 2 table) near full free low later
+Inv-loop table near₀ full free₀ low maps rows used later mode rank block₀ bad₀ near free block bad =
+    (length near ≡ length near₀) × (length free ≡ length free₀) × (block ≤ 16) × InRow (precedesSlot (mode .width) table) (misorderedSlots (mode .width) table) near later block 0 bad
+    × Marks (rankAt (mode .width) table) (occupiedAt (mode .width) table) near full free low later
 
 abbrev μ-loop : tie.MeasureT-loop
-μ-loop table near₀ full free₀ low maps rows used later rank block₀ bad₀ near free block bad = block
+μ-loop table near₀ full free₀ low maps rows used later mode rank block₀ bad₀ near free block bad = block
 
 slot-rank-requires : tie.Need-slot-rank-requires Inv-loop μ-loop
-slot-rank-requires c κs = omega arith
+slot-rank-requires c κs = let p = c .before .before .before .before .before .before .before .pre .0 in (p .0, p .1)
 
 add-block : tie.Need-add-block Inv-loop μ-loop
 add-block c = omega arith
@@ -37,7 +37,7 @@ ask-some-requires c κs =
     let q = l .inv .0 in
     let f = l .inv .1 in
     let e : l .block - 1 + 1 ≡ l .block = (let t = c .before .before .loop-test .taken in omega arith) in (
-      (omega arith, omega arith, omega arith, omega arith, omega arith, omega arith, omega arith, omega arith),
+      (p .0 .0, p .0 .1, p .0 .2, omega arith, p .0 .4, omega arith, p .0 .6, omega arith, p .0 .7),
       ((p .1 .0, c .before .before .before .before .slot-rank .ensures), (rw e (l .inv .3), (l .inv .4, (p .1 .1 .1 .1 .0, p .1 .1 .1 .1 .1)))),
     )
 

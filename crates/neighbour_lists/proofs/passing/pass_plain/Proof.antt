@@ -21,7 +21,8 @@ slice-aggregate-pass-with-4 c = search needs
 
 pass-with-requires : tie.Need-pass-with-requires
 pass-with-requires c κs =
-    (c .before .before .before .before .before .before .before .pre, ((omega arith, omega arith, λ m h. absurd (omega arith)), ((omega arith, omega arith, omega (arith, total-none (replicate 2 0) (zero-word 2) 2), spread-none (replicate 1 0) 0 (replicate 2 0) (replicate 128 0) (zero-word 2)), zero-word 1)))
+    let start = c .before .before .before .before .before .before .before in
+    (start .pre, ((omega arith, omega arith, λ m h. absurd (omega arith)), ((omega arith, omega arith, omega (arith, total-none (replicate 5 0) (zero-word 5) (start .args .mode .width)), spread-none (replicate 1 0) 0 (replicate 5 0) (replicate 320 0) (zero-word 5)), zero-word 1)))
 
 same-length : tie.Need-same-length
 same-length c = search needs

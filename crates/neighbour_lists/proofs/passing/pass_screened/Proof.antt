@@ -1,4 +1,5 @@
--- `neighbour_lists::passing::pass_screened` meets its contract: the maps and the words of chosen places begin with no bit set.
+-- `neighbour_lists::passing::pass_screened` meets its contract: the maps and the words of chosen places begin with no bit set,
+-- and 256 words are room for 8 places.
 use native.Mathlib.Omega.{arith}
 use borrow.Author.Needs.{needs}
 use Rattle.records.specs.RulesLaws.{zero-word}
@@ -23,7 +24,7 @@ slice-aggregate-spread-places-3 c = search needs
 spread-places-requires : tie.Need-spread-places-requires
 spread-places-requires c κs =
     let choice = c .before .before .before .before .choose-places in
-    ((choice .ensures .0, omega (arith, choice .ensures .0, choice .kept .1 .0), omega arith, omega arith), (choice .ensures .1, zero-word 2))
+    ((c .before .before .before .before .before .before .before .before .pre .0, choice .ensures .0, omega (arith, choice .ensures .0, choice .kept .1 .0), omega arith, omega arith), (choice .ensures .1, zero-word 5))
 
 slice-aggregate-pass-with : tie.Need-slice-aggregate-pass-with
 slice-aggregate-pass-with c = search needs
@@ -39,12 +40,12 @@ slice-aggregate-pass-with-4 c = search needs
 
 pass-with-requires : tie.Need-pass-with-requires
 pass-with-requires c κs =
-    let choice = c .before .before .before .before .before .before .before .before .before .before .before .before .choose-places in
-    let spread = c .before .before .before .before .before .before .before .spread-places in (
-      c .before .before .before .before .before .before .before .before .before .before .before .before .before .before .before .before .pre,
+    let choice = c .before .before .before .before .before .before .before .before .before .before .before .before .before .choose-places in
+    let spread = c .before .before .before .before .before .before .before .before .spread-places in (
+      c .before .before .before .before .before .before .before .before .before .before .before .before .before .before .before .before .before .pre,
       (
-        (omega (arith, choice .ensures .0), choice .ensures .0, choice .ensures .1),
-        ((omega (arith, spread .kept .1 .1 .0), omega (arith, spread .kept .1 .1 .1 .0), spread .ensures .0, spread .ensures .1), zero-word 2048),
+        (omega (arith, c .before .before .before .before .before .if1 .taken), choice .ensures .0, choice .ensures .1),
+        ((omega (arith, spread .kept .1 .1 .0), omega (arith, spread .kept .1 .1 .1 .0), spread .ensures .0, spread .ensures .1), zero-word 256),
       ),
     )
 
@@ -53,6 +54,35 @@ same-length c = search needs
 
 returns : tie.Need-returns
 returns c = search needs
+
+slice-aggregate-pass-with-5 : tie.Need-slice-aggregate-pass-with-5
+slice-aggregate-pass-with-5 c = search needs
+
+slice-aggregate-pass-with-6 : tie.Need-slice-aggregate-pass-with-6
+slice-aggregate-pass-with-6 c = search needs
+
+slice-aggregate-pass-with-7 : tie.Need-slice-aggregate-pass-with-7
+slice-aggregate-pass-with-7 c = search needs
+
+slice-aggregate-pass-with-8 : tie.Need-slice-aggregate-pass-with-8
+slice-aggregate-pass-with-8 c = search needs
+
+pass-with-requires-2 : tie.Need-pass-with-requires-2
+pass-with-requires-2 c κs =
+    let choice = c .before .before .before .before .before .before .before .before .before .before .before .before .before .choose-places in
+    let spread = c .before .before .before .before .before .before .before .before .spread-places in (
+      c .before .before .before .before .before .before .before .before .before .before .before .before .before .before .before .before .before .pre,
+      (
+        (omega (arith, choice .ensures .0), choice .ensures .0, choice .ensures .1),
+        ((omega (arith, spread .kept .1 .1 .0), omega (arith, spread .kept .1 .1 .1 .0), spread .ensures .0, spread .ensures .1), zero-word 2048),
+      ),
+    )
+
+same-length-2 : tie.Need-same-length-2
+same-length-2 c = search needs
+
+returns-2 : tie.Need-returns-2
+returns-2 c = search needs
 
 pub pass-screened-spec : {M : Type 1} → statement M
 pass-screened-spec =
@@ -70,4 +100,11 @@ pass-screened-spec =
     slice-aggregate-pass-with-4
     pass-with-requires
     same-length
-    returns)
+    returns
+    slice-aggregate-pass-with-5
+    slice-aggregate-pass-with-6
+    slice-aggregate-pass-with-7
+    slice-aggregate-pass-with-8
+    pass-with-requires-2
+    same-length-2
+    returns-2)

@@ -28,10 +28,10 @@ take-slots-requires c κs =
     let a = start .args in
     let maps = start .pre .1 .0 in
     let places = start .pre .1 .1 .0 in (
-      (start .pre .0 .0, start .pre .0 .1),
+      (start .pre .0 .0, start .pre .0 .1, start .pre .0 .2),
       (
         record {
-          numbers = start .pre .0 .2;
+          numbers = start .pre .0 .3;
           blocks = omega arith;
           blocks-free = omega arith;
           blocks-low = omega arith;
@@ -45,7 +45,7 @@ take-slots-requires c κs =
           bits = places .2;
           spread = places .3;
         },
-        taken-start 2 (a .table .now) (a .places .now) (a .near .now) (replicate 16 0) (replicate 16 0) (replicate 16 65536) (a .maps .now) (zero-word 16) (zero-word 16) (start .pre .1 .1 .1),
+        taken-start (a .mode .width) (a .table .now) (a .places .now) (a .near .now) (replicate 16 0) (replicate 16 0) (replicate 16 65536) (a .maps .now) (zero-word 16) (zero-word 16) (start .pre .1 .1 .1),
       ),
     )
 

@@ -31,17 +31,17 @@ ask-row-requires c κs =
     let room = start .pre .1 .0 in
     let fill = c .before .before .before .before .before .before .before .before .before .before .fill-rows in
     let taken = start .pre .1 .1 in
-    let near : 2 * a .slot + 1 < length (a .near .now) = omega (arith, room .numbers, start .pre .0 .1) in (
-      (start .pre .0 .1, omega (arith, start .pre .0 .0, start .pre .0 .1), simp length-set near, room .blocks, room .blocks-free, room .blocks-low, omega (arith, fill .ensures .0, fill .kept .1 .1 .1 .1 .1 .1 .0, room .row-others)),
+    let near : 2 * a .slot + 1 < length (a .near .now) = omega (arith, room .numbers, start .pre .0 .2) in (
+      (start .pre .0 .0, start .pre .0 .2, omega (arith, start .pre .0 .1, start .pre .0 .2), simp length-set near, room .blocks, room .blocks-free, room .blocks-low, omega (arith, fill .ensures .0, fill .kept .1 .1 .1 .1 .1 .1 .0, room .row-others)),
       (
-        start .pre .0 .2,
+        start .pre .0 .3,
         (
-          row-begun 2 (a .table .now) (a .places .now) (a .near .now) (a .full .now) (a .free .now) (a .low .now) (a .maps .now) (a .slot) near taken,
+          row-begun (a .mode .width) (a .table .now) (a .places .now) (a .near .now) (a .full .now) (a .free .now) (a .low .now) (a .maps .now) (a .slot) near taken,
           (
-            marks-begun 2 (a .table .now) (a .places .now) (a .near .now) (a .full .now) (a .free .now) (a .low .now) (a .maps .now) (a .slot) near taken,
+            marks-begun (a .mode .width) (a .table .now) (a .places .now) (a .near .now) (a .full .now) (a .free .now) (a .low .now) (a .maps .now) (a .slot) near taken,
             (
               λ m h. row-fits _ (a .count) _ (fill .ensures .1 m h .other .start) (fill .ensures .1 m h .other .known) (room .rows),
-              tells-screen 2 (a .table .now) (a .places .now) (a .maps .now) (fill .last .1 .1 .1 .1 .1 .1 .0) (a .count) (a .slot) (fill .result) (taken .screen) (room .inside) (λ m h. fill .ensures .1 m h .other),
+              tells-screen (a .mode .width) (a .table .now) (a .places .now) (a .maps .now) (fill .last .1 .1 .1 .1 .1 .1 .0) (a .count) (a .slot) (fill .result) (taken .screen) (room .inside) (λ m h. fill .ensures .1 m h .other),
             ),
           ),
         ),
@@ -49,10 +49,10 @@ ask-row-requires c κs =
     )
 
 mul-near-3 : tie.Need-mul-near-3
-mul-near-3 c = let start = c .before .before .before .before .before .before .before .before .before .before .before .before .before .before .before .before .before .before .before .before .before .before .before .before .before .before .before .before .before in omega (arith, start .pre .0 .0, start .pre .0 .1)
+mul-near-3 c = let start = c .before .before .before .before .before .before .before .before .before .before .before .before .before .before .before .before .before .before .before .before .before .before .before .before .before .before .before .before .before in omega (arith, start .pre .0 .1, start .pre .0 .2)
 
 mul-near-4 : tie.Need-mul-near-4
-mul-near-4 c = let start = c .before .before .before .before .before .before .before .before .before .before .before .before .before .before .before .before .before .before .before .before .before .before .before .before .before .before .before .before .before in omega (arith, start .pre .0 .0, start .pre .0 .1)
+mul-near-4 c = let start = c .before .before .before .before .before .before .before .before .before .before .before .before .before .before .before .before .before .before .before .before .before .before .before .before .before .before .before .before .before in omega (arith, start .pre .0 .1, start .pre .0 .2)
 
 slice-write-near-2 : tie.Need-slice-write-near-2
 slice-write-near-2 c =
@@ -61,7 +61,7 @@ slice-write-near-2 c =
     let room = start .pre .1 .0 in
     let ask = c .before .before .before .before .ask-row in
     let kept = ask .kept .1 .0 ∙ length-set (a .near .now) (2 * a .slot + 1) 65535 in
-    omega (arith, room .numbers, start .pre .0 .1, kept)
+    omega (arith, room .numbers, start .pre .0 .2, kept)
 
 note-rows-requires : tie.Need-note-rows-requires
 note-rows-requires c κs =
@@ -69,19 +69,19 @@ note-rows-requires c κs =
     let a = start .args in
     let room = start .pre .1 .0 in
     let fill = c .before .before .before .before .before .before .before .before .before .before .before .before .before .before .before .before .before .fill-rows in (
-      (omega (arith, fill .ensures .0, fill .kept .1 .1 .1 .1 .1 .1 .1 .0, room .row-own), omega (arith, start .pre .0 .0, start .pre .0 .1)),
+      (omega (arith, fill .ensures .0, fill .kept .1 .1 .1 .1 .1 .1 .1 .0, room .row-own), omega (arith, start .pre .0 .1, start .pre .0 .2)),
       λ m h. row-fits _ (a .count) _ (fill .ensures .1 m h .own .start) (fill .ensures .1 m h .own .known) (room .rows),
     )
 
 slot-rank-requires : tie.Need-slot-rank-requires
-slot-rank-requires c κs = c .before .before .before .before .before .before .before .before .before .before .before .before .before .before .before .before .before .before .before .before .before .before .before .before .before .before .before .before .before .before .before .before .before .before .before .before .before .pre .0 .1
+slot-rank-requires c κs = let p = c .before .before .before .before .before .before .before .before .before .before .before .before .before .before .before .before .before .before .before .before .before .before .before .before .before .before .before .before .before .before .before .before .before .before .before .before .before .pre .0 in (p .0, p .2)
 
 note-rule-requires : tie.Need-note-rule-requires
 note-rule-requires c κs =
     let start = c .before .before .before .before .before .before .before .before .before .before .before .before .before .before .before .before .before .before .before .before .before .before .before .before .before .before .before .before .before .before .before .before .before .before .before .before .before .before in
     let room = start .pre .1 .0 in
     let ask = c .before .before .before .before .before .before .before .before .before .before .before .before .before .ask-row in
-    (omega (arith, start .pre .0 .0, start .pre .0 .1), room .blocks, omega (arith, ask .kept .1 .1 .1 .0, room .blocks-free), room .blocks-low)
+    (omega (arith, start .pre .0 .1, start .pre .0 .2), room .blocks, omega (arith, ask .kept .1 .1 .1 .0, room .blocks-free), room .blocks-low)
 
 same-length : tie.Need-same-length
 same-length c =
@@ -117,11 +117,11 @@ returns c =
     let ask = c .before .before .before .before .before .before .before .before .before .before .before .before .before .before .before .before .before .before .before .before .ask-row in
     let word = c .before .before .before .before .before .before .before .slot-rank in
     let note = c .before .before .before .before .before .before .note-rule in
-    let small : a .slot < 1024 = omega (arith, start .pre .0 .0, start .pre .0 .1) in
+    let small : a .slot < 1024 = omega (arith, start .pre .0 .1, start .pre .0 .2) in
     let kept = ask .kept .1 .0 ∙ length-set (a .near .now) (2 * a .slot + 1) 65535 in
-    let near : 2 * a .slot < length (ask .last .1 .0) = omega (arith, room .numbers, start .pre .0 .1, kept) in (
-      row-told 2 (a .table .now) (ask .last .1 .0) (a .slot) (ask .result) (ask .ensures .0),
-      taken-rule 2 (a .table .now) (a .places .now) (ask .last .1 .0) (a .full .now) (ask .last .1 .1 .1 .0) (a .low .now) (a .maps .now) (fill .last .1 .1 .1 .1 .1 .1 .0) (fill .last .1 .1 .1 .1 .1 .1 .1 .0)
+    let near : 2 * a .slot < length (ask .last .1 .0) = omega (arith, room .numbers, start .pre .0 .2, kept) in (
+      row-told (a .mode .width) (a .table .now) (ask .last .1 .0) (a .slot) (ask .result) (ask .ensures .0),
+      taken-rule (a .mode .width) (a .table .now) (a .places .now) (ask .last .1 .0) (a .full .now) (ask .last .1 .1 .1 .0) (a .low .now) (a .maps .now) (fill .last .1 .1 .1 .1 .1 .1 .0) (fill .last .1 .1 .1 .1 .1 .1 .1 .0)
           (a .count) (a .slot) (fill .result) (ask .result) near (omega (arith, room .blocks)) (omega (arith, ask .kept .1 .1 .1 .0, room .blocks-free)) (omega (arith, room .blocks-low)) (room .rows) small
           (ask .ensures .0) (ask .ensures .1) (taken .screen) (fill .ensures .1)
           (note .last .0) (note .last .1 .0) (note .last .1 .1 .0) (c .before .before .before .before .before .before .before .before .before .before .before .before .before .note-rows .last .0) (note .ensures .0) (note .ensures .1 .0)

@@ -34,7 +34,7 @@ mul-near-4 c = search needs
 slice-write-near-2 : tie.Need-slice-write-near-2
 slice-write-near-2 c =
     let start = c .before .before .before .before .before .before .before .before .before .before .before .before .before in
-    simp length-set (omega (arith, start .pre .1 .0 .numbers, start .pre .0 .1))
+    simp length-set (omega (arith, start .pre .1 .0 .numbers, start .pre .0 .2))
 
 same-length : tie.Need-same-length
 same-length c = search needs
@@ -44,12 +44,12 @@ returns c =
     let start = c .before .before .before .before .before .before .before .before .before .before .before .before .before in
     let a = start .args in
     let taken = start .pre .1 .1 in
-    let near : 2 * a .slot + 1 < length (a .near .now) = omega (arith, start .pre .1 .0 .numbers, start .pre .0 .1) in
-    let vacant : empty 2 (slotWords 2 (a .table .now) (a .slot)) ≡ true
+    let near : 2 * a .slot + 1 < length (a .near .now) = omega (arith, start .pre .1 .0 .numbers, start .pre .0 .2) in
+    let vacant : empty (a .mode .width) (slotWords (a .mode .width) (a .table .now) (a .slot)) ≡ true
     = sym (c .before .slot-vacant .ensures) ∙ c .if1 .taken in (
-      row-told 2 (a .table .now) (set (a .near .now) (2 * a .slot + 1) 65535) (a .slot) false
-          (row-empty 2 (a .table .now) (a .places .now) (a .near .now) (a .full .now) (a .free .now) (a .low .now) (a .maps .now) (a .slot) near taken vacant),
-      taken-empty 2 (a .table .now) (a .places .now) (a .near .now) (a .full .now) (a .free .now) (a .low .now) (a .maps .now) (a .slot) near taken vacant,
+      row-told (a .mode .width) (a .table .now) (set (a .near .now) (2 * a .slot + 1) 65535) (a .slot) false
+          (row-empty (a .mode .width) (a .table .now) (a .places .now) (a .near .now) (a .full .now) (a .free .now) (a .low .now) (a .maps .now) (a .slot) near taken vacant),
+      taken-empty (a .mode .width) (a .table .now) (a .places .now) (a .near .now) (a .full .now) (a .free .now) (a .low .now) (a .maps .now) (a .slot) near taken vacant,
     )
 
 take-rule-requires : tie.Need-take-rule-requires

@@ -1,60 +1,20 @@
 -- `neighbours::checks::after_a` meets its contract.
--- No slot from the loop's on precedes the new rule.
-use Prim.Native.Nat.{ℕ}
-use mathlib.Core.Path.{sym, _∙_}
-use native.Mathlib.Omega.{arith}
-use Rattle.search.specs.SearchLaws.{none-above, none-lower, after-last-at, after-last-none}
-use Rattle.search.specs.Search.{NoneAbove}
-use Rattle.records.specs.Record.{slotWords}
-use Rattle.records.specs.Order.{precedes}
-use Rattle.neighbours.specs.Neighbours.{afterA}
+-- A width that is not 2 is 5.
+use Rattle.records.specs.WidthsLaws.{other-width}
 use Rattle.neighbours.proofs.checks.after_a.Statement.{statement}
 use Rattle.neighbours.proofs.checks.after_a.Tie as tie
 
-abbrev Inv-loop : tie.InvT-loop
-Inv-loop table new after₀ after = NoneAbove (λ (i : ℕ). precedes 2 (slotWords 2 table i) (slotWords 2 new 0)) after₀ after
+after-a-by-requires : tie.Need-after-a-by-requires
+after-a-by-requires c κs = rw (c .if1 .taken) at (c .before .before .before .before .pre)
 
-abbrev μ-loop : tie.MeasureT-loop
-μ-loop table new after₀ after = after
+returns : tie.Need-returns
+returns c = rw (c .before .if1 .taken) (c .after-a-by .ensures)
 
-loop-holds : tie.Need-loop-holds Inv-loop μ-loop
-loop-holds c = none-above _ _
+after-a-by-requires-2 : tie.Need-after-a-by-requires-2
+after-a-by-requires-2 c κs = rw (other-width (c .before .before .before .before .pre .0) (c .if1 .left)) at (c .before .before .before .before .pre)
 
-sub-precedes-pair : tie.Need-sub-precedes-pair Inv-loop μ-loop
-sub-precedes-pair c = omega arith
-
-precedes-pair-requires : tie.Need-precedes-pair-requires Inv-loop μ-loop
-precedes-pair-requires c κs = omega arith
-
-returns : tie.Need-returns Inv-loop μ-loop
-unfolding afterA
-returns c =
-    sym (after-last-at _ _ _ (c .before .before .before .loop .inv) (omega arith) (sym (c .before .precedes-pair .ensures) ∙ c .if1 .taken))
-
-sub-after : tie.Need-sub-after Inv-loop μ-loop
-sub-after c = omega arith
-
-loop-less : tie.Need-loop-less Inv-loop μ-loop
-loop-less c = omega arith
-
-loop-again : tie.Need-loop-again Inv-loop μ-loop
-loop-again c = none-lower _ _ _ (c .before .before .before .loop .inv) (omega arith) (sym (c .before .precedes-pair .ensures) ∙ c .if1 .left)
-
-returns-2 : tie.Need-returns-2 Inv-loop μ-loop
-unfolding afterA
-returns-2 c = sym (after-last-none _ _ _ (c .before .loop .inv) (omega arith))
+returns-2 : tie.Need-returns-2
+returns-2 c = rw (other-width (c .before .before .before .before .before .pre .0) (c .before .if1 .left)) (c .after-a-by2 .ensures)
 
 pub after-a-spec : {M : Type 1} → statement M
-after-a-spec =
-    tie.close
-    (tie.spec
-    Inv-loop
-    μ-loop
-    loop-holds
-    sub-precedes-pair
-    precedes-pair-requires
-    returns
-    sub-after
-    loop-less
-    loop-again
-    returns-2)
+after-a-spec = tie.close (tie.spec after-a-by-requires returns after-a-by-requires-2 returns-2)

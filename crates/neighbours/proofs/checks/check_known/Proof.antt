@@ -1,59 +1,20 @@
 -- `neighbours::checks::check_known` meets its contract.
--- No slot below the loop's has the new rule's id.
-use Prim.Native.Nat.{ℕ, _-_}
-use mathlib.Core.Path.{sym, _∙_}
-use native.Mathlib.Omega.{arith}
-use Rattle.search.specs.SearchLaws.{NoneBelow, none-start, none-more}
-use Rattle.records.specs.Record.{slotWords}
-use Rattle.records.specs.Order.{sameId}
-use Rattle.records.specs.ChecksLaws.{lowest-at, lowest-none}
-use Rattle.neighbours.specs.Neighbours.{checkKnown}
+-- A width that is not 2 is 5.
+use Rattle.records.specs.WidthsLaws.{other-width}
 use Rattle.neighbours.proofs.checks.check_known.Statement.{statement}
 use Rattle.neighbours.proofs.checks.check_known.Tie as tie
 
-abbrev Inv-loop : tie.InvT-loop
-Inv-loop table new slots slot₀ slot = NoneBelow (λ (i : ℕ). sameId 2 (slotWords 2 table i) (slotWords 2 new 0)) slots slot
+check-known-by-requires : tie.Need-check-known-by-requires
+check-known-by-requires c κs = rw (c .if1 .taken) at (c .before .before .before .before .pre)
 
-abbrev μ-loop : tie.MeasureT-loop
-μ-loop table new slots slot₀ slot = slots - slot
+returns : tie.Need-returns
+returns c = rw (c .before .if1 .taken) (c .check-known-by .ensures)
 
-loop-holds : tie.Need-loop-holds Inv-loop μ-loop
-loop-holds c = none-start _ _
+check-known-by-requires-2 : tie.Need-check-known-by-requires-2
+check-known-by-requires-2 c κs = rw (other-width (c .before .before .before .before .pre .0) (c .if1 .left)) at (c .before .before .before .before .pre)
 
-same-id-requires : tie.Need-same-id-requires Inv-loop μ-loop
-same-id-requires c κs = omega arith
-
-cast-t9 : tie.Need-cast-t9 Inv-loop μ-loop
-cast-t9 c = omega arith
-
-returns : tie.Need-returns Inv-loop μ-loop
-unfolding checkKnown
-returns c = lowest-at _ _ _ _ (omega arith) (c .before .before .before .loop .inv .1) (sym (c .before .same-id .ensures) ∙ c .if1 .taken)
-
-add-slot : tie.Need-add-slot Inv-loop μ-loop
-add-slot c = omega arith
-
-loop-less : tie.Need-loop-less Inv-loop μ-loop
-loop-less c = omega arith
-
-loop-again : tie.Need-loop-again Inv-loop μ-loop
-loop-again c = none-more _ _ _ (c .before .before .before .loop .inv) (omega arith) (sym (c .before .same-id .ensures) ∙ c .if1 .left)
-
-returns-2 : tie.Need-returns-2 Inv-loop μ-loop
-unfolding checkKnown
-returns-2 c = lowest-none _ _ _ (λ k h. c .before .loop .inv .1 k (omega arith))
+returns-2 : tie.Need-returns-2
+returns-2 c = rw (other-width (c .before .before .before .before .before .pre .0) (c .before .if1 .left)) (c .check-known-by2 .ensures)
 
 pub check-known-spec : {M : Type 1} → statement M
-check-known-spec =
-    tie.close
-    (tie.spec
-    Inv-loop
-    μ-loop
-    loop-holds
-    same-id-requires
-    cast-t9
-    returns
-    add-slot
-    loop-less
-    loop-again
-    returns-2)
+check-known-spec = tie.close (tie.spec check-known-by-requires returns check-known-by-requires-2 returns-2)

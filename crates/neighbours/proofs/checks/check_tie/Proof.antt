@@ -1,59 +1,20 @@
 -- `neighbours::checks::check_tie` meets its contract.
--- No slot below the loop's ties with the new rule.
-use Prim.Native.Nat.{ℕ, _-_}
-use mathlib.Core.Path.{sym, _∙_}
-use native.Mathlib.Omega.{arith}
-use Rattle.search.specs.SearchLaws.{NoneBelow, none-start, none-more}
-use Rattle.records.specs.Record.{slotWords}
-use Rattle.records.specs.Order.{tied}
-use Rattle.records.specs.ChecksLaws.{lowest-at, lowest-none}
-use Rattle.neighbours.specs.Neighbours.{checkTie}
+-- A width that is not 2 is 5.
+use Rattle.records.specs.WidthsLaws.{other-width}
 use Rattle.neighbours.proofs.checks.check_tie.Statement.{statement}
 use Rattle.neighbours.proofs.checks.check_tie.Tie as tie
 
-abbrev Inv-loop : tie.InvT-loop
-Inv-loop table new slots slot₀ slot = NoneBelow (λ (i : ℕ). tied 2 (slotWords 2 table i) (slotWords 2 new 0)) slots slot
+check-tie-by-requires : tie.Need-check-tie-by-requires
+check-tie-by-requires c κs = rw (c .if1 .taken) at (c .before .before .before .before .pre)
 
-abbrev μ-loop : tie.MeasureT-loop
-μ-loop table new slots slot₀ slot = slots - slot
+returns : tie.Need-returns
+returns c = rw (c .before .if1 .taken) (c .check-tie-by .ensures)
 
-loop-holds : tie.Need-loop-holds Inv-loop μ-loop
-loop-holds c = none-start _ _
+check-tie-by-requires-2 : tie.Need-check-tie-by-requires-2
+check-tie-by-requires-2 c κs = rw (other-width (c .before .before .before .before .pre .0) (c .if1 .left)) at (c .before .before .before .before .pre)
 
-tied-pair-requires : tie.Need-tied-pair-requires Inv-loop μ-loop
-tied-pair-requires c κs = omega arith
-
-cast-t9 : tie.Need-cast-t9 Inv-loop μ-loop
-cast-t9 c = omega arith
-
-returns : tie.Need-returns Inv-loop μ-loop
-unfolding checkTie
-returns c = lowest-at _ _ _ _ (omega arith) (c .before .before .before .loop .inv .1) (sym (c .before .tied-pair .ensures) ∙ c .if1 .taken)
-
-add-slot : tie.Need-add-slot Inv-loop μ-loop
-add-slot c = omega arith
-
-loop-less : tie.Need-loop-less Inv-loop μ-loop
-loop-less c = omega arith
-
-loop-again : tie.Need-loop-again Inv-loop μ-loop
-loop-again c = none-more _ _ _ (c .before .before .before .loop .inv) (omega arith) (sym (c .before .tied-pair .ensures) ∙ c .if1 .left)
-
-returns-2 : tie.Need-returns-2 Inv-loop μ-loop
-unfolding checkTie
-returns-2 c = lowest-none _ _ _ (λ k h. c .before .loop .inv .1 k (omega arith))
+returns-2 : tie.Need-returns-2
+returns-2 c = rw (other-width (c .before .before .before .before .before .pre .0) (c .before .if1 .left)) (c .check-tie-by2 .ensures)
 
 pub check-tie-spec : {M : Type 1} → statement M
-check-tie-spec =
-    tie.close
-    (tie.spec
-    Inv-loop
-    μ-loop
-    loop-holds
-    tied-pair-requires
-    cast-t9
-    returns
-    add-slot
-    loop-less
-    loop-again
-    returns-2)
+check-tie-spec = tie.close (tie.spec check-tie-by-requires returns check-tie-by-requires-2 returns-2)

@@ -1,54 +1,20 @@
 -- `neighbours::checks::slot_b` meets its contract.
--- No slot below the loop's depends on the new rule.
-use Prim.Native.Nat.{ℕ, _-_}
-use mathlib.Core.Path.{sym, _∙_}
-use native.Mathlib.Omega.{arith}
-use Rattle.search.specs.SearchLaws.{NoneBelow, none-start, none-more, least-at, least-none}
-use Rattle.records.specs.Record.{slotWords}
-use Rattle.records.specs.Order.{precedes}
-use Rattle.neighbours.specs.Neighbours.{slotB}
+-- A width that is not 2 is 5.
+use Rattle.records.specs.WidthsLaws.{other-width}
 use Rattle.neighbours.proofs.checks.slot_b.Statement.{statement}
 use Rattle.neighbours.proofs.checks.slot_b.Tie as tie
 
-abbrev Inv-loop : tie.InvT-loop
-Inv-loop table new slots slot₀ slot = NoneBelow (λ (i : ℕ). precedes 2 (slotWords 2 new 0) (slotWords 2 table i)) slots slot
+slot-b-by-requires : tie.Need-slot-b-by-requires
+slot-b-by-requires c κs = rw (c .if1 .taken) at (c .before .before .before .before .pre)
 
-abbrev μ-loop : tie.MeasureT-loop
-μ-loop table new slots slot₀ slot = slots - slot
+returns : tie.Need-returns
+returns c = rw (c .before .if1 .taken) (c .slot-b-by .ensures)
 
-loop-holds : tie.Need-loop-holds Inv-loop μ-loop
-loop-holds c = none-start _ _
+slot-b-by-requires-2 : tie.Need-slot-b-by-requires-2
+slot-b-by-requires-2 c κs = rw (other-width (c .before .before .before .before .pre .0) (c .if1 .left)) at (c .before .before .before .before .pre)
 
-precedes-pair-requires : tie.Need-precedes-pair-requires Inv-loop μ-loop
-precedes-pair-requires c κs = omega arith
-
-returns : tie.Need-returns Inv-loop μ-loop
-unfolding slotB
-returns c = sym (least-at _ _ _ (omega arith) (c .before .before .before .loop .inv .1) (sym (c .before .precedes-pair .ensures) ∙ c .if1 .taken))
-
-add-slot : tie.Need-add-slot Inv-loop μ-loop
-add-slot c = omega arith
-
-loop-less : tie.Need-loop-less Inv-loop μ-loop
-loop-less c = omega arith
-
-loop-again : tie.Need-loop-again Inv-loop μ-loop
-loop-again c = none-more _ _ _ (c .before .before .before .loop .inv) (omega arith) (sym (c .before .precedes-pair .ensures) ∙ c .if1 .left)
-
-returns-2 : tie.Need-returns-2 Inv-loop μ-loop
-unfolding slotB
-returns-2 c = sym (least-none _ _ (λ k h. c .before .loop .inv .1 k (omega arith)))
+returns-2 : tie.Need-returns-2
+returns-2 c = rw (other-width (c .before .before .before .before .before .pre .0) (c .before .if1 .left)) (c .slot-b-by2 .ensures)
 
 pub slot-b-spec : {M : Type 1} → statement M
-slot-b-spec =
-    tie.close
-    (tie.spec
-    Inv-loop
-    μ-loop
-    loop-holds
-    precedes-pair-requires
-    returns
-    add-slot
-    loop-less
-    loop-again
-    returns-2)
+slot-b-spec = tie.close (tie.spec slot-b-by-requires returns slot-b-by-requires-2 returns-2)

@@ -1,47 +1,33 @@
 -- `slots::rules::rule_sound` meets its contract.
--- The parts of the rule are handed to the test of parts.
-use mathlib.Core.Path.{_∙_}
+-- A rule is sound where the record of it is, the only slot of a table.
+use mathlib.Core.Path.{ap, _∙_}
+use mathlib.Core.List.{List}
+use Prim.Native.Nat.{ℕ}
+use native.Mathlib.Omega.{arith}
+use Rattle.records.specs.Record.{word, sound}
+use Rattle.records.specs.RulesLaws.{record-length, record-sound}
+use Rattle.records.specs.WidthsLaws.{two, lent-words}
 use borrow.Author.Needs.{needs}
-use Rattle.search.specs.Search.{all}
-use Rattle.ternary.specs.Pattern.{within}
-use Rattle.records.specs.Record.{soundParts}
 use Rattle.slots.proofs.rules.rule_sound.Statement.{statement}
 use Rattle.slots.proofs.rules.rule_sound.Tie as tie
 
-wide-requires : tie.Need-wide-requires
-wide-requires c κs = search needs
+record-of-requires : tie.Need-record-of-requires
+record-of-requires c κs = search needs
 
-wide-requires-2 : tie.Need-wide-requires-2
-wide-requires-2 c κs = search needs
+slice-aggregate-slot-sound : tie.Need-slice-aggregate-slot-sound
+slice-aggregate-slot-sound c = search needs
 
-array-read-parts-sound : tie.Need-array-read-parts-sound
-array-read-parts-sound c = search needs
-
-array-read-parts-sound-2 : tie.Need-array-read-parts-sound-2
-array-read-parts-sound-2 c = search needs
-
-array-read-parts-sound-3 : tie.Need-array-read-parts-sound-3
-array-read-parts-sound-3 c = search needs
-
-array-read-parts-sound-4 : tie.Need-array-read-parts-sound-4
-array-read-parts-sound-4 c = search needs
-
-parts-sound-requires : tie.Need-parts-sound-requires
-parts-sound-requires c κs = search needs
+slot-sound-requires : tie.Need-slot-sound-requires
+slot-sound-requires c κs = (two, rw (c .before .record-of .ensures, record-length) (omega arith))
 
 returns : tie.Need-returns
-unfolding soundParts within all
-returns c = c .parts-sound .ensures ∙ rw (c .before .wide2 .ensures, c .before .before .wide .ensures)
+returns c =
+    let rule = c .before .before .before .args .rule in
+    let words = c .before .before .record-of .result in
+    c .slot-sound .ensures
+    ∙ (ap (sound 2) (lent-words 2 words)
+    ∙ (ap (λ (l : List ℕ). sound 2 (word l)) (c .before .before .record-of .ensures) ∙ record-sound 2 rule (omega arith)))
 
 pub rule-sound-spec : {M : Type 1} → statement M
 rule-sound-spec =
-    tie.close
-    (tie.spec
-    wide-requires
-    wide-requires-2
-    array-read-parts-sound
-    array-read-parts-sound-2
-    array-read-parts-sound-3
-    array-read-parts-sound-4
-    parts-sound-requires
-    returns)
+    tie.close (tie.spec record-of-requires slice-aggregate-slot-sound slot-sound-requires returns)

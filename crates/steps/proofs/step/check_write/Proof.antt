@@ -9,16 +9,16 @@ put-sound-requires : tie.Need-put-sound-requires
 put-sound-requires c κs = search needs
 
 returns : tie.Need-returns
-returns c = write-unsound 2 _ _ _ _ (c .before .put-sound .ensures) (c .if1 .taken)
+returns c = write-unsound _ _ _ _ _ (c .before .put-sound .ensures) (c .if1 .taken)
 
 word-fits-requires : tie.Need-word-fits-requires
 word-fits-requires c κs = search needs
 
 returns-2 : tie.Need-returns-2
-returns-2 c = write-fits 2 _ _ _ _ (c .before .before .before .put-sound .ensures) (c .before .before .if1 .left) (c .before .word-fits .ensures) (c .if2 .taken)
+returns-2 c = write-fits _ _ _ _ _ (c .before .before .before .put-sound .ensures) (c .before .before .if1 .left) (c .before .word-fits .ensures) (c .if2 .taken)
 
 returns-3 : tie.Need-returns-3
-returns-3 c = write-unfit 2 _ _ _ _ (c .before .before .before .put-sound .ensures) (c .before .before .if1 .left) (c .before .word-fits .ensures) (c .if2 .left)
+returns-3 c = write-unfit _ _ _ _ _ (c .before .before .before .put-sound .ensures) (c .before .before .if1 .left) (c .before .word-fits .ensures) (c .if2 .left)
 
 pub check-write-spec : {M : Type 1} → statement M
 check-write-spec =

@@ -39,18 +39,18 @@ loop-again c =
     let going = subst (λ (b : Bool). Under 2 (a .table .now) (a .plan .now) (a .rule) (a .total) (s .table) (s .done) b) (and-left (s .wrote) (ltb (s .done) (a .total)) (c .before .before .before .before .loop-test .taken)) (s .inv .1) in
     (kept ∙ s .inv .0, under-next 2 (a .table .now) (a .plan .now) (a .rule) (a .total) going (ltb-true (s .done) (a .total) (and-right (s .wrote) (ltb (s .done) (a .total)) (c .before .before .before .before .loop-test .taken))) (told .0) (told .1))
 
-step-requires : tie.Need-step-requires Inv-loop μ-loop
-step-requires c κs = tt
+step-rule-requires : tie.Need-step-rule-requires Inv-loop μ-loop
+step-rule-requires c κs = tt
 
 same-length : tie.Need-same-length Inv-loop μ-loop
 same-length c =
-    let kept : length (c .before .before .step .last .0) ≡ length (c .before .before .before .before .before .loop .table) = search needs in kept ∙ c .before .before .before .before .before .loop .inv .0
+    let kept : length (c .before .before .step-rule .last .0) ≡ length (c .before .before .before .before .before .loop .table) = search needs in kept ∙ c .before .before .before .before .before .loop .inv .0
 
 returns : tie.Need-returns Inv-loop μ-loop
 returns c =
     let a = c .before .before .before .before .before .before .before .before .args in
     let s = c .before .before .before .before .before .loop in
-    let told = c .before .before .step .ensures in
+    let told = c .before .before .step-rule .ensures in
     let ends = under-end 2 (a .table .now) (a .plan .now) (a .rule) (a .total) (s .inv .1) (c .before .before .before .before .loop-test .left) in
     (told .0 ∙ ends .0, told .1 ∙ ends .1)
 
@@ -64,6 +64,6 @@ carry-whole-spec =
     advance-requires
     loop-less
     loop-again
-    step-requires
+    step-rule-requires
     same-length
     returns)

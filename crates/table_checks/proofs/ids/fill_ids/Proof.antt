@@ -1,69 +1,35 @@
 -- `table_checks::ids::fill_ids` meets its contract.
--- The column's entries below the loop's slot are those slots' ids.
-use mathlib.Core.Path.{_≡_, refl, _∙_}
-use Prim.Native.Nat.{_-_, _≤_}
-use native.Mathlib.Omega.{arith}
-use lib.ListN.{length, length-set}
-use denote.Ref.{now}
-use Rattle.table_checks.specs.Ids.{IdColumn}
-use Rattle.table_checks.specs.IdsLaws.{column-more}
+-- A width that is not 2 is 5.
+use borrow.Author.Needs.{needs}
+use Rattle.records.specs.WidthsLaws.{other-width}
 use Rattle.table_checks.proofs.ids.fill_ids.Statement.{statement}
 use Rattle.table_checks.proofs.ids.fill_ids.Tie as tie
 
-abbrev Inv-loop : tie.InvT-loop
-Inv-loop table ids₀ slots slot₀ ids slot = (slot ≤ slots) × (length ids ≡ length ids₀) × IdColumn 2 table ids slot
+fill-ids-by-requires : tie.Need-fill-ids-by-requires
+fill-ids-by-requires c κs = rw (c .before .if1 .taken) at (c .before .before .before .before .pre)
 
-abbrev μ-loop : tie.MeasureT-loop
-μ-loop table ids₀ slots slot₀ ids slot = slots - slot
+fill-ids-by-requires-2 : tie.Need-fill-ids-by-requires-2
+fill-ids-by-requires-2 c κs = rw (other-width (c .before .before .before .before .pre .0) (c .before .if1 .left)) at (c .before .before .before .before .pre)
 
-loop-holds : tie.Need-loop-holds Inv-loop μ-loop
-loop-holds c = (omega arith, refl, λ k h. absurd (omega arith))
+same-length : tie.Need-same-length
+same-length c = search needs
 
-short-id-requires : tie.Need-short-id-requires Inv-loop μ-loop
-short-id-requires c κs = omega arith
+returns : tie.Need-returns
+returns c = rw (c .before .before .before .before .if1 .taken) (c .before .before .fill-ids-by .ensures)
 
-mul-ids : tie.Need-mul-ids Inv-loop μ-loop
-mul-ids c = omega arith
+same-length-2 : tie.Need-same-length-2
+same-length-2 c = search needs
 
-slice-write-ids : tie.Need-slice-write-ids Inv-loop μ-loop
-slice-write-ids c = omega arith
-
-add-slot : tie.Need-add-slot Inv-loop μ-loop
-add-slot c = omega arith
-
-loop-less : tie.Need-loop-less Inv-loop μ-loop
-loop-less c = omega arith
-
-loop-again : tie.Need-loop-again Inv-loop μ-loop
-loop-again c =
-    let table = now (c .before .before .before .before .before .args .table) in
-    let ids = c .before .before .loop .ids in
-    let slot = c .before .before .loop .slot in
-    let id = c .short-id .result in
-    let inv = c .before .before .loop .inv in (
-      omega arith,
-      length-set ids slot id ∙ inv .1,
-      column-more 2 table ids slot id (omega arith) (inv .2) (c .short-id .ensures),
-    )
-
-same-length : tie.Need-same-length Inv-loop μ-loop
-same-length c = omega arith
-
-returns : tie.Need-returns Inv-loop μ-loop
-returns c k h = c .before .loop .inv .2 k (omega arith)
+returns-2 : tie.Need-returns-2
+returns-2 c = rw (other-width (c .before .before .before .before .before .before .before .pre .0) (c .before .before .before .before .if1 .left)) (c .before .before .fill-ids-by2 .ensures)
 
 pub fill-ids-spec : {M : Type 1} → statement M
 fill-ids-spec =
     tie.close
     (tie.spec
-    Inv-loop
-    μ-loop
-    loop-holds
-    short-id-requires
-    mul-ids
-    slice-write-ids
-    add-slot
-    loop-less
-    loop-again
+    fill-ids-by-requires
+    fill-ids-by-requires-2
     same-length
-    returns)
+    returns
+    same-length-2
+    returns-2)

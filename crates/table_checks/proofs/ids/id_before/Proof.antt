@@ -11,16 +11,16 @@ use Rattle.table_checks.proofs.ids.id_before.Statement.{statement}
 use Rattle.table_checks.proofs.ids.id_before.Tie as tie
 
 abbrev Inv-loop : tie.InvT-loop
-Inv-loop table slot earlier₀ earlier = NoneBelow (λ (i : ℕ). sameId 2 (slotWords 2 table i) (slotWords 2 table slot)) slot earlier
+Inv-loop table slot width earlier₀ earlier = NoneBelow (λ (i : ℕ). sameId width (slotWords width table i) (slotWords width table slot)) slot earlier
 
 abbrev μ-loop : tie.MeasureT-loop
-μ-loop table slot earlier₀ earlier = slot - earlier
+μ-loop table slot width earlier₀ earlier = slot - earlier
 
 loop-holds : tie.Need-loop-holds Inv-loop μ-loop
 loop-holds c = none-start _ _
 
 same-id-requires : tie.Need-same-id-requires Inv-loop μ-loop
-same-id-requires c κs = omega arith
+same-id-requires c κs = (c .before .before .before .pre .0, omega arith, c .before .before .before .pre .1)
 
 returns : tie.Need-returns Inv-loop μ-loop
 unfolding twiceAt

@@ -11,7 +11,7 @@ slot-empty-requires : tie.Need-slot-empty-requires
 slot-empty-requires c κs = search needs
 
 returns : tie.Need-returns
-returns c = sym (empty-once 2 _ _ (sym (c .before .slot-empty .ensures) ∙ c .if1 .taken))
+returns c = sym (empty-once _ _ _ (sym (c .before .slot-empty .ensures) ∙ c .if1 .taken))
 
 listed-before-requires : tie.Need-listed-before-requires
 listed-before-requires c κs = search needs
@@ -25,7 +25,7 @@ returns-2 c = c .id-before .ensures
 returns-3 : tie.Need-returns-3
 returns-3 c =
     let start = c .before .before .before .before .before .before in
-    sym (unlisted 2 (now (start .args .table)) (now (start .args .ids)) _ (start .args .slot) (start .pre .1) (start .pre .0 .0) (sym (c .before .listed-before .ensures) ∙ c .if2 .left))
+    sym (unlisted _ (now (start .args .table)) (now (start .args .ids)) _ (start .args .slot) (start .pre .1) (start .pre .0 .1) (sym (c .before .listed-before .ensures) ∙ c .if2 .left))
 
 pub id-twice-spec : {M : Type 1} → statement M
 id-twice-spec =

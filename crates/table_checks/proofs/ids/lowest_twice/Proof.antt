@@ -1,87 +1,35 @@
 -- `table_checks::ids::lowest_twice` meets its contract.
--- No slot below the loop's has an id that an earlier one has, and the map has the bits of their ids.
-use Prim.Native.Nat.{_-_}
-use mathlib.Core.Path.{_≡_, refl, sym, _∙_}
-use native.Mathlib.Omega.{arith}
-use lib.ListN.{length}
-use Rattle.search.specs.SearchLaws.{NoneBelow, none-start, none-more}
-use Rattle.records.specs.Checks.{checkTwice, twiceAt}
-use Rattle.records.specs.ChecksLaws.{lowest-at, lowest-none}
-use Rattle.table_checks.specs.Ids.{SeenTo}
-use Rattle.table_checks.specs.IdsLaws.{seen-more}
+-- A width that is not 2 is 5.
+use borrow.Author.Needs.{needs}
+use Rattle.records.specs.WidthsLaws.{other-width}
 use Rattle.table_checks.proofs.ids.lowest_twice.Statement.{statement}
 use Rattle.table_checks.proofs.ids.lowest_twice.Tie as tie
 
-abbrev Inv-loop : tie.InvT-loop
-Inv-loop table ids seen₀ slots slot₀ seen slot = NoneBelow (twiceAt 2 table) slots slot × (length seen ≡ length seen₀) × SeenTo ids seen slot
+lowest-twice-by-requires : tie.Need-lowest-twice-by-requires
+lowest-twice-by-requires c κs = rw (c .before .if1 .taken) at (c .before .before .before .before .before .pre)
 
-abbrev μ-loop : tie.MeasureT-loop
-μ-loop table ids seen₀ slots slot₀ seen slot = slots - slot
+same-length : tie.Need-same-length
+same-length c = search needs
 
-loop-holds : tie.Need-loop-holds Inv-loop μ-loop
-loop-holds c = (none-start _ _, refl, λ k h. absurd (omega arith))
+returns : tie.Need-returns
+returns c = rw (c .before .before .before .before .if1 .taken) (c .before .before .lowest-twice-by .ensures)
 
-seen-twice-requires : tie.Need-seen-twice-requires Inv-loop μ-loop
-seen-twice-requires c κs = (omega arith, (c .before .before .before .before .before .before .pre .1, c .before .before .loop .inv .2))
+lowest-twice-by-requires-2 : tie.Need-lowest-twice-by-requires-2
+lowest-twice-by-requires-2 c κs = rw (other-width (c .before .before .before .before .before .pre .0 .0) (c .before .if1 .left)) at (c .before .before .before .before .before .pre)
 
-cast-t12 : tie.Need-cast-t12 Inv-loop μ-loop
-cast-t12 c = omega arith
+same-length-2 : tie.Need-same-length-2
+same-length-2 c = search needs
 
-same-length : tie.Need-same-length Inv-loop μ-loop
-same-length c = omega arith
-
-returns : tie.Need-returns Inv-loop μ-loop
-unfolding checkTwice
-returns c = lowest-at _ _ _ _ (omega arith) (c .before .before .before .before .loop .inv .0 .1) (sym (c .before .seen-twice .ensures) ∙ c .if1 .taken)
-
-mul-note-seen : tie.Need-mul-note-seen Inv-loop μ-loop
-mul-note-seen c = omega arith
-
-shared-slice-read-note-seen : tie.Need-shared-slice-read-note-seen Inv-loop μ-loop
-shared-slice-read-note-seen c = omega arith
-
-note-seen-requires : tie.Need-note-seen-requires Inv-loop μ-loop
-note-seen-requires c κs = omega arith
-
-add-slot : tie.Need-add-slot Inv-loop μ-loop
-add-slot c = omega arith
-
-loop-less : tie.Need-loop-less Inv-loop μ-loop
-loop-less c = omega arith
-
-loop-again : tie.Need-loop-again Inv-loop μ-loop
-loop-again c =
-    let turn = c .before .before .before .before .before .before .before .before .before .loop in
-    let ids = c .before .before .before .before .before .before .before .before .before .before .before .before .before .args .ids .now in
-    let called = c .before .before .note-seen in (
-      none-more _ _ _ (turn .inv .0) (omega arith) (sym (c .before .before .before .before .before .before .seen-twice .ensures) ∙ c .before .before .before .before .before .if1 .left),
-      omega (arith, called .kept, turn .inv .1),
-      rw (called .ensures) (seen-more ids (turn .seen) (turn .slot) (omega (arith, turn .inv .1)) (turn .inv .2)),
-    )
-
-same-length-2 : tie.Need-same-length-2 Inv-loop μ-loop
-same-length-2 c = omega arith
-
-returns-2 : tie.Need-returns-2 Inv-loop μ-loop
-unfolding checkTwice
-returns-2 c = lowest-none _ _ _ (λ k h. c .before .loop .inv .0 .1 k (omega arith))
+returns-2 : tie.Need-returns-2
+returns-2 c = rw (other-width (c .before .before .before .before .before .before .before .before .pre .0 .0) (c .before .before .before .before .if1 .left)) (c .before .before .lowest-twice-by2 .ensures)
 
 pub lowest-twice-spec : {M : Type 1} → statement M
 lowest-twice-spec =
     tie.close
     (tie.spec
-    Inv-loop
-    μ-loop
-    loop-holds
-    seen-twice-requires
-    cast-t12
+    lowest-twice-by-requires
     same-length
     returns
-    mul-note-seen
-    shared-slice-read-note-seen
-    note-seen-requires
-    add-slot
-    loop-less
-    loop-again
+    lowest-twice-by-requires-2
     same-length-2
     returns-2)

@@ -44,7 +44,7 @@ returns-2 c =
     let slot = start .args .slot in
     let off : seenAt seen (getD ids slot 0) ≡ false
     = ap (λ (p : ℕ). on (getD seen (p / 64) 0) (p % 64)) (sym (c .before .before .before .seen-place .ensures)) ∙ (sym (c .before .has-bit .ensures) ∙ c .if1 .left) in
-    sym (unlisted 2 (start .args .table .now) ids _ slot (start .pre .1 .0) (start .pre .0 .0) (unseen ids seen slot (start .pre .1 .1) off))
+    sym (unlisted _ (start .args .table .now) ids _ slot (start .pre .1 .0) (start .pre .0 .1) (unseen ids seen slot (start .pre .1 .1) off))
 
 pub seen-twice-spec : {M : Type 1} → statement M
 seen-twice-spec =

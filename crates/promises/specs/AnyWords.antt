@@ -1,0 +1,56 @@
+-- Document 02, 2026-09: matching, order and least count are shown for any number of words, and cited for both widths; so are demand 2's histories and plans,
+-- and the round trip of images. w is the number of words of a value, here any number: no width is tested in these definitions.
+use mathlib.Core.Path.{_≡_}
+use mathlib.Core.Bool.{true}
+use mathlib.Core.Logic.{_↔_}
+use mathlib.Core.List.{List, [], _∷_, _++_}
+use Prim.Native.Nat.{ℕ, _≤_, _<_}
+use lib.ListN.{length, take, drop}
+use Rattle.ternary.specs.Pattern.{Words, Overlap}
+use Rattle.records.specs.Record.{value, mask}
+use Rattle.records.specs.Order.{overlapping, InOrder}
+use Rattle.records.specs.Checks.{success, checkOrder, comparedAt}
+use Rattle.records.specs.declared.Rule.{Rule}
+use Rattle.records.specs.declared.Check.the-variants.{Pass}
+use Rattle.delete_plans.specs.Deletes.{deleteAnswer, deletePlan, deleteWords}
+use Rattle.insert_plans.specs.Inserts.{insertAnswer, insertPlan, insertWords}
+use Rattle.histories.specs.RuleSet.{Change, ruleSet, without, setReply}
+use Rattle.histories.specs.Holding.{Replies}
+use Rattle.histories.specs.Histories.{Reached}
+use Rattle.histories.specs.Demand2.{Demand2}
+use Rattle.image.specs.Reading.{Numbered, Words64}
+use Rattle.image.specs.Answers.{saveAnswer, saveBuffer, loadAnswer, loadTable}
+use Rattle.refusals.specs.Rows.{Accepts}
+use Rattle.refusals.specs.Calls.{newRuleRows}
+use Rattle.promises.specs.KeysOfSlot.{KeysOfSlot}
+use Rattle.promises.specs.SecondDemand.{SecondDemand}
+use Rattle.promises.specs.ThirdDemand.{OneWay, ThirdDemand}
+
+pub record AnyWords (w : ℕ) : Type 0 where
+  -- matching: of every slot and key what the comparison finds is exactly whether the rule matches
+  pub matching : (t : List ℕ) (i : ℕ) (key : Words) → KeysOfSlot w t i key (comparedAt w t key i)
+  -- order: the test of two patterns is whether they overlap, and check 4 passes exactly where the table is in order
+  pub overlap : (a b : Words) → (overlapping w a b ≡ true) ↔ Overlap w (value a) (mask w a) (value b) (mask w b)
+  pub order : (t : List ℕ) → (checkOrder w t ≡ Pass) ↔ InOrder w t
+  -- least count: where no condition of an insert's rows holds there is a sequence of the class, and none is shorter; those words are its plan, and with buffer
+  -- enough their number the answer
+  pub least : (t : List ℕ) (rule : Rule) → rule .action < 4294967296 → Accepts (newRuleRows w t rule)
+      → (words : List ℕ) × OneWay w t rule words × ((other : List ℕ) → OneWay w t rule other → length words ≤ length other)
+      × ((plan : List ℕ) → length words ≤ length plan
+      → (insertAnswer w t rule (length plan) ≡ success (length words ∷ [])) × (insertPlan w t rule plan ≡ words ++ drop (length words) plan))
+  -- demand 2: after any history, and within the plan of an insert or a delete
+  pub answered : (history : List Change) (t : List ℕ) → Reached w history t → (key : Words) → Replies w t key (setReply w (ruleSet history) key)
+  pub inserts : (t : List ℕ) (rule : Rule) (plan : List ℕ) (count : ℕ) → rule .action < 4294967296 → insertAnswer w t rule (length plan) ≡ success (count ∷ [])
+      → Demand2 w t (insertPlan w t rule plan) rule (insertWords w t rule) count (λ rules. rule ∷ rules)
+  pub deletes : (t : List ℕ) (id : ℕ) (plan : List ℕ) (count : ℕ) (rule : Rule) → deleteAnswer w t id (length plan) ≡ success (count ∷ [])
+      → Demand2 w t (deletePlan w t id plan) rule (deleteWords w t id) count (without id)
+  -- a saved image loads to the table it was saved from, where the offsets of an image have 32 bits
+  pub loads : Numbered w → (t image : List ℕ) (bytes : ℕ) → Words64 t → saveAnswer w t (length image) ≡ success (bytes ∷ []) → (lent : List ℕ) → length lent ≡ length t
+      → (loadAnswer w (take bytes (saveBuffer w t image)) lent ≡ success []) × (loadTable w (take bytes (saveBuffer w t image)) lent ≡ t)
+
+-- What is cited at a width that calls take: all this, an image whose offsets fit, and demands 2 and 3 of what the exported calls return and leave.
+pub record AtWidth (w : ℕ) : Type 0 where
+  pub words : AnyWords w
+  pub offsets : Numbered w
+  pub second : SecondDemand w
+  pub third : ThirdDemand w

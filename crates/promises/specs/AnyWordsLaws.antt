@@ -1,0 +1,39 @@
+-- End theorems: matching, order, least count, demand 2 and the round trip for any number of words, and each at two words and at five.
+use mathlib.Core.Path.{refl}
+use Prim.Native.Nat.{ℕ}
+use Rattle.ternary.specs.PatternLaws.{overlaps-law}
+use Rattle.records.specs.Record.{value, mask}
+use Rattle.records.specs.Checks.{comparedAt}
+use Rattle.records.specs.Laws.{order-law}
+use Rattle.records.specs.Widths.{Width}
+use Rattle.records.specs.WidthsLaws.{two, five}
+use Rattle.histories.specs.HistoriesLaws.{reached-lookup}
+use Rattle.histories.specs.Demand2Laws.{demand-2-insert, demand-2-delete}
+use Rattle.image.specs.RoundTripLaws.{width-numbered, saved-loads}
+use Rattle.promises.specs.AnyWords.{AnyWords, AtWidth}
+use Rattle.promises.specs.KeysOfSlotLaws.{compares}
+use Rattle.promises.specs.SecondDemandLaws.{second-demand}
+use Rattle.promises.specs.ThirdDemandLaws.{least-words, third-demand}
+
+-- document 02: for any number of words
+pub any-words : (w : ℕ) → AnyWords w
+any-words w = record {
+  matching = λ t i key. compares w t i key (comparedAt w t key i) refl;
+  overlap = λ a b. overlaps-law w (value a) (mask w a) (value b) (mask w b);
+  order = order-law w;
+  least = least-words w;
+  answered = λ history t reached key. reached-lookup reached key;
+  inserts = demand-2-insert w;
+  deletes = demand-2-delete w;
+  loads = λ narrow t image bytes words. saved-loads w t image bytes narrow words;
+}
+
+-- and cited for both
+at-width : (w : ℕ) → Width w → AtWidth w
+at-width w known = record { words = any-words w; offsets = width-numbered known; second = second-demand w known; third = third-demand w known }
+
+pub at-two-words : AtWidth 2
+at-two-words = at-width 2 two
+
+pub at-five-words : AtWidth 5
+at-five-words = at-width 5 five

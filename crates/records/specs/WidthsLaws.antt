@@ -1,0 +1,89 @@
+-- Laws on widths: what the check of a width means, and the slots of a table at one.
+use mathlib.Core.Path.{_≡_, refl, ap, _∙_, fun-ext}
+use mathlib.Core.Bool.{Bool, true, false, _||_, true≢false}
+use mathlib.Core.Logic.{_↔_, ⊎-elim}
+use mathlib.Core.Logic._⊎_.{inl, inr}
+use mathlib.Core.List.{List}
+use Prim.Native.Nat.{ℕ, _+_, _/_, _≤_, _<_}
+use native.Mathlib.Nat.{zero-add, zero-mul, div-self, div-le-self}
+use native.Mathlib.Omega.{arith}
+use lib.Dec.{eqb}
+use lib.ListN.{length}
+use borrow.Author.Tests.{eqb-true, eq-eqb}
+use Rattle.search.specs.SearchLaws.{decided}
+use Rattle.records.specs.Record.{word, recordWords, slotWords}
+use Rattle.records.specs.Order.{slots}
+use Rattle.records.specs.Checks.{orElse}
+use Rattle.records.specs.Laws.{pass-law, or-else-pass}
+use Rattle.records.specs.Widths.{known, Width, checkWidth, checkWords, checkKey, checkRule}
+use Rattle.records.specs.declared.Cause.the-variants.{Shape}
+use Rattle.records.specs.declared.Check.the-variants.{Pass}
+
+pub two : Width 2
+two = (omega arith, omega arith, inl refl)
+
+pub five : Width 5
+five = (omega arith, omega arith, inr refl)
+
+-- a width that is not 2 is 5
+pub other-width : {w : ℕ} → Width w → (w ≡ 2 → ⊥) → w ≡ 5
+other-width (l, h, inl e) f = absurd (f e)
+other-width (l, h, inr e) f = e
+
+-- the check of a width, and of the words lent with it
+known-law : (w : ℕ) → (known w ≡ true) ↔ Width w
+unfolding known
+known-law w = (to, from)
+  where
+    to : eqb w 2 || eqb w 5 ≡ true → Width w
+    to e = ⊎-elim (λ narrow. at-two (eqb-true w 2 narrow)) (λ other. at-five (eqb-true w 5 (wide other e))) (decided (eqb w 2))
+      where
+        at-two : w ≡ 2 → Width w
+        at-two same = (omega arith, omega arith, inl same)
+
+        at-five : w ≡ 5 → Width w
+        at-five same = (omega arith, omega arith, inr same)
+
+        wide : {a b : Bool} → a ≡ false → a || b ≡ true → b ≡ true
+        wide {a = true} f g = absurd (true≢false f)
+        wide {a = false} f g = g
+
+    from : Width w → eqb w 2 || eqb w 5 ≡ true
+    from (l, h, inl e) = ap (λ (k : ℕ). eqb k 2 || eqb k 5) e
+    from (l, h, inr e) = ap (λ (k : ℕ). eqb k 2 || eqb k 5) e
+
+pub width-law : (w : ℕ) → (checkWidth w ≡ Pass) ↔ Width w
+unfolding checkWidth
+width-law w = (λ e. known-law w .0 (pass-law Shape 0 (known w) .0 e), λ h. pass-law Shape 0 (known w) .1 (known-law w .1 h))
+
+words-law : (words needed : ℕ) → (checkWords words needed ≡ Pass) ↔ (words ≡ needed)
+unfolding checkWords
+words-law words needed = (
+  λ e. eqb-true words needed (pass-law Shape 0 (eqb words needed) .0 e),
+  λ h. pass-law Shape 0 (eqb words needed) .1 (eq-eqb words needed h),
+)
+
+lent-law : (w words needed : ℕ) → (orElse (checkWidth w) (checkWords words needed) ≡ Pass) ↔ (Width w × (words ≡ needed))
+lent-law w words needed = (
+  λ e. let both = or-else-pass (checkWidth w) (checkWords words needed) .0 e in (width-law w .0 (both .0), words-law words needed .0 (both .1)),
+  λ h. or-else-pass (checkWidth w) (checkWords words needed) .1 (width-law w .1 (h .0), words-law words needed .1 (h .1)),
+)
+
+pub key-law : (w words : ℕ) → (checkKey w words ≡ Pass) ↔ (Width w × (words ≡ w))
+unfolding checkKey
+key-law w words = lent-law w words w
+
+pub rule-law : (w words : ℕ) → (checkRule w words ≡ Pass) ↔ (Width w × (words ≡ recordWords w))
+unfolding checkRule
+rule-law w words = lent-law w words (recordWords w)
+
+-- a table has no more slots than words: so the number of a slot fits where the number of words does
+pub slots-fit : (w : ℕ) (t : List ℕ) → slots w t ≤ length t
+slots-fit w t = div-le-self (length t) (recordWords w)
+
+-- a record that is lent is a table of one slot, and that slot has the record's words
+pub lent-slot : (w : ℕ) (l : List ℕ) → length l ≡ recordWords w → 0 < slots w l
+lent-slot w l size = let one : slots w l ≡ 1 = ap (λ (n : ℕ). n / recordWords w) size ∙ div-self (omega arith) in omega arith
+
+pub lent-words : (w : ℕ) (l : List ℕ) → slotWords w l 0 ≡ word l
+lent-words w l = fun-ext (λ j. ap (word l) (ap (λ (k : ℕ). k + j) (zero-mul (recordWords w)) ∙ zero-add j))
