@@ -4,8 +4,9 @@
 #include <stdio.h>
 #include "tcam.h"
 
-static uint64_t table[4 * TCAM_SLOT_WORDS]; /* zeros: every slot is empty */
-#define BITS UINT64_C(0xC000000000000000)
+#define WIDTH TCAM_WIDTH_128                        /* keys of 128 bits, two words */
+static uint64_t table[TCAM_TABLE_WORDS(WIDTH, 4)];  /* zeros: every slot is empty */
+static const uint64_t bits[WIDTH] = {UINT64_C(0xC000000000000000), 0}, no_bits[WIDTH] = {0, 0};
 
 static int refused(const char *call, uint32_t number, uint32_t spot)
 {
@@ -14,10 +15,10 @@ static int refused(const char *call, uint32_t number, uint32_t spot)
     return 1;
 }
 
-static int look_up(uint64_t key)
+static int look_up(const uint64_t *key)
 {
     uint32_t slot, id, action, spot;
-    uint32_t number = tcam_lookup(table, TCAM_WORDS(table), key, 0, &slot, &id, &action, &spot);
+    uint32_t number = tcam_lookup(table, TCAM_WORDS(table), WIDTH, key, WIDTH, &slot, &id, &action, &spot);
     if (number != TCAM_OK)
         return refused("lookup", number, spot);
     if (id == 0)
@@ -29,17 +30,21 @@ static int look_up(uint64_t key)
 
 int main(void)
 {
+    uint64_t rule[TCAM_RECORD_WORDS(WIDTH)];
+    tcam_make_record(rule, WIDTH, 1, 30, bits, bits, 7); /* id, priority, value, mask, action */
+
     uint32_t plan[4], count, spot; /* a plan has at most as many words as the table has slots */
-    uint32_t number = tcam_plan_insert(table, TCAM_WORDS(table), 1, 30, BITS, 0, BITS, 0, 7, plan, 4, &count, &spot);
+    uint32_t number =
+        tcam_plan_insert(table, TCAM_WORDS(table), WIDTH, rule, TCAM_WORDS(rule), plan, TCAM_WORDS(plan), &count, &spot);
     if (number != TCAM_OK)
         return refused("insert", number, spot);
 
     tcam_progress progress = {0, count};
     uint64_t result;
-    while ((result = tcam_carry_out(table, TCAM_WORDS(table), plan, count, 1, 30, BITS, 0, BITS, 0, 7, &progress)) == TCAM_WROTE)
+    while ((result = tcam_carry_out(table, TCAM_WORDS(table), WIDTH, rule, TCAM_WORDS(rule), plan, count, &progress)) == TCAM_WROTE)
         ; /* look up as many frames as you like here */
     if (result != TCAM_FINISHED)
         return refused("carrying out", tcam_carry_number(result), tcam_carry_spot(result));
 
-    return look_up(BITS) || look_up(0);
+    return look_up(bits) || look_up(no_bits);
 }

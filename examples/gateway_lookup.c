@@ -10,10 +10,11 @@ static const uint64_t table[] = {
     RULE(14, 100, KEY(10, 0, 0, 0, 0), KEY(255, 0, 0, 0, 0), 1),           /* the rest of the site: uplink */
 };
 
-static void show(const char *frame, uint64_t key)
+static void show(const char *frame, uint64_t first_word)
 {
+    const uint64_t key[WIDTH] = {first_word, 0};
     uint32_t slot, id, action, spot;
-    uint32_t number = tcam_lookup(table, TCAM_WORDS(table), key, 0, &slot, &id, &action, &spot);
+    uint32_t number = tcam_lookup(table, TCAM_WORDS(table), WIDTH, key, TCAM_WORDS(key), &slot, &id, &action, &spot);
     if (number != TCAM_OK)
         stop("lookup", number, spot);
     if (id == 0)
@@ -29,13 +30,13 @@ int main(void)
     show("10.0.9.1:80", KEY(10, 0, 9, 1, 80));
     show("10.3.0.1:80", KEY(10, 3, 0, 1, 80));
     show("192.168.0.1:80", KEY(192, 168, 0, 1, 80));
-    for (uint32_t slot = 0; slot < TCAM_WORDS(table) / TCAM_SLOT_WORDS; slot++) {
-        const uint64_t *record = tcam_slot_words(table, TCAM_WORDS(table), slot);
+    for (uint32_t slot = 0; slot < TCAM_TABLE_SLOTS(WIDTH, TCAM_WORDS(table)); slot++) {
+        const uint64_t *record = tcam_slot_words(table, TCAM_WORDS(table), WIDTH, slot);
         if (record == NULL)
             printf("slot %" PRIu32 ": empty\n", slot);
         else
-            printf("slot %" PRIu32 ": rule %" PRIu32 ", priority %" PRIu32 "\n", slot, tcam_record_id(record),
-                   tcam_record_priority(record));
+            printf("slot %" PRIu32 ": rule %" PRIu32 ", priority %" PRIu32 "\n", slot, tcam_record_id(record, WIDTH),
+                   tcam_record_priority(record, WIDTH));
     }
     return 0;
 }

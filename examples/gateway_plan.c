@@ -12,57 +12,33 @@ static uint64_t table[] = {
     EMPTY,
 };
 #define WORDS TCAM_WORDS(table)
-#define SLOTS (WORDS / TCAM_SLOT_WORDS)
+#define SLOTS TCAM_TABLE_SLOTS(WIDTH, WORDS)
 
 /* the new rule comes before subscriber 7's, and so has to stand in a lower slot */
-static const uint64_t console[TCAM_SLOT_WORDS] = {
+static const uint64_t console[RECORD_WORDS] = {
     RULE(11, 300, KEY(10, 0, 7, 0, 22), KEY(255, 255, 255, 0, 65535), 9), /* the subscriber's console: drop */
 };
 
 static struct frame frames[] = {
-    {"10.0.7.40:22", KEY(10, 0, 7, 40, 22), 0, 0}, {"10.0.7.40:443", KEY(10, 0, 7, 40, 443), 0, 0},
-    {"10.0.9.1:443", KEY(10, 0, 9, 1, 443), 0, 0}, {"10.0.9.1:80", KEY(10, 0, 9, 1, 80), 0, 0},
-    {"192.168.0.1:80", KEY(192, 168, 0, 1, 80), 0, 0}, {"172.16.0.1:80", KEY(172, 16, 0, 1, 80), 0, 0},
+    {"10.0.7.40:22", {KEY(10, 0, 7, 40, 22)}, 0, 0}, {"10.0.7.40:443", {KEY(10, 0, 7, 40, 443)}, 0, 0},
+    {"10.0.9.1:443", {KEY(10, 0, 9, 1, 443)}, 0, 0}, {"10.0.9.1:80", {KEY(10, 0, 9, 1, 80)}, 0, 0},
+    {"192.168.0.1:80", {KEY(192, 168, 0, 1, 80)}, 0, 0}, {"172.16.0.1:80", {KEY(172, 16, 0, 1, 80)}, 0, 0},
 };
 #define FRAMES (sizeof frames / sizeof frames[0])
-
-static void print_write(uint32_t word)
-{
-    uint32_t from = tcam_write_from(word), to = tcam_write_to(word);
-    if (from == TCAM_PUT)
-        printf("new rule -> slot %" PRIu32 "\n", to);
-    else if (from == TCAM_EMPTY)
-        printf("empty slot %" PRIu32 "\n", to);
-    else
-        printf("slot %" PRIu32 " -> slot %" PRIu32 "\n", from, to);
-}
-
-/* Carries a plan out, write by write, and tells after each which frames have another reply than before. */
-static void carry_out_plan(const uint32_t *plan, uint32_t count, const uint64_t *rule)
-{
-    tcam_progress progress = {0, count};
-    uint64_t result;
-    while ((result = tcam_carry_out(table, WORDS, plan, count, RULE_ARGUMENTS(rule), &progress)) == TCAM_WROTE) {
-        print_write(plan[progress.done - 1]);
-        print_changes(table, WORDS, frames, FRAMES);
-    }
-    if (result != TCAM_FINISHED)
-        stop("carrying out", tcam_carry_number(result), tcam_carry_spot(result));
-}
 
 /* The table is saved, lost, and loaded again. */
 static void restart(void)
 {
-    static uint8_t image[TCAM_IMAGE_BYTES(SLOTS)];
+    static uint8_t image[TCAM_IMAGE_BYTES(WIDTH, SLOTS)];
     uint32_t bytes, spot;
-    uint32_t number = tcam_save(table, WORDS, image, sizeof image, &bytes, &spot);
+    uint32_t number = tcam_save(table, WORDS, WIDTH, image, sizeof image, &bytes, &spot);
     if (number != TCAM_OK) {
         print_image_refusal("save", number, spot);
         exit(1);
     }
     printf("saved, %" PRIu32 " bytes\n", bytes);
     memset(table, 0, sizeof table);
-    number = tcam_load(image, bytes, table, WORDS, &spot);
+    number = tcam_load(image, bytes, table, WORDS, WIDTH, &spot);
     if (number != TCAM_OK) {
         print_image_refusal("load", number, spot);
         exit(1);
@@ -70,7 +46,7 @@ static void restart(void)
     printf("loaded\n");
     print_changes(table, WORDS, frames, FRAMES);
 
-    number = tcam_load(image, bytes - 1, table, WORDS, &spot);
+    number = tcam_load(image, bytes - 1, table, WORDS, WIDTH, &spot);
     print_image_refusal("load of a byte less", number, spot);
 }
 
@@ -81,17 +57,17 @@ int main(void)
     printf("at the start\n");
     print_replies(table, WORDS, frames, FRAMES);
 
-    uint32_t number = tcam_plan_insert(table, WORDS, RULE_ARGUMENTS(console), plan, SLOTS, &count, &spot);
+    uint32_t number = tcam_plan_insert(table, WORDS, WIDTH, console, RECORD_WORDS, plan, SLOTS, &count, &spot);
     if (number != TCAM_OK)
         stop("insert", number, spot);
     printf("insert rule 11, %" PRIu32 " writes\n", count);
-    carry_out_plan(plan, count, console);
+    carry_out_and_tell(table, WORDS, plan, count, console, frames, FRAMES);
 
-    number = tcam_plan_delete(table, WORDS, 15, plan, SLOTS, &count, &spot);
+    number = tcam_plan_delete(table, WORDS, WIDTH, 15, plan, SLOTS, &count, &spot);
     if (number != TCAM_OK)
         stop("delete", number, spot);
     printf("delete rule 15, %" PRIu32 " write\n", count);
-    carry_out_plan(plan, count, console); /* no rule is put in, so that any will do */
+    carry_out_and_tell(table, WORDS, plan, count, tcam_no_rule, frames, FRAMES); /* a delete puts no rule in */
     restart();
     return 0;
 }

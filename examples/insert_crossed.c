@@ -12,17 +12,17 @@ static uint64_t table[] = {
     EMPTY,
 };
 #define WORDS TCAM_WORDS(table)
-#define SLOTS (WORDS / TCAM_SLOT_WORDS)
+#define SLOTS TCAM_TABLE_SLOTS(WIDTH, WORDS)
 
 /* the new rule belongs after subscriber 9's and before subscriber 7's, which stand the other way round; and rule 24, which does
  * not overlap it, depends on subscriber 7's */
-static const uint64_t web[TCAM_SLOT_WORDS] = {
+static const uint64_t web[RECORD_WORDS] = {
     RULE(23, 200, KEY(10, 0, 0, 0, 443), KEY(255, 255, 0, 0, 65535), 5), /* the site's web frames: proxy */
 };
 
 static struct frame frames[] = {
-    {"10.0.7.40:443", KEY(10, 0, 7, 40, 443), 0, 0}, {"10.0.7.40:22", KEY(10, 0, 7, 40, 22), 0, 0},
-    {"10.0.6.1:22", KEY(10, 0, 6, 1, 22), 0, 0}, {"10.0.9.1:443", KEY(10, 0, 9, 1, 443), 0, 0},
+    {"10.0.7.40:443", {KEY(10, 0, 7, 40, 443)}, 0, 0}, {"10.0.7.40:22", {KEY(10, 0, 7, 40, 22)}, 0, 0},
+    {"10.0.6.1:22", {KEY(10, 0, 6, 1, 22)}, 0, 0}, {"10.0.9.1:443", {KEY(10, 0, 9, 1, 443)}, 0, 0},
 };
 #define FRAMES (sizeof frames / sizeof frames[0])
 
@@ -31,7 +31,7 @@ static void carry_out_plan(const uint32_t *plan, uint32_t count, const uint64_t 
 {
     tcam_progress progress = {0, count};
     uint64_t result;
-    while ((result = tcam_carry_out(table, WORDS, plan, count, RULE_ARGUMENTS(rule), &progress)) == TCAM_WROTE)
+    while ((result = tcam_carry_out(table, WORDS, WIDTH, rule, RECORD_WORDS, plan, count, &progress)) == TCAM_WROTE)
         ;
     if (result != TCAM_FINISHED)
         stop("carrying out", tcam_carry_number(result), tcam_carry_spot(result));
@@ -41,31 +41,35 @@ static void carry_out_plan(const uint32_t *plan, uint32_t count, const uint64_t 
 static void put_in(const uint64_t *rule)
 {
     uint32_t plan[SLOTS], count, spot;
-    uint32_t number = tcam_plan_insert(table, WORDS, RULE_ARGUMENTS(rule), plan, SLOTS, &count, &spot);
+    uint32_t number = tcam_plan_insert(table, WORDS, WIDTH, rule, RECORD_WORDS, plan, SLOTS, &count, &spot);
     if (number != TCAM_OK)
         stop("insert", number, spot);
-    printf("insert rule %" PRIu32 "\n", tcam_record_id(rule));
+    printf("insert rule %" PRIu32 "\n", tcam_record_id(rule, WIDTH));
     carry_out_plan(plan, count, rule);
 }
 
 static void take_out(const uint64_t *rule)
 {
     uint32_t plan[1], count, spot;
-    uint32_t number = tcam_plan_delete(table, WORDS, tcam_record_id(rule), plan, 1, &count, &spot);
+    uint32_t number = tcam_plan_delete(table, WORDS, WIDTH, tcam_record_id(rule, WIDTH), plan, 1, &count, &spot);
     if (number != TCAM_OK)
         stop("delete", number, spot);
-    printf("delete rule %" PRIu32 "\n", tcam_record_id(rule));
-    carry_out_plan(plan, count, rule);
+    printf("delete rule %" PRIu32 "\n", tcam_record_id(rule, WIDTH));
+    carry_out_plan(plan, count, tcam_no_rule);
 }
 
 static int depends(const uint64_t *rule, const uint64_t *other)
 {
-    return ((rule[0] ^ other[0]) & rule[2] & other[2]) == 0 && ((rule[1] ^ other[1]) & rule[3] & other[3]) == 0 &&
-           tcam_record_priority(rule) < tcam_record_priority(other);
+    for (uint32_t index = 0; index < WIDTH; index++) {
+        uint64_t both_care = tcam_record_mask(rule, WIDTH, index) & tcam_record_mask(other, WIDTH, index);
+        if ((tcam_record_value(rule, WIDTH, index) ^ tcam_record_value(other, WIDTH, index)) & both_care)
+            return 0; /* they do not overlap */
+    }
+    return tcam_record_priority(rule, WIDTH) < tcam_record_priority(other, WIDTH);
 }
 
 /* The slot's rule depends on one of these. */
-static int depends_on_some(const uint64_t *rule, uint64_t rules[][TCAM_SLOT_WORDS], size_t count)
+static int depends_on_some(const uint64_t *rule, uint64_t rules[][RECORD_WORDS], size_t count)
 {
     while (count > 0)
         if (depends(rule, rules[--count]))
@@ -75,11 +79,11 @@ static int depends_on_some(const uint64_t *rule, uint64_t rules[][TCAM_SLOT_WORD
 
 /* Takes out every rule that depends on the first of these, directly or through others, and adds it to them. In a table in
  * order these come after what they depend on, but for the first one, so that one pass finds all. */
-static size_t take_out_dependants(uint64_t rules[][TCAM_SLOT_WORDS])
+static size_t take_out_dependants(uint64_t rules[][RECORD_WORDS])
 {
     size_t count = 1;
     for (uint32_t slot = 0; slot < SLOTS; slot++) {
-        const uint64_t *record = tcam_slot_words(table, WORDS, slot);
+        const uint64_t *record = tcam_slot_words(table, WORDS, WIDTH, slot);
         if (record != NULL && depends_on_some(record, rules, count)) {
             memcpy(rules[count], record, sizeof rules[count]);
             take_out(rules[count++]);
@@ -90,7 +94,7 @@ static size_t take_out_dependants(uint64_t rules[][TCAM_SLOT_WORDS])
 
 static int by_falling_priority(const void *left, const void *right)
 {
-    uint32_t one = tcam_record_priority(left), other = tcam_record_priority(right);
+    uint32_t one = tcam_record_priority(left, WIDTH), other = tcam_record_priority(right, WIDTH);
     return (one < other) - (one > other);
 }
 
@@ -100,12 +104,12 @@ int main(void)
     printf("at the start\n");
     print_replies(table, WORDS, frames, FRAMES);
 
-    uint32_t number = tcam_plan_insert(table, WORDS, RULE_ARGUMENTS(web), plan, SLOTS, &count, &spot);
+    uint32_t number = tcam_plan_insert(table, WORDS, WIDTH, web, RECORD_WORDS, plan, SLOTS, &count, &spot);
     print_refusal("insert of rule 23", number, spot);
     if (number != TCAM_CROSSED)
         return 1;
 
-    uint64_t rules[SLOTS + 1][TCAM_SLOT_WORDS];
+    uint64_t rules[SLOTS + 1][RECORD_WORDS];
     memcpy(rules[0], web, sizeof web);
     size_t taken = take_out_dependants(rules);
     qsort(rules, taken, sizeof rules[0], by_falling_priority); /* the new rule stays the first */

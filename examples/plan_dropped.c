@@ -11,16 +11,16 @@ static const uint64_t start[] = {
     EMPTY,
 };
 #define WORDS TCAM_WORDS(start)
-#define SLOTS (WORDS / TCAM_SLOT_WORDS)
+#define SLOTS TCAM_TABLE_SLOTS(WIDTH, WORDS)
 static uint64_t table[WORDS];
 
-static const uint64_t console[TCAM_SLOT_WORDS] = {
+static const uint64_t console[RECORD_WORDS] = {
     RULE(11, 300, KEY(10, 0, 7, 0, 22), KEY(255, 255, 255, 0, 65535), 9), /* the subscriber's console: drop */
 };
 
 static struct frame frames[] = {
-    {"10.0.7.40:22", KEY(10, 0, 7, 40, 22), 0, 0}, {"10.0.9.1:443", KEY(10, 0, 9, 1, 443), 0, 0},
-    {"192.168.0.1:80", KEY(192, 168, 0, 1, 80), 0, 0}, {"172.16.0.1:80", KEY(172, 16, 0, 1, 80), 0, 0},
+    {"10.0.7.40:22", {KEY(10, 0, 7, 40, 22)}, 0, 0}, {"10.0.9.1:443", {KEY(10, 0, 9, 1, 443)}, 0, 0},
+    {"192.168.0.1:80", {KEY(192, 168, 0, 1, 80)}, 0, 0}, {"172.16.0.1:80", {KEY(172, 16, 0, 1, 80)}, 0, 0},
 };
 #define FRAMES (sizeof frames / sizeof frames[0])
 
@@ -29,7 +29,7 @@ static void carry_out(const uint32_t *plan, tcam_progress *progress, uint32_t wr
 {
     uint64_t result = TCAM_WROTE;
     while (writes-- > 0 && result == TCAM_WROTE)
-        result = tcam_carry_out(table, WORDS, plan, progress->total, RULE_ARGUMENTS(console), progress);
+        result = tcam_carry_out(table, WORDS, WIDTH, console, RECORD_WORDS, plan, progress->total, progress);
     if (result != TCAM_WROTE && result != TCAM_FINISHED)
         stop("carrying out", tcam_carry_number(result), tcam_carry_spot(result));
     printf("%" PRIu32 " of %" PRIu32 " writes made\n", progress->done, progress->total);
@@ -43,7 +43,7 @@ static tcam_progress drop_half_way(uint32_t *plan)
     memcpy(table, start, sizeof table);
     for (size_t index = 0; index < FRAMES; index++)
         look_up(table, WORDS, &frames[index]);
-    uint32_t number = tcam_plan_insert(table, WORDS, RULE_ARGUMENTS(console), plan, SLOTS, &count, &spot);
+    uint32_t number = tcam_plan_insert(table, WORDS, WIDTH, console, RECORD_WORDS, plan, SLOTS, &count, &spot);
     if (number != TCAM_OK)
         stop("insert", number, spot);
     tcam_progress progress = {0, count};
@@ -56,7 +56,7 @@ static tcam_progress drop_half_way(uint32_t *plan)
 static uint32_t plan_anew(uint32_t *plan)
 {
     uint32_t number, count, spot;
-    while ((number = tcam_plan_insert(table, WORDS, RULE_ARGUMENTS(console), plan, SLOTS, &count, &spot)) == TCAM_TWICE) {
+    while ((number = tcam_plan_insert(table, WORDS, WIDTH, console, RECORD_WORDS, plan, SLOTS, &count, &spot)) == TCAM_TWICE) {
         uint32_t empty[1] = {tcam_write_word(TCAM_EMPTY, spot)};
         tcam_progress progress = {0, 1};
         print_refusal("insert", number, spot);
@@ -73,11 +73,11 @@ static uint32_t plan_anew(uint32_t *plan)
 int main(void)
 {
     uint32_t plan[SLOTS], bytes, spot;
-    uint8_t image[TCAM_IMAGE_BYTES(SLOTS)];
+    uint8_t image[TCAM_IMAGE_BYTES(WIDTH, SLOTS)];
 
     printf("the plan is kept: ");
     tcam_progress progress = drop_half_way(plan);
-    uint32_t number = tcam_save(table, WORDS, image, sizeof image, &bytes, &spot);
+    uint32_t number = tcam_save(table, WORDS, WIDTH, image, sizeof image, &bytes, &spot);
     if (number != TCAM_OK)
         print_image_refusal("save", number, spot);
     printf("carried on: ");

@@ -2,24 +2,32 @@
  * tcam.h: looking up keys in a table of ternary rules, planning how rules are put in and taken out, carrying
  * the plans out write by write, and saving and loading tables.
  *
+ * THE WIDTH of a table is the number of 64-bit words of a value, of a mask and of a key: 2 (TCAM_WIDTH_128, keys of
+ * 128 bits) or 5 (TCAM_WIDTH_320, keys of 320 bits, room for IPv6 addresses, ports and protocol). It is given with
+ * each call. High words come first.
+ *
  * THE TABLE is an array of 64-bit words that the caller owns and lends to each call. It has 1 to
- * 1,024 slots, numbered from 0, of six words each. Slot i is the words 6 * i to 6 * i + 5, its record:
+ * 1,024 slots, numbered from 0, of TCAM_RECORD_WORDS(width) words each: a slot's record.
  *
- *     word 0   value, high 64 bits
- *     word 1   value, low 64 bits
- *     word 2   mask, high 64 bits
- *     word 3   mask, low 64 bits
- *     word 4   id * 2^32 + action (32 bits each)
- *     word 5   priority
+ *                            width 2      width 5
+ *     value                  words 0, 1   words 0 to 4
+ *     mask                   words 2, 3   words 5 to 9
+ *     id * 2^32 + action     word 4       word 10        (32 bits each)
+ *     priority               word 5       word 11
+ *     words of a record      6            12
  *
- * Six zero words are an empty slot. Any other record is a rule. A rule is sound if its id is not 0,
+ * A record of zeros is an empty slot. Any other record is a rule. A rule is sound if its id is not 0,
  * its priority is at most 65,535 and each value bit outside the mask is 0. A mask bit 1 means "cared
- * for": a key of 128 bits matches a rule when it equals the value at all bits cared for. An empty slot
+ * for": a key matches a rule when it equals the value at all bits cared for. An empty slot
  * matches no key. The lowest-numbered matching slot wins, whatever the priorities are.
  *
- * A table's length is given in words, and so is a plan's: TCAM_WORDS(array), not sizeof. A table's bytes, 48 for
- * each slot, are a multiple of six too: up to 128 slots they pass for words, so that nothing is refused and the
- * call goes past the table's end.
+ * A RULE to be put in is given as one record, and a key as `width` words. tcam_make_record makes a record from its
+ * parts, tcam_record_id and its like read one, and TCAM_TABLE_WORDS(width, slots) is the length of a table: a program
+ * at one width names the width and needs no other number of these.
+ *
+ * A table's length is given in words, and so are a rule's, a key's and a plan's: TCAM_WORDS(array), not sizeof. A
+ * table's bytes, 48 or 96 for each slot, are whole records in number too: up to 128 slots they pass for words, so that
+ * nothing is refused and the call goes past the table's end.
  *
  * ORDER. Two rules overlap when no bit is cared for by both with different values. The one of higher
  * priority then precedes the other, which depends on it. A table is in order when of any two overlapping
@@ -52,12 +60,14 @@
  *
  *     slots (2 bytes), rules e (2)
  *     for each rule, in rising slot order: id (4), slot (2), offset of its body from the image's first byte (4)
- *     for each rule, in the same order, its body: value (16), mask (16), priority (4), action (4)
+ *     for each rule, in the same order, its body: value (8 for each word), mask (the same), priority (4), action (4)
  *
- * So it has 4 + 50 * e bytes, at any address. A saved image loads, into any table of as many slots, to the
- * table it was saved from; and an image that loads is saved again to the same bytes. It has no checksum of its
- * own: where a byte has changed and the image is still sound, it loads, to another table. A caller who keeps
- * images where bytes may change keeps a checksum with each.
+ * So it has 4 + 50 * e bytes at width 2 and 4 + 98 * e at width 5, TCAM_IMAGE_BYTES(width, e), at any address. A saved
+ * image loads, into any table of as many slots and of the same width, to the table it was saved from; and an image
+ * that loads is saved again to the same bytes. The width does not stand in it: an image of the other width is refused
+ * by its length, but for an image without rules, which loads at either. It has no checksum of its own: where a byte
+ * has changed and the image is still sound, it loads, to another table. A caller who keeps images where bytes may
+ * change keeps a checksum with each.
  *
  * RESULTS. The result is 0 (TCAM_OK), or the number of the refusal. A refusal also has a spot, which says where
  * the fault is, how much is needed or how much is done: a slot, an offset or a count, as told at each call, and 0
@@ -70,24 +80,27 @@
  * number and spot together, and a refusal writes nothing at all.
  *
  * THE CALLER OWES, since no call can test it:
- *   - every pointer is valid for what it points to and not null; the pointers of the table, of the plan and
- *     of the image may be null only where the length that goes with them is 0;
- *   - every pointer is aligned: a table's to 8 bytes; a plan's, a cell's and a progress record's to 4; an
- *     image's to any;
- *   - the lent cells, the progress record, the plan, the image and the table share no byte with each other;
- *   - until a call returns, nothing else changes what it is lent: a table, a plan buffer, an image buffer, a
- *     progress record or a cell;
+ *   - every pointer is valid for what it points to and not null; the pointers of the table, of the rule, of the
+ *     key, of the plan and of the image may be null only where the length that goes with them is 0;
+ *   - every pointer is aligned: a table's, a rule's and a key's to 8 bytes; a plan's, a cell's and a progress
+ *     record's to 4; an image's to any;
+ *   - the lent cells, the progress record, the plan, the image, the table, the rule and the key share no byte with
+ *     each other;
+ *   - a table is given with its own width in every call. Many lengths are a table's at both widths, as 12 words are
+ *     two slots at width 2 and one at width 5: the same words are then read as another table;
+ *   - until a call returns, nothing else changes what it is lent: a table, a rule, a key, a plan buffer, an image
+ *     buffer, a progress record or a cell;
  *   - no other call is made on the table while tcam_carry_out or tcam_load runs, not from an interrupt handler
- *     or another core either: a write is six stores, and what is promised of lookups is promised between calls.
- *     While nothing writes the table, calls that only read it, tcam_lookup and tcam_slot_record among them, may
- *     run side by side, on several cores too, each with its own cells and buffers;
+ *     or another core either: a write is a store for each word of a record, and what is promised of lookups is
+ *     promised between calls. While nothing writes the table, calls that only read it, tcam_lookup and
+ *     tcam_slot_record among them, may run side by side, on several cores too, each with its own cells and buffers;
  *   - the platform is x86-64 with the System V calling convention. At the call instruction the stack pointer is
  *     a multiple of 16 and the direction flag is clear: a C compiler sees to both, but an interrupt handler or
  *     assembler code that calls has to do so itself. SSE2 registers and the red zone are used: an interrupt
  *     handler saves those registers if it uses them or calls the library, and steps over the 128 bytes below the
  *     stack pointer if it runs on the same stack;
- *   - the program has a memset and a memcpy, as in C's string.h: the planning calls and tcam_save call
- *     memset, tcam_load both;
+ *   - the program has a memset and a memmove, as in C's string.h: the planning calls, tcam_save and tcam_load
+ *     call memset, tcam_carry_out both;
  *   - there is stack enough, as told below.
  *
  * No call but tcam_carry_out and tcam_load changes the table, and none keeps anything for later. Each call but
@@ -95,18 +108,20 @@
  * table's length only, and checks the whole image before it writes. The time of the planning calls, of tcam_save
  * and of tcam_load grows faster, at worst with the square of the slots, since they compare rules in pairs.
  *
- * STACK, measured on this build at 1,024 slots, rounded up, with the arguments that the caller pushes:
+ * STACK, measured on this build at 1,024 slots, rounded up, with the arguments that the caller pushes, in bytes:
  *
- *     tcam_lookup, tcam_slot_record   128 bytes
- *     tcam_plan_delete                24,064 bytes
- *     tcam_carry_out                  192 bytes
- *     tcam_plan_insert                30,336 bytes, or 10,752 and 96 for each word of the plan, where that is more
- *     tcam_save                       24,064 bytes
- *     tcam_load                       73,216 bytes
+ *                         width 2   width 5
+ *     tcam_lookup             288       288
+ *     tcam_slot_record        128       128
+ *     tcam_plan_delete     24,640    24,640
+ *     tcam_carry_out          304       304
+ *     tcam_plan_insert     30,848    30,848, or 10,752 and 96 for each word of the plan, where that is more
+ *     tcam_save            24,704    24,704
+ *     tcam_load            74,112   123,264
  *
  * The longest plan, of 1,024 words, takes 109,056 bytes, 106.5 KiB. A plan that does not fit its buffer is
- * not written out, so that a buffer of n words bounds the stack at 10,752 + 96 * n bytes, or at 30,336 where
- * that is more.
+ * not written out, so that a buffer of n words bounds the stack at 10,752 + 96 * n bytes, or at 30,848 where
+ * that is more. tcam_load builds the whole table on the stack before it writes the lent one.
  */
 #ifndef TCAM_H
 #define TCAM_H
@@ -118,17 +133,29 @@
 extern "C" {
 #endif
 
-/* Words of a slot record, and the most slots of a table. */
-#define TCAM_SLOT_WORDS 6u
+/* The widths: words of a value, of a mask and of a key, for keys of 128 bits and of 320. */
+#define TCAM_WIDTH_128 2u
+#define TCAM_WIDTH_320 5u
+
+/* The most slots of a table. */
 #define TCAM_MAX_SLOTS 1024u
 
-/* Words of an array of words, a table or a plan. Of the array itself: from a pointer no length can be told. */
+/* Words of a record, which is a slot or a rule given. */
+#define TCAM_RECORD_WORDS(width) ((size_t)2 * (size_t)(width) + (size_t)2)
+
+/* Words of a table of so many slots, and so also the index of the first word of the slot of that number. */
+#define TCAM_TABLE_WORDS(width, slots) (TCAM_RECORD_WORDS(width) * (size_t)(slots))
+
+/* Slots of a table of so many words. */
+#define TCAM_TABLE_SLOTS(width, words) ((size_t)(words) / TCAM_RECORD_WORDS(width))
+
+/* Words of an array: a table, a rule, a key or a plan. Of the array itself: from a pointer no length can be told. */
 #define TCAM_WORDS(array) (sizeof(array) / sizeof((array)[0]))
 
-/* Bytes of an image of so many rules. */
-#define TCAM_IMAGE_BYTES(rules) ((size_t)4 + (size_t)50 * (size_t)(rules))
+/* Bytes of an image of so many rules: a head, and for each rule an entry of 10 bytes and a body. */
+#define TCAM_IMAGE_BYTES(width, rules) ((size_t)4 + ((size_t)18 + (size_t)16 * (size_t)(width)) * (size_t)(rules))
 
-/* Word 4 of a record. Also for initializers of constant tables. */
+/* The word of a record that holds id and action. Also for initializers of constant tables. */
 #define TCAM_ID_ACTION(id, action) ((uint64_t)(uint32_t)(id) << 32 | (uint64_t)(uint32_t)(action))
 
 /* `from` of a plan word that puts the new rule in, and of one that empties a slot. */
@@ -141,7 +168,7 @@ extern "C" {
  */
 enum tcam_cause {
     TCAM_OK = 0,       /* not a refusal */
-    TCAM_SHAPE = 1,    /* the words are not 6 * (1 to 1,024). lookup, plan_insert, plan_delete, carry_out, save, load */
+    TCAM_SHAPE = 1,    /* no such width, or not its words. lookup, plan_insert, plan_delete, carry_out, save, load */
     TCAM_RECORD = 2,   /* a slot is neither empty nor a sound rule. lookup, plan_insert, plan_delete, carry_out, save */
     TCAM_TWICE = 3,    /* a slot's id stands in an earlier one too. plan_insert, plan_delete, save, load */
     TCAM_ORDER = 4,    /* an earlier overlapping rule has no higher priority. plan_insert, plan_delete, save, load */
@@ -160,52 +187,54 @@ enum tcam_cause {
 /*
  * Looks up a key: slot, id and action of the lowest-numbered slot that matches it.
  *
- *   table, words       the table and its length in words
- *   key_high, key_low  the key's high and low 64 bits
- *   slot, id, action   cells for the data
- *   spot               cell for a refusal's spot
+ *   table, words      the table and its length in words
+ *   width             its width
+ *   key, key_words    the key and its length in words, which is the width
+ *   slot, id, action  cells for the data
+ *   spot              cell for a refusal's spot
  *
  * Result TCAM_OK, hit: the matching slot, its rule's id and its action are written.
  * Result TCAM_OK, miss: *slot, *id and *action are all set to 0. *id == 0 tells a miss, since no rule
  * has id 0; *slot == 0 does not tell one.
  *
  * Refusals, in the order of checks:
- *   TCAM_SHAPE   words is not 6 * (1 to 1,024). *spot is 0.
+ *   TCAM_SHAPE   width is neither 2 nor 5, words is not TCAM_TABLE_WORDS(width, 1 to 1,024), or key_words is not
+ *                width. *spot is 0.
  *   TCAM_RECORD  a slot is neither empty nor a sound rule, whether it would match or not. *spot is the
  *                lowest such slot.
  * Nothing else is checked: where an id stands twice or the rules are out of order, the lowest matching slot is
  * still the answer.
  */
-uint32_t tcam_lookup(const uint64_t *table, size_t words, uint64_t key_high, uint64_t key_low,
+uint32_t tcam_lookup(const uint64_t *table, size_t words, uint32_t width, const uint64_t *key, size_t key_words,
                      uint32_t *slot, uint32_t *id, uint32_t *action, uint32_t *spot);
 
 /*
  * Finds a slot's record as a part of the table.
  *
  *   table, words  the table and its length in words
+ *   width         its width
  *   slot          the slot, any number
  *   first         cell for the index of the part's first word
  *
- * Result 6: the slot holds a rule, and its record is the words *first to *first + 5, with *first equal
- * to 6 * slot.
- * Result 0: the part is empty and *first is set to 0. This is so where words is not 6 * (1 to 1,024),
- * where any slot is neither empty nor a sound rule, where there is no such slot, and where it is empty.
+ * Result TCAM_RECORD_WORDS(width): the slot holds a rule, and its record is so many words of the table from word
+ * *first on, with *first equal to TCAM_TABLE_WORDS(width, slot). tcam_slot_words gives it as a pointer.
+ * Result 0: the part is empty and *first is set to 0. This is so where width is neither 2 nor 5, where words is not
+ * TCAM_TABLE_WORDS(width, 1 to 1,024), where any slot is neither empty nor a sound rule, where there is no such slot,
+ * and where it is empty.
  *
- * *first is always written. Why a table is not sound is told by tcam_lookup, with any key.
+ * *first is always written. Why a table is not sound is told by tcam_lookup, with any key of width words.
  */
-uint32_t tcam_slot_record(const uint64_t *table, size_t words, uint32_t slot, uint32_t *first);
+uint32_t tcam_slot_record(const uint64_t *table, size_t words, uint32_t width, uint32_t slot, uint32_t *first);
 
 /*
  * Plans an insert: the writes that put a new rule into the table, as words of a plan.
  *
- *   table, words           the table and its length in words
- *   id, priority           the new rule's id and priority
- *   value_high, value_low  its value, high and low 64 bits
- *   mask_high, mask_low    its mask, high and low 64 bits
- *   action                 its action, any number
- *   plan, plan_words       buffer for the plan and its length in words
- *   count                  cell for the number of words that the call wrote
- *   spot                   cell for a refusal's spot
+ *   table, words      the table and its length in words
+ *   width             its width
+ *   rule, rule_words  the new rule's record and its length in words, which is TCAM_RECORD_WORDS(width)
+ *   plan, plan_words  buffer for the plan and its length in words
+ *   count             cell for the number of words that the call wrote
+ *   spot              cell for a refusal's spot
  *
  * Result TCAM_OK: the plan is the words 0 to *count - 1 of the buffer. The new rule goes to a slot; the rule
  * that stands there goes to another, the one that stands there to a third, and so on to an empty slot. This is
@@ -222,7 +251,9 @@ uint32_t tcam_slot_record(const uint64_t *table, size_t words, uint32_t slot, ui
  * slots the highest.
  *
  * Refusals, in the order of checks:
- *   TCAM_SHAPE, TCAM_RECORD  as for tcam_lookup.
+ *   TCAM_SHAPE    width is neither 2 nor 5, words is not TCAM_TABLE_WORDS(width, 1 to 1,024), or rule_words is not
+ *                 TCAM_RECORD_WORDS(width). *spot is 0.
+ *   TCAM_RECORD   as for tcam_lookup.
  *   TCAM_TWICE    a slot's id stands in an earlier one too. *spot is the lowest slot whose id stands in an
  *                 earlier one.
  *   TCAM_ORDER    an earlier overlapping rule has no higher priority. *spot is the lowest slot whose rule has
@@ -237,14 +268,14 @@ uint32_t tcam_slot_record(const uint64_t *table, size_t words, uint32_t slot, ui
  *                 that precedes the new one.
  *   TCAM_SHORT    plan_words is less than the count. *spot is the count: the words needed.
  */
-uint32_t tcam_plan_insert(const uint64_t *table, size_t words, uint32_t id, uint32_t priority,
-                          uint64_t value_high, uint64_t value_low, uint64_t mask_high, uint64_t mask_low,
-                          uint32_t action, uint32_t *plan, size_t plan_words, uint32_t *count, uint32_t *spot);
+uint32_t tcam_plan_insert(const uint64_t *table, size_t words, uint32_t width, const uint64_t *rule, size_t rule_words,
+                          uint32_t *plan, size_t plan_words, uint32_t *count, uint32_t *spot);
 
 /*
  * Plans a delete: the one write that empties a rule's slot.
  *
  *   table, words      the table and its length in words
+ *   width             its width
  *   id                the id of the rule to delete
  *   plan, plan_words  buffer for the plan and its length in words
  *   count             cell for the number of words that the call wrote, always 1
@@ -253,13 +284,14 @@ uint32_t tcam_plan_insert(const uint64_t *table, size_t words, uint32_t id, uint
  * Result TCAM_OK: word 0 of the buffer empties the slot that holds the id, and *count is 1.
  *
  * Refusals, in the order of checks:
- *   TCAM_SHAPE, TCAM_RECORD, TCAM_TWICE, TCAM_ORDER  as for tcam_plan_insert.
+ *   TCAM_SHAPE    width is neither 2 nor 5, or words is not TCAM_TABLE_WORDS(width, 1 to 1,024). *spot is 0.
+ *   TCAM_RECORD, TCAM_TWICE, TCAM_ORDER  as for tcam_plan_insert.
  *   TCAM_RULE     id is 0. *spot is 0.
  *   TCAM_UNKNOWN  the id is not in the table. *spot is 0.
  *   TCAM_SHORT    plan_words is 0. *spot is 1: the word needed.
  */
-uint32_t tcam_plan_delete(const uint64_t *table, size_t words, uint32_t id, uint32_t *plan, size_t plan_words,
-                          uint32_t *count, uint32_t *spot);
+uint32_t tcam_plan_delete(const uint64_t *table, size_t words, uint32_t width, uint32_t id, uint32_t *plan,
+                          size_t plan_words, uint32_t *count, uint32_t *spot);
 
 /* How far a plan is carried out: writes done, and writes in all. A plan starts at 0 and its count. */
 typedef struct tcam_progress {
@@ -272,17 +304,24 @@ typedef struct tcam_progress {
 #define TCAM_FINISHED 0xFFFFFFFFu
 
 /*
+ * A record of zeros, for the carrying out of a delete and of any plan that puts no rule in: tcam_no_rule,
+ * TCAM_RECORD_WORDS(width). It has the words of the greater width, and serves at either. It is no sound rule, so that
+ * a plan that does put one in is refused with it.
+ */
+static const uint64_t tcam_no_rule[TCAM_RECORD_WORDS(TCAM_WIDTH_320)] = {0};
+
+/*
  * Carries a plan out by one write: word progress->done of the plan is made in the table.
  *
- *   table, words           the table and its length in words
- *   plan, plan_words       the plan and its length in words: its count, or the length of its whole buffer
- *   id, priority           the rule that the plan puts in: its id and priority
- *   value_high, value_low  its value, high and low 64 bits
- *   mask_high, mask_low    its mask, high and low 64 bits
- *   action                 its action, any number
- *   progress               the progress record, lent: writes done, writes in all
+ *   table, words      the table and its length in words
+ *   width             its width
+ *   rule, rule_words  the record of the rule that the plan puts in, and its length in words, which is
+ *                     TCAM_RECORD_WORDS(width)
+ *   plan, plan_words  the plan and its length in words: its count, or the length of its whole buffer
+ *   progress          the progress record, lent: writes done, writes in all
  *
- * The rule is looked at only where the next write puts it in: the plan of a delete is carried out with any.
+ * The rule is looked at only where the next write puts it in: the plan of a delete is carried out with any, as with
+ * tcam_no_rule. Its length is always looked at.
  *
  * Result TCAM_WROTE: the write is made, in this one slot, and progress->done is one more.
  * Result TCAM_FINISHED: done equals total. Nothing is changed, however often the call is made; it may be left
@@ -291,7 +330,7 @@ typedef struct tcam_progress {
  * lower 32 bits tell the three apart, so that nothing but the spot is lost where a result is cut to them.
  *
  * Refusals, in the order of checks:
- *   TCAM_SHAPE, TCAM_RECORD  as for tcam_lookup.
+ *   TCAM_SHAPE, TCAM_RECORD  as for tcam_plan_insert, also where done equals total.
  *   TCAM_WRITE   done is more than total, or total more than plan_words. The spot is the writes done so far.
  * where done equals total, TCAM_FINISHED; else, of the next write:
  *   TCAM_RULE    it puts the rule in, and the rule is unsound, as for tcam_plan_insert. The spot is 0.
@@ -306,9 +345,8 @@ typedef struct tcam_progress {
  *
  * Left as it was, always: the plan, progress->total, and every slot but the one that a write goes to.
  */
-uint64_t tcam_carry_out(uint64_t *table, size_t words, const uint32_t *plan, size_t plan_words, uint32_t id,
-                        uint32_t priority, uint64_t value_high, uint64_t value_low, uint64_t mask_high,
-                        uint64_t mask_low, uint32_t action, tcam_progress *progress);
+uint64_t tcam_carry_out(uint64_t *table, size_t words, uint32_t width, const uint64_t *rule, size_t rule_words,
+                        const uint32_t *plan, size_t plan_words, tcam_progress *progress);
 
 /* The number of a refusal of tcam_carry_out, and its spot. */
 static inline uint32_t tcam_carry_number(uint64_t result)
@@ -325,44 +363,50 @@ static inline uint32_t tcam_carry_spot(uint64_t result)
  * Saves a table as an image.
  *
  *   table, words        the table and its length in words
+ *   width               its width
  *   image, image_bytes  buffer for the image and its length in bytes
  *   bytes               cell for the number of bytes that the call wrote
  *   spot                cell for a refusal's spot
  *
- * Result TCAM_OK: the image is the bytes 0 to *bytes - 1 of the buffer, and *bytes is 4 + 50 * e for a table
- * of e rules. A buffer of 51,204 bytes always does, TCAM_IMAGE_BYTES(TCAM_MAX_SLOTS).
+ * Result TCAM_OK: the image is the bytes 0 to *bytes - 1 of the buffer, and *bytes is TCAM_IMAGE_BYTES(width, e) for a
+ * table of e rules. A buffer for as many rules as the table has slots always does: 51,204 bytes at width 2 and 100,356
+ * at width 5, TCAM_IMAGE_BYTES(width, TCAM_MAX_SLOTS).
  *
  * Refusals, in the order of checks:
- *   TCAM_SHAPE, TCAM_RECORD, TCAM_TWICE, TCAM_ORDER  as for tcam_plan_insert.
+ *   TCAM_SHAPE, TCAM_RECORD, TCAM_TWICE, TCAM_ORDER  as for tcam_plan_delete.
  *   TCAM_SHORT    image_bytes is less than the image's bytes. *spot is the bytes needed.
  */
-uint32_t tcam_save(const uint64_t *table, size_t words, uint8_t *image, size_t image_bytes, uint32_t *bytes,
-                   uint32_t *spot);
+uint32_t tcam_save(const uint64_t *table, size_t words, uint32_t width, uint8_t *image, size_t image_bytes,
+                   uint32_t *bytes, uint32_t *spot);
 
 /*
- * Loads an image into a table of as many slots.
+ * Loads an image into a table of as many slots, and of the width that it was saved with.
  *
- *   image, image_bytes  the image and its length in bytes: exactly as many as it has, 4 + 50 * e
+ *   image, image_bytes  the image and its length in bytes: exactly as many as it has, TCAM_IMAGE_BYTES(width, e)
  *   table, words        the table that is written, and its length in words. What stands in it does not count.
+ *   width               its width
  *   spot                cell for a refusal's spot
  *
  * Result TCAM_OK: every word of the table is written. The slots that the image names have their rules, every
  * other slot is empty, and the table is sound: it passes the checks of tcam_save.
  *
  * Refusals, in the order of checks:
- *   TCAM_SHAPE  as for tcam_lookup.
- *   TCAM_IMAGE  a field of the image is wrong. *spot is its offset, of the first such field:
+ *   TCAM_SHAPE  as for tcam_plan_delete.
+ *   TCAM_IMAGE  a field of the image is wrong. *spot is its offset, of the first such field, where a body has
+ *               b = 16 * width + 8 bytes, 40 or 88:
  *                 0                   image_bytes is below 4, or the image's slots are not the table's
- *                 2                   e is above slots, or image_bytes is not 4 + 50 * e
+ *                 2                   e is above slots, or image_bytes is not TCAM_IMAGE_BYTES(width, e): so for an
+ *                                     image of the other width, for as many slots, unless it has no rules
  *                 4 + 10 * k          the id of entry k is 0
  *                 4 + 10 * k + 4      the slot of entry k is not below slots, or not above that of the entry before
- *                 4 + 10 * k + 6      the offset of entry k is not 4 + 10 * e + 40 * k
- *                 4 + 10 * e + 40 * k body k is unsound: its priority is above 65,535, or its value has a bit
+ *                 4 + 10 * k + 6      the offset of entry k is not 4 + 10 * e + b * k
+ *                 4 + 10 * e + b * k  body k is unsound: its priority is above 65,535, or its value has a bit
  *                                     outside the mask
  *               All entries come before all bodies.
  *   TCAM_TWICE, TCAM_ORDER  as for tcam_plan_insert, in the table that the image gives. *spot is a slot.
  */
-uint32_t tcam_load(const uint8_t *image, size_t image_bytes, uint64_t *table, size_t words, uint32_t *spot);
+uint32_t tcam_load(const uint8_t *image, size_t image_bytes, uint64_t *table, size_t words, uint32_t width,
+                   uint32_t *spot);
 
 /* The two halves of a plan word, and the word that two halves make, each cut to its 16 bits. */
 static inline uint32_t tcam_write_from(uint32_t word)
@@ -380,27 +424,62 @@ static inline uint32_t tcam_write_word(uint32_t from, uint32_t to)
     return from << 16 | (to & 0xFFFFu);
 }
 
-/* A slot's six words in the table itself, or NULL where tcam_slot_record answers 0. */
-static inline const uint64_t *tcam_slot_words(const uint64_t *table, size_t words, uint32_t slot)
+/* A slot's record in the table itself, or NULL where tcam_slot_record answers 0. */
+static inline const uint64_t *tcam_slot_words(const uint64_t *table, size_t words, uint32_t width, uint32_t slot)
 {
     uint32_t first;
-    return tcam_slot_record(table, words, slot, &first) == 0 ? NULL : table + first;
+    return tcam_slot_record(table, words, width, slot, &first) == 0 ? NULL : table + first;
 }
 
-/* The id, action and priority of a rule, from the six words of its record. */
-static inline uint32_t tcam_record_id(const uint64_t *record)
+/*
+ * Makes a rule's record from its parts, and checks nothing: whether the rule is sound is told where it is used.
+ *
+ *   record        the record that is written, TCAM_RECORD_WORDS(width) words
+ *   width         the width of the table that the rule is for
+ *   id, priority  the rule's id and priority
+ *   value, mask   its value and its mask, `width` words each, high word first; they share no word with the record
+ *   action        its action, any number
+ *
+ * The result is the record.
+ */
+static inline uint64_t *tcam_make_record(uint64_t *record, uint32_t width, uint32_t id, uint32_t priority,
+                                         const uint64_t *value, const uint64_t *mask, uint32_t action)
 {
-    return (uint32_t)(record[4] >> 32);
+    for (uint32_t index = 0; index < width; index++) {
+        record[index] = value[index];
+        record[width + index] = mask[index];
+    }
+    record[TCAM_RECORD_WORDS(width) - 2] = TCAM_ID_ACTION(id, action);
+    record[TCAM_RECORD_WORDS(width) - 1] = priority;
+    return record;
 }
 
-static inline uint32_t tcam_record_action(const uint64_t *record)
+/* The id, action and priority of a rule, from its record. */
+static inline uint32_t tcam_record_id(const uint64_t *record, uint32_t width)
 {
-    return (uint32_t)record[4];
+    return (uint32_t)(record[TCAM_RECORD_WORDS(width) - 2] >> 32);
 }
 
-static inline uint32_t tcam_record_priority(const uint64_t *record)
+static inline uint32_t tcam_record_action(const uint64_t *record, uint32_t width)
 {
-    return (uint32_t)record[5];
+    return (uint32_t)record[TCAM_RECORD_WORDS(width) - 2];
+}
+
+static inline uint32_t tcam_record_priority(const uint64_t *record, uint32_t width)
+{
+    return (uint32_t)record[TCAM_RECORD_WORDS(width) - 1];
+}
+
+/* A word of a rule's value and of its mask, from its record: index 0 to width - 1, high word first. */
+static inline uint64_t tcam_record_value(const uint64_t *record, uint32_t width, uint32_t index)
+{
+    (void)width; /* a value comes first at either width; given as in all others, so that none has to be looked up */
+    return record[index];
+}
+
+static inline uint64_t tcam_record_mask(const uint64_t *record, uint32_t width, uint32_t index)
+{
+    return record[width + index];
 }
 
 /* The name of a refusal's number: "OK" for 0, "SHAPE" for 1 and so on, "?" for a number that has none. */

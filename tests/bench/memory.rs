@@ -1,7 +1,10 @@
 // A planner's memory: which rule stands in which slot, and how a chain of slots is written into it.
 // The lowest slot wins, as in document 01; documents 000 and 001 let the highest address win, so their addresses run the other way.
 
-use reference::table::{Rule, RECORD_WORDS};
+use reference::table::{record_words, words_of, Rule};
+
+/// All that a planner asks of patterns is which of them overlap: two words tell as much as five.
+pub const WIDTH: usize = 2;
 
 /// Why a planner has no plan for an insert.
 #[derive(Clone, Copy, Debug, PartialEq, Eq)]
@@ -25,13 +28,13 @@ pub struct Memory {
 
 impl Memory {
     pub fn new(slots: usize) -> Memory {
-        Memory { slots: vec![None; slots], words: vec![0; slots * RECORD_WORDS] }
+        Memory { slots: vec![None; slots], words: vec![0; slots * record_words(WIDTH)] }
     }
 
     pub fn set(&mut self, slot: usize, entry: Option<Rule>) {
         self.slots[slot] = entry;
-        let record = entry.map_or([0; RECORD_WORDS], |rule| rule.record());
-        self.words[slot * RECORD_WORDS..(slot + 1) * RECORD_WORDS].copy_from_slice(&record);
+        let first = slot * record_words(WIDTH);
+        self.words[first..first + record_words(WIDTH)].copy_from_slice(&words_of(&[entry], WIDTH));
     }
 
     /// Every rule of the chain goes one place on, the far end first, and the new rule to the chain's start.

@@ -2,7 +2,7 @@
 // The priority-ordered firmware stands here too; documents 000's and 001's planners have files of their own.
 
 use crate::fast_rule::{greedy, Way};
-use crate::memory::{Chain, Memory, NoPlan};
+use crate::memory::{Chain, Memory, NoPlan, WIDTH};
 use crate::rule_tris::shortest_moving_chain;
 use crate::workload::Free;
 use reference::table::{Rule, CROSSED};
@@ -43,7 +43,7 @@ impl Planner {
 }
 
 fn plan_by_library(memory: &Memory, new: &Rule) -> Result<Chain, NoPlan> {
-    match support::calls::plan_insert(&memory.words, new) {
+    match support::calls::plan_insert(&memory.words, WIDTH, &new.record(WIDTH)) {
         Ok(plan) => Ok(plan.iter().rev().map(|write| (write % 65_536) as usize).collect()),
         Err(refusal) if refusal.number == CROSSED => Err(NoPlan::Crossed),
         Err(refusal) => panic!("a workload has no insert that is refused with {refusal:?}"),

@@ -52,8 +52,8 @@ pub fn make_rules(set: RuleSet, count: usize, random: &mut Random) -> Vec<Rule> 
     let rule = |(place, priority): (usize, u64)| Rule {
         id: place as u32 + 1,
         priority,
-        value: patterns[place].0,
-        mask: patterns[place].1,
+        value: patterns[place].0.into(),
+        mask: patterns[place].1.into(),
         action: action_of_place(place),
     };
     priorities.into_iter().enumerate().map(rule).collect()

@@ -2,11 +2,12 @@
 // papers' examples. It says that the comparison compares what it names; it measures nothing.
 
 use crate::fast_rule::{greedy, Way};
-use crate::memory::{Memory, NoPlan};
+use crate::memory::{Memory, NoPlan, WIDTH};
 use crate::planners::{Planner, PLANNERS};
 use crate::restated::{algorithm_2, is_by_priority, shortest_shift};
 use crate::rule_sets::RULE_SETS;
 use crate::workload::{Free, Operations, Outcome, Size, Workload, OPERATIONS};
+use reference::bits::Bits;
 use reference::plan::plan_insert;
 use reference::table::{Rule, CROSSED};
 
@@ -71,17 +72,17 @@ fn check(planner: Planner, memory: &Memory, new: &Rule, free: Free, planned: Res
 }
 
 fn least_count(memory: &Memory, new: &Rule) -> Result<usize, NoPlan> {
-    plan_insert(&memory.words, new, memory.slots.len()).map(|plan| plan.len()).map_err(|refusal| {
+    plan_insert(&memory.words, WIDTH, &new.record(WIDTH), memory.slots.len()).map(|plan| plan.len()).map_err(|refusal| {
         assert_eq!(refusal.number, CROSSED);
         NoPlan::Crossed
     })
 }
 
 fn rule(id: u32, priority: u64, pattern: &str) -> Rule {
-    let mut rule = Rule { id, priority, value: 0, mask: 0, action: 0 };
+    let mut rule = Rule { id, priority, value: Bits::NONE, mask: Bits::NONE, action: 0 };
     for (place, digit) in pattern.chars().enumerate().filter(|(_, digit)| *digit != '*') {
-        rule.mask |= 1 << (127 - place);
-        rule.value |= u128::from(digit == '1') << (127 - place);
+        rule.mask |= Bits::at(place);
+        rule.value |= if digit == '1' { Bits::at(place) } else { Bits::NONE };
     }
     rule
 }
@@ -122,14 +123,14 @@ const FIGURE_3: [(usize, usize); 8] = [(5, 3), (3, 1), (1, 0), (4, 2), (6, 9), (
 fn figure_3_rules() -> Vec<Rule> {
     let mut rules: Vec<Rule> = (1..=10).map(|id| rule(id, 100 - 10 * u64::from(id), "")).collect();
     rules[9].priority = (rules[5].priority + rules[6].priority) / 2;
-    let mut bit = 1;
+    let mut place = 0;
     for second in 1..rules.len() {
         for first in 0..second {
             if !FIGURE_3.contains(&(first, second)) && !FIGURE_3.contains(&(second, first)) {
-                rules[first].mask |= bit;
-                rules[second].mask |= bit;
-                rules[second].value |= bit;
-                bit <<= 1;
+                rules[first].mask |= Bits::at(place);
+                rules[second].mask |= Bits::at(place);
+                rules[second].value |= Bits::at(place);
+                place += 1;
             }
         }
     }

@@ -1,7 +1,7 @@
 /*
- * Carries plans out as firmware would, one write per call through a lent progress record, and checks every result, table
- * and record: first cases whose answers are written here, then plans of the library with lookups between the writes, then
- * random plans and records. Every call is also compared with a reference written from document 01, "Carrying out".
+ * Carries plans out as firmware would, at each width, one write per call through a lent progress record, and checks every
+ * result, table and record: first cases whose answers are written here, then plans of the library with lookups between the
+ * writes, then random plans and records. Every call is also compared with a reference written from document 01, "Carrying out".
  *
  *     carry_test [seed [calls]]
  */
@@ -10,25 +10,26 @@
 
 #define REFUSED(number, spot) ((uint64_t)(spot) * 4294967296u + (number))
 
-/* ---- What is lent: a table, a plan, a rule as numbers and a progress record ---- */
+/* ---- What is lent: a table, a rule, a plan and a progress record ---- */
 
 #define MOST_ROOM (TCAM_MAX_SLOTS + 4)
 
-static uint64_t table[SLOTS(MOST_SLOTS)];
+static uint64_t table[ROOM(MOST_SLOTS)];
 static size_t words;
+static struct rule rule;
+static size_t rule_words; /* how many words of the rule's record are lent */
+static record_words rule_record; /* what six_slots()'s rule is in a slot */
 static uint32_t plan[MOST_ROOM];
 static uint32_t room;
-static struct rule rule;
-static uint64_t rule_record[TCAM_SLOT_WORDS]; /* what six_slots()'s rule is in a slot */
 static tcam_progress progress;
 
 /* A rule whose action tells its id. */
-static struct rule made_rule(uint32_t id, uint32_t priority, const char *pattern)
+static struct rule made_rule(uint32_t id, uint64_t priority, const char *pattern)
 {
     return rule_of(id, priority, pattern, id + 100);
 }
 
-static void hold(uint32_t slot, uint32_t id, uint32_t priority, const char *pattern)
+static void hold(uint32_t slot, uint32_t id, uint64_t priority, const char *pattern)
 {
     struct rule made = made_rule(id, priority, pattern);
     set_record(table + SLOTS(slot), &made);
@@ -38,6 +39,7 @@ static void empty_table(uint32_t slots)
 {
     memset(table, 0, sizeof table);
     words = SLOTS(slots);
+    rule_words = SLOTS(1);
 }
 
 /* ---- The reference: document 01, "Carrying out", in its order ---- */
@@ -48,7 +50,7 @@ static int ref_free(uint32_t slots, uint32_t to)
     if (to >= slots)
         return 0;
     for (uint32_t slot = 0; slot < slots; slot++)
-        if (slot != to && table[SLOTS(slot) + 4] >> 32 == table[SLOTS(to) + 4] >> 32)
+        if (slot != to && id_of(table + SLOTS(slot)) == id_of(table + SLOTS(to)))
             return 1;
     return is_empty(table + SLOTS(to));
 }
@@ -71,6 +73,8 @@ static int ref_fits(uint32_t slots, uint32_t from, uint32_t to)
 static uint64_t ref_step(void)
 {
     uint32_t done = progress.done, total = progress.total, spot;
+    if (rule_words != SLOTS(1))
+        return REFUSED(1, 0);
     uint32_t number = table_fault(table, words, 2, &spot);
     if (number != 0)
         return REFUSED(number, spot);
@@ -79,7 +83,7 @@ static uint64_t ref_step(void)
     if (done == total)
         return 4294967295u;
     uint32_t from = plan[done] / 65536, to = plan[done] % 65536;
-    uint64_t record[6] = {0, 0, 0, 0, 0, 0};
+    record_words record = {0};
     if (from == 65535) {
         set_record(record, &rule);
         if (!is_sound(record))
@@ -88,8 +92,8 @@ static uint64_t ref_step(void)
     if (!ref_fits(slots_of(words), from, to))
         return REFUSED(12, done);
     if (from < 65534)
-        memcpy(record, table + SLOTS(from), sizeof record);
-    memcpy(table + SLOTS(to), record, sizeof record);
+        memcpy(record, table + SLOTS(from), SLOTS(1) * sizeof *record);
+    memcpy(table + SLOTS(to), record, SLOTS(1) * sizeof *record);
     progress.done++;
     return 0;
 }
@@ -103,13 +107,15 @@ static struct pages plan_pages;
 static unsigned long calls;
 
 /*
- * Calls on copies of all that is lent, the table and the plan at either end of their pages, the record between marks; and
- * makes the reference's step on what is lent itself. The two agree in every word.
+ * Calls on copies of all that is lent, the table, the rule and the plan at either end of their pages, the record between
+ * marks; and makes the reference's step on what is lent itself. The two agree in every word.
  */
 static uint64_t step(void)
 {
     int at_end = (int)(calls++ % 2);
-    struct lent lent = lend(table, words, at_end);
+    uint64_t given[ROOM(2)] = {0};
+    set_record(given, &rule);
+    struct lent lent = lend(table, words, at_end), lent_rule = lend_in(&rule_pages, given, rule_words, at_end);
     uint32_t *pages = (uint32_t *)(void *)plan_pages.start;
     uint32_t *lent_plan = at_end ? pages + plan_pages.bytes / sizeof *pages - room : pages;
     uint32_t *guards = at_end ? lent_plan - PLAN_GUARDS : lent_plan + room;
@@ -123,10 +129,10 @@ static uint64_t step(void)
     memcpy(lent_plan, plan, room * sizeof *plan);
     for (uint32_t index = 0; index < PLAN_GUARDS; index++)
         guards[index] = PUT(index);
-    uint64_t result = tcam_carry_out(lent.table, words, lent_plan, room, rule.id, rule.priority, rule.value[0], rule.value[1],
-                                     rule.mask[0], rule.mask[1], rule.action, &record.progress);
+    uint64_t result = tcam_carry_out(lent.table, words, width, lent_rule.table, rule_words, lent_plan, room, &record.progress);
     CHECK(result == ref_step());
     check_lent(&lent);
+    check_lent(&lent_rule);
     CHECK(record.progress.done == progress.done && record.progress.total == progress.total);
     CHECK(record.before == MARK && record.after == ~MARK);
     CHECK(memcmp(lent_plan, plan, room * sizeof *plan) == 0);
@@ -139,7 +145,7 @@ static uint64_t step(void)
 /* A call that is to leave everything as it was: a refusal, or "finished". */
 static void leaves(uint64_t want)
 {
-    static uint64_t table_before[SLOTS(MOST_SLOTS)];
+    static uint64_t table_before[ROOM(MOST_SLOTS)];
     tcam_progress before = progress;
     memcpy(table_before, table, sizeof table);
     CHECK(step() == want);
@@ -150,7 +156,7 @@ static void leaves(uint64_t want)
 /* A call that is to make the write: slot `to` holds the record afterwards, and no other slot has changed. */
 static void writes(uint32_t to, const uint64_t *record)
 {
-    static uint64_t wanted[SLOTS(MOST_SLOTS)];
+    static uint64_t wanted[ROOM(MOST_SLOTS)];
     tcam_progress before = progress;
     memcpy(wanted, table, sizeof table);
     memmove(wanted + SLOTS(to), record, SLOTS(1) * sizeof *record);
@@ -159,7 +165,7 @@ static void writes(uint32_t to, const uint64_t *record)
     CHECK(progress.done == before.done + 1 && progress.total == before.total);
 }
 
-static const uint64_t no_words[TCAM_SLOT_WORDS];
+static const record_words no_words;
 
 /* ---- Refusals ---- */
 
@@ -199,9 +205,9 @@ static void unfit(uint32_t word)
 
 static void shapes(void)
 {
-    static const size_t bad[] = {0, 1, 5, 7, 11, SLOTS(1025), SLOTS(1025) + 1, SLOTS(1024) + 1};
+    const size_t bad[] = {0, 1, 5, 7, 11, SLOTS(1) / 2, SLOTS(1) - 1, SLOTS(1) + 1, SLOTS(1025), SLOTS(1025) + 1, SLOTS(1024) + 1};
     HERE;
-    for (int index = 0; index < 8; index++)
+    for (size_t index = 0; index < COUNT_OF(bad); index++)
         for (uint32_t done = 0; done <= 3; done++) {
             six_slots();
             words = bad[index];
@@ -215,6 +221,57 @@ static void shapes(void)
     writes(1023, table);
 }
 
+/* A rule of any other number of words: where it is put in, and also in a copy, in the carrying out of a delete and of a finished
+ * plan; before anything else is said of the table, of the progress record or of the rule. */
+static void other_rules(void)
+{
+    static const uint32_t next[] = {PUT(2), COPY(0, 2), EMPTYING(0), COPY(0, 0)};
+    for (size_t lent = 0; lent <= ROOM(1) + 2; lent++)
+        for (size_t index = 0; lent != SLOTS(1) && index < COUNT_OF(next); index++) {
+            HERE;
+            six_slots();
+            rule_words = lent;
+            next_write(next[index], 0);
+            leaves(REFUSED(TCAM_SHAPE, 0));
+            progress.done = progress.total;
+            leaves(REFUSED(TCAM_SHAPE, 0));
+            progress.done++;
+            leaves(REFUSED(TCAM_SHAPE, 0));
+            rule.id = 0;
+            table[SLOTS(5)] = 1;
+            leaves(REFUSED(TCAM_SHAPE, 0));
+        }
+    HERE; /* the record of zeros has the words of either width, and no write puts it in */
+    six_slots();
+    next_write(EMPTYING(3), 0);
+    CHECK(tcam_carry_out(table, words, width, tcam_no_rule, TCAM_RECORD_WORDS(width), plan, room, &progress) == TCAM_WROTE);
+    CHECK(is_empty(table + SLOTS(3)) && progress.done == 1);
+    next_write(PUT(3), 0);
+    CHECK(tcam_carry_out(table, words, width, tcam_no_rule, TCAM_RECORD_WORDS(width), plan, room, &progress) == TCAM_RULE);
+    CHECK(is_empty(table + SLOTS(3)) && progress.done == 0);
+    progress.done = progress.total;
+    CHECK(tcam_carry_out(table, words, width, NULL, 0, plan, room, &progress) == TCAM_SHAPE);
+    CHECK(tcam_carry_out(NULL, 0, width, tcam_no_rule, TCAM_RECORD_WORDS(width), plan, room, &progress) == TCAM_SHAPE);
+}
+
+/* Every other width: the table, the rule and the progress record stay as they are. */
+static void other_widths(void)
+{
+    static const uint32_t others[] = {0, 1, 3, 4, 6, 7, 10, 65538, 65541, 0x80000002u, UINT32_MAX};
+    static uint64_t before[ROOM(MOST_SLOTS)];
+    for (size_t index = 0; index < COUNT_OF(others); index++)
+        for (size_t lent = 0; lent <= ROOM(1); lent++)
+            for (uint32_t done = 0; done <= 1; done++) {
+                HERE;
+                six_slots();
+                memcpy(before, table, sizeof table);
+                plan[0] = EMPTYING(0);
+                progress = (tcam_progress){done, 1};
+                CHECK(tcam_carry_out(table, words, others[index], rule_record, lent, plan, 1, &progress) == TCAM_SHAPE);
+                CHECK(memcmp(before, table, sizeof table) == 0 && progress.done == done && progress.total == 1);
+            }
+}
+
 static void records(void)
 {
     for (uint32_t done = 0; done <= 3; done++) {
@@ -222,11 +279,11 @@ static void records(void)
         six_slots();
         next_write(COPY(0, 2), 0);
         progress.done = done;
-        table[SLOTS(5) + 5] = 65536;
+        table[SLOTS(6) - 1] = 65536;
         leaves(REFUSED(TCAM_RECORD, 5));
         table[SLOTS(2)] = 1;
         leaves(REFUSED(TCAM_RECORD, 2));
-        table[SLOTS(0) + 4] = 7;
+        table[2 * width] = 7;
         leaves(REFUSED(TCAM_RECORD, 0));
         progress.total = 3;
         leaves(REFUSED(TCAM_RECORD, 0));
@@ -269,7 +326,7 @@ static void records_of_progress(void)
 /* 5 where an unsound rule is put in, before 12; not where the next write copies or empties. */
 static void unsound_rules(void)
 {
-    for (int fault = 0; fault < 5; fault++) {
+    for (uint32_t fault = 0; fault < 5 + width; fault++) {
         HERE;
         six_slots();
         if (fault == 0)
@@ -277,11 +334,13 @@ static void unsound_rules(void)
         else if (fault == 1)
             rule.priority = 65536;
         else if (fault == 2)
-            rule.value[0] |= 1;
+            rule.priority += 4294967296u; /* the lower 32 bits are a priority */
         else if (fault == 3)
-            rule.value[1] |= TOP;
-        else
+            rule.value[0] |= 1;
+        else if (fault == 4)
             memset(&rule, 0, sizeof rule);
+        else
+            rule.value[fault - 5] |= TOP >> 5;
         next_write(PUT(2), 1);
         leaves(REFUSED(TCAM_RULE, 0));
         next_write(PUT(0), 1);
@@ -300,7 +359,7 @@ static void unsound_rules(void)
         leaves(TCAM_FINISHED);
     }
     six_slots();
-    uint64_t record[TCAM_SLOT_WORDS];
+    record_words record;
     rule.priority = 65535;
     set_record(record, &rule);
     next_write(PUT(2), 1);
@@ -397,19 +456,22 @@ static struct rule held[TCAM_MAX_SLOTS];
 static uint32_t held_count;
 
 #define KEYS 24
-static uint64_t keys[KEYS][2];
+static pattern_words keys[KEYS];
 
-static int matches(const struct rule *one, const uint64_t *key)
+static int rule_matches(const struct rule *one, const uint64_t *key)
 {
-    return (key[0] & one->mask[0]) == one->value[0] && (key[1] & one->mask[1]) == one->value[1];
+    for (uint32_t word = 0; word < width; word++)
+        if ((key[word] & one->mask[word]) != one->value[word])
+            return 0;
+    return 1;
 }
 
-/* The reply by highest priority: word 4 of the rule's record, 0 for a miss. */
+/* The reply by highest priority, id and action, 0 for a miss. */
 static uint64_t best_reply(const uint64_t *key)
 {
     const struct rule *best = NULL;
     for (uint32_t index = 0; index < held_count; index++)
-        if (matches(&held[index], key) && (best == NULL || held[index].priority > best->priority))
+        if (rule_matches(&held[index], key) && (best == NULL || held[index].priority > best->priority))
             best = &held[index];
     return best == NULL ? 0 : TCAM_ID_ACTION(best->id, best->action);
 }
@@ -419,7 +481,7 @@ static void check_replies(void)
     int replies_right = 1;
     for (int key = 0; key < KEYS; key++) {
         uint32_t slot, id, action, spot;
-        replies_right &= tcam_lookup(table, words, keys[key][0], keys[key][1], &slot, &id, &action, &spot) == TCAM_OK &&
+        replies_right &= tcam_lookup(table, words, width, keys[key], width, &slot, &id, &action, &spot) == TCAM_OK &&
                          TCAM_ID_ACTION(id, action) == best_reply(keys[key]);
     }
     CHECK(replies_right);
@@ -428,11 +490,10 @@ static void check_replies(void)
 static void choose_keys(void)
 {
     for (int key = 0; key < KEYS; key++) {
-        keys[key][0] = random_word();
-        keys[key][1] = random_word();
-        if (key % 2 == 0) {
-            const struct rule *near = key % 4 == 0 || held_count == 0 ? &rule : &held[below(held_count)];
-            for (int word = 0; word < 2; word++)
+        const struct rule *near = key % 4 == 0 || held_count == 0 ? &rule : &held[below(held_count)];
+        for (uint32_t word = 0; word < width; word++) {
+            keys[key][word] = random_word();
+            if (key % 2 == 0)
                 keys[key][word] = near->value[word] | (keys[key][word] & ~near->mask[word]);
         }
     }
@@ -440,8 +501,9 @@ static void choose_keys(void)
 
 static uint64_t carry(uint64_t *lent_table, uint32_t plan_words, tcam_progress *record)
 {
-    return tcam_carry_out(lent_table, words, plan, plan_words, rule.id, rule.priority, rule.value[0], rule.value[1],
-                          rule.mask[0], rule.mask[1], rule.action, record);
+    record_words given;
+    set_record(given, &rule);
+    return tcam_carry_out(lent_table, words, width, given, SLOTS(1), plan, plan_words, record);
 }
 
 /*
@@ -450,7 +512,7 @@ static uint64_t carry(uint64_t *lent_table, uint32_t plan_words, tcam_progress *
  */
 static void either_length(uint32_t count)
 {
-    static uint64_t by_count[SLOTS(MOST_SLOTS)], by_room[SLOTS(MOST_SLOTS)], written[SLOTS(MOST_SLOTS)];
+    static uint64_t by_count[ROOM(MOST_SLOTS)], by_room[ROOM(MOST_SLOTS)], written[ROOM(MOST_SLOTS)];
     tcam_progress counted = {0, count}, whole = {0, count};
     size_t bytes = words * sizeof *table;
     int same = 1;
@@ -507,27 +569,28 @@ static void rule_goes(void)
 static uint32_t insert(uint32_t *count)
 {
     uint32_t spot;
-    room = (uint32_t)(words / 6);
+    record_words given;
+    set_record(given, &rule);
+    room = slots_of(words);
     for (uint32_t index = 0; index < room; index++)
         plan[index] = COPY(index, index);
-    uint32_t number = tcam_plan_insert(table, words, rule.id, rule.priority, rule.value[0], rule.value[1], rule.mask[0],
-                                       rule.mask[1], rule.action, plan, room, count, &spot);
+    uint32_t number = tcam_plan_insert(table, words, width, given, SLOTS(1), plan, room, count, &spot);
     if (number == TCAM_OK)
         carry_to_the_end(*count, rule_comes);
     return number;
 }
 
-/* The rule's numbers are not looked at where a rule is taken out, but for its id when the delete is planned. */
+/* The rule's words are not looked at where a rule is taken out. */
 static uint32_t delete_rule(uint32_t id)
 {
     uint32_t count, spot;
     room = 3;
     plan[1] = plan[2] = COPY(0, 0);
     memset(&rule, 0, sizeof rule);
-    uint32_t number = tcam_plan_delete(table, words, id, plan, room, &count, &spot);
+    uint32_t number = tcam_plan_delete(table, words, width, id, plan, room, &count, &spot);
     if (number == TCAM_OK) {
         rule.id = id;
-        rule.priority = 4294967295u;
+        rule.priority = ALL;
         carry_to_the_end(count, rule_goes);
     }
     return number;
@@ -550,8 +613,8 @@ static void five_slots(void)
     rule = made_rule(5, 50, "000");
     CHECK(insert(&count) == TCAM_OK);
     CHECK(count == 3 && memcmp(plan, want, sizeof want) == 0);
-    CHECK(tcam_record_id(table) == 5 && tcam_record_id(table + SLOTS(1)) == 1 && tcam_record_id(table + SLOTS(4)) == 2);
-    CHECK(tcam_record_id(table + SLOTS(2)) == 3 && tcam_record_id(table + SLOTS(3)) == 4);
+    CHECK(id_of(table) == 5 && id_of(table + SLOTS(1)) == 1 && id_of(table + SLOTS(4)) == 2);
+    CHECK(id_of(table + SLOTS(2)) == 3 && id_of(table + SLOTS(3)) == 4);
     HERE;
     CHECK(delete_rule(1) == TCAM_OK);
     CHECK(is_empty(table + SLOTS(1)) && held_count == 4);
@@ -570,19 +633,21 @@ static void five_slots(void)
 static void plans_in_the_middle(void)
 {
     uint32_t count = 77, spot = 77, other[5] = {1, 2, 3, 4, 5};
+    const struct rule new_rule = made_rule(9, 50, "0");
+    record_words given;
     HERE;
+    set_record(given, &new_rule);
     empty_table(3);
     hold(0, 1, 40, "0");
     hold(1, 2, 30, "0");
-    words = SLOTS(3);
     plan[0] = COPY(1, 2);
     plan[1] = COPY(0, 1);
     room = 2;
     progress = (tcam_progress){0, 2};
-    CHECK(tcam_carry_out(table, words, plan, room, 9, 50, 0, 0, TOP, 0, 5, &progress) == TCAM_WROTE && progress.done == 1);
-    CHECK(tcam_plan_insert(table, words, 9, 50, 0, 0, TOP, 0, 5, other, 5, &count, &spot) == TCAM_TWICE && spot == 2);
+    CHECK(tcam_carry_out(table, words, width, given, SLOTS(1), plan, room, &progress) == TCAM_WROTE && progress.done == 1);
+    CHECK(tcam_plan_insert(table, words, width, given, SLOTS(1), other, 5, &count, &spot) == TCAM_TWICE && spot == 2);
     spot = 77;
-    CHECK(tcam_plan_delete(table, words, 1, other, 5, &count, &spot) == TCAM_TWICE && spot == 2);
+    CHECK(tcam_plan_delete(table, words, width, 1, other, 5, &count, &spot) == TCAM_TWICE && spot == 2);
     CHECK(count == 77 && other[0] == 1 && other[4] == 5);
 }
 
@@ -594,12 +659,20 @@ static void long_plan(void)
     empty_table(1024);
     held_count = 1023;
     for (uint32_t slot = 0; slot < 1023; slot++) {
-        held[slot] = (struct rule){slot + 1, 60000 - slot, {0, 0}, {0, 0}, slot};
+        held[slot] = rule_of(slot + 1, 60000 - slot, "", slot);
         set_record(table + SLOTS(slot), &held[slot]);
     }
-    rule = (struct rule){5000, 60001, {0, 0}, {0, 0}, 5};
+    rule = rule_of(5000, 60001, "", 5);
     CHECK(insert(&count) == TCAM_OK);
-    CHECK(count == 1024 && tcam_record_id(table) == 5000 && tcam_record_id(table + SLOTS(1023)) == 1023);
+    CHECK(count == 1024 && id_of(table) == 5000 && id_of(table + SLOTS(1023)) == 1023);
+}
+
+/* What is cared for in the first word is cared for in the last instead. */
+static void move_to_last_word(struct rule *moved)
+{
+    moved->value[width - 1] = moved->value[0];
+    moved->mask[width - 1] = moved->mask[0];
+    moved->value[0] = moved->mask[0] = 0;
 }
 
 /* Inserts and deletes at random, carried out to the end, over some tables. */
@@ -622,6 +695,8 @@ static void random_plans(void)
             for (uint32_t bit = 0; bit < cared; bit++)
                 pattern[below(4)] = below(2) ? '1' : '0';
             rule = made_rule(round, below(200), pattern);
+            if (below(2) == 0) /* the last word decides, and not the first */
+                move_to_last_word(&rule);
             if (insert(&count) == TCAM_OK) {
                 inserted++;
                 writes_of[count < 3 ? count : 3]++;
@@ -640,29 +715,40 @@ static uint32_t random_end(uint32_t slots)
     return below(6) == 0 ? odd[below(5)] : below(slots + 1);
 }
 
-static void random_calls(unsigned long most)
+/* A table of a few rules, some of them damaged, a rule and a plan. */
+static void make_call(uint32_t slots)
+{
+    empty_table(slots);
+    for (uint32_t slot = 0; slot < slots; slot++)
+        if (below(3) != 0)
+            hold(slot, 1 + below(4), below(3), "1");
+    if (below(10) == 0)
+        table[SLOTS(below(slots)) + below((uint32_t)SLOTS(1))] ^= random_word() >> below(64);
+    if (below(20) == 0)
+        words = below((uint32_t)SLOTS(6) + 4);
+    if (below(40) == 0)
+        rule_words = below((uint32_t)ROOM(1) + 3);
+    rule = made_rule(below(8), below(10) == 0 ? 65535 + below(2) : 7, "01");
+    if (below(10) == 0)
+        rule.value[below(width)] |= 1;
+    if (below(40) == 0)
+        rule.priority |= TOP >> below(32);
+    room = below(4);
+    for (uint32_t index = 0; index < room; index++)
+        plan[index] = COPY(below(3) == 0 ? 65534 + below(2) : random_end(slots), random_end(slots));
+    progress.total = below(6) == 0 ? below(6) : room;
+    progress.done = below(6) == 0 ? below(6) : below(progress.total + 1);
+}
+
+static unsigned long most; /* calls at each width */
+
+static void random_calls(void)
 {
     unsigned long seen[15] = {0}, wrote[3] = {0, 0, 0}, finished = 0;
     case_line = 0;
     made_how = "random table";
     for (turn = 0; turn < most; turn++) {
-        uint32_t slots = 1 + below(5);
-        empty_table(slots);
-        for (uint32_t slot = 0; slot < slots; slot++)
-            if (below(3) != 0)
-                hold(slot, 1 + below(4), below(3), "1");
-        if (below(10) == 0)
-            table[SLOTS(below(slots)) + below(6)] ^= random_word() >> below(64);
-        if (below(20) == 0)
-            words = below(40);
-        rule = made_rule(below(8), below(10) == 0 ? 65535 + below(2) : 7, "01");
-        if (below(10) == 0)
-            rule.value[below(2)] |= 1;
-        room = below(4);
-        for (uint32_t index = 0; index < room; index++)
-            plan[index] = COPY(below(3) == 0 ? 65534 + below(2) : random_end(slots), random_end(slots));
-        progress.total = below(6) == 0 ? below(6) : room;
-        progress.done = below(6) == 0 ? below(6) : below(progress.total + 1);
+        make_call(1 + below(5));
         for (int again = 0; again < 3; again++) {
             uint32_t from = progress.done < room ? plan[progress.done] / 65536 : 0;
             uint64_t result = step();
@@ -696,13 +782,12 @@ static void halves(void)
 int main(int count, char **arguments)
 {
     static void (*const cases[])(void) = {
-        halves, shapes, records, records_of_progress, unsound_rules, absent_slots, unfit_writes, other_copies, one_slot,
-        five_slots, plans_in_the_middle, long_plan, random_plans,
+        halves, shapes, other_rules, other_widths, records, records_of_progress, unsound_rules, absent_slots, unfit_writes,
+        other_copies, one_slot, five_slots, plans_in_the_middle, long_plan, random_plans, random_calls,
     };
-    unsigned long most = begin(count, arguments, 100000);
+    most = begin(count, arguments, 100000) / 2;
     open_pages(&plan_pages, (MOST_ROOM + PLAN_GUARDS) * sizeof(uint32_t));
     run_cases(cases, COUNT_OF(cases));
-    random_calls(most);
 
     return verdict("carry_test");
 }

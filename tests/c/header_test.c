@@ -18,9 +18,11 @@
 static void constants(void)
 {
     HERE;
-    CHECK(NO_SIGN(TCAM_SLOT_WORDS) && NO_SIGN(TCAM_MAX_SLOTS) && NO_SIGN(TCAM_PUT) && NO_SIGN(TCAM_EMPTY));
-    CHECK(NO_SIGN(TCAM_WROTE) && NO_SIGN(TCAM_FINISHED) && NO_SIGN(TCAM_SPOT_TEXT) && NO_SIGN(TCAM_IMAGE_BYTES(1)));
-    CHECK(TCAM_SPOT_TEXT == 24);
+    CHECK(NO_SIGN(TCAM_WIDTH_128) && NO_SIGN(TCAM_WIDTH_320) && NO_SIGN(TCAM_MAX_SLOTS));
+    CHECK(NO_SIGN(TCAM_PUT) && NO_SIGN(TCAM_EMPTY));
+    CHECK(NO_SIGN(TCAM_WROTE) && NO_SIGN(TCAM_FINISHED) && NO_SIGN(TCAM_SPOT_TEXT) && NO_SIGN(TCAM_IMAGE_BYTES(2, 1)));
+    CHECK(NO_SIGN(TCAM_RECORD_WORDS(2)) && NO_SIGN(TCAM_TABLE_WORDS(2, 1)) && NO_SIGN(TCAM_TABLE_SLOTS(2, 1)));
+    CHECK(TCAM_WIDTH_128 == 2 && TCAM_WIDTH_320 == 5 && TCAM_MAX_SLOTS == 1024 && TCAM_SPOT_TEXT == 24);
     /* the header's formula for a plan word, as it stands there */
     CHECK(TCAM_PUT * 65536 + 65535 == 4294967295u && TCAM_EMPTY * 65536 + 0 == 4294836224u);
 }
@@ -54,31 +56,58 @@ static void plan_words(void)
 
 static void lengths(void)
 {
-    static const uint64_t whole[SLOTS(TCAM_MAX_SLOTS)] = {0};
-    uint64_t one_slot[TCAM_SLOT_WORDS] = {0};
+    static const uint64_t whole[TCAM_TABLE_WORDS(TCAM_WIDTH_320, TCAM_MAX_SLOTS)] = {0};
+    uint64_t one_slot[TCAM_RECORD_WORDS(TCAM_WIDTH_128)] = {0};
     uint32_t plan[4] = {0}, *const lent = plan;
-    struct {
-        uint64_t table[SLOTS(128)];
-    } device;
     HERE;
-    CHECK(TCAM_WORDS(whole) == 6144 && TCAM_WORDS(one_slot) == 6 && TCAM_WORDS(device.table) == 768);
+    CHECK(TCAM_WORDS(whole) == 12288 && TCAM_WORDS(one_slot) == 6 && TCAM_WORDS(tcam_no_rule) == 12);
     CHECK(TCAM_WORDS(plan) == 4 && lent[TCAM_WORDS(plan) - 1] == 0);
-    /* bytes pass for words up to 128 slots, which is what the header warns of */
-    CHECK(slots_of(sizeof device.table) == 1024 && slots_of(sizeof whole) == 0 && slots_of(sizeof one_slot) == 8);
 
     int rules = 3;
     HERE;
-    CHECK(TCAM_IMAGE_BYTES(0) == 4 && TCAM_IMAGE_BYTES(1) == 54 && TCAM_IMAGE_BYTES(TCAM_MAX_SLOTS) == 51204);
-    CHECK(TCAM_IMAGE_BYTES(rules) == 154 && TCAM_IMAGE_BYTES(rules + 1) == 204 && 2 * TCAM_IMAGE_BYTES(1) == 108);
+    CHECK(TCAM_RECORD_WORDS(2) == 6 && TCAM_RECORD_WORDS(5) == 12 && 2 * TCAM_RECORD_WORDS(1 + 1) == 12);
+    CHECK(TCAM_TABLE_WORDS(2, 1024) == 6144 && TCAM_TABLE_WORDS(5, 1024) == 12288 && TCAM_TABLE_WORDS(5, rules + 1) == 48);
+    CHECK(TCAM_TABLE_SLOTS(2, 36) == 6 && TCAM_TABLE_SLOTS(5, 36) == 3 && TCAM_TABLE_SLOTS(5, rules + 21) == 2);
+    CHECK(TCAM_IMAGE_BYTES(2, 0) == 4 && TCAM_IMAGE_BYTES(2, 1) == 54 && TCAM_IMAGE_BYTES(2, TCAM_MAX_SLOTS) == 51204);
+    CHECK(TCAM_IMAGE_BYTES(5, 0) == 4 && TCAM_IMAGE_BYTES(5, 1) == 102 && TCAM_IMAGE_BYTES(5, TCAM_MAX_SLOTS) == 100356);
+    CHECK(TCAM_IMAGE_BYTES(2, rules) == 154 && TCAM_IMAGE_BYTES(2, rules + 1) == 204 && 2 * TCAM_IMAGE_BYTES(2, 1) == 108);
+    CHECK(TCAM_IMAGE_BYTES(5, rules) == 298 && TCAM_IMAGE_BYTES(rules + 2, 1) == 102);
 }
 
+/* A table's bytes pass for words up to 128 slots, which is what the header warns of; those of a rule and of a key never do. */
+static void bytes_for_words(void)
+{
+    HERE;
+    CHECK(slots_of(8 * SLOTS(1)) == 8 && slots_of(8 * SLOTS(128)) == 1024 && slots_of(8 * SLOTS(129)) == 0);
+    for (size_t index = 0; index < COUNT_OF(widths); index++) {
+        CHECK(8 * SLOTS(1) != TCAM_RECORD_WORDS(widths[index]));
+        CHECK(8 * width != widths[index]);
+    }
+}
+
+/* Each part has its own place, and nothing past the record is written. */
 static void record_parts(void)
 {
-    static const uint64_t record[TCAM_SLOT_WORDS] = {ALL, ALL, ALL, ALL, TCAM_ID_ACTION(4294967295u, 0), 65535};
-    static const uint64_t other[TCAM_SLOT_WORDS] = {ALL, ALL, ALL, ALL, TCAM_ID_ACTION(1, 4294967294u), 0};
+    static const uint64_t of_two[] = {1, 2, 11, 12, 0xFFFFFFFFFFFFFFFEu, 0xFFFFFFFDu, 77};
+    static const uint64_t of_five[] = {1, 2, 3, 4, 5, 11, 12, 13, 14, 15, 0xFFFFFFFFFFFFFFFEu, 0xFFFFFFFDu, 77};
+    static const uint64_t value[] = {1, 2, 3, 4, 5}, mask[] = {11, 12, 13, 14, 15};
+    const uint64_t *want = width == 2 ? of_two : of_five;
+    uint64_t record[ROOM(1) + 1];
     HERE;
-    CHECK(tcam_record_id(record) == 4294967295u && tcam_record_action(record) == 0 && tcam_record_priority(record) == 65535);
-    CHECK(tcam_record_id(other) == 1 && tcam_record_action(other) == 4294967294u && tcam_record_priority(other) == 0);
+    for (size_t index = 0; index < COUNT_OF(record); index++)
+        record[index] = 77;
+    CHECK(tcam_make_record(record, width, 4294967295u, 4294967293u, value, mask, 4294967294u) == record);
+    CHECK(memcmp(record, want, (SLOTS(1) + 1) * sizeof *record) == 0);
+    CHECK(tcam_record_id(record, width) == 4294967295u && tcam_record_action(record, width) == 4294967294u);
+    CHECK(tcam_record_priority(record, width) == 4294967293u);
+    for (uint32_t index = 0; index < width; index++) {
+        CHECK(tcam_record_value(record, width, index) == index + 1);
+        CHECK(tcam_record_mask(record, width, index) == index + 11);
+    }
+    tcam_make_record(record, width, 1, 0, mask, value, 0);
+    CHECK(tcam_record_id(record, width) == 1 && tcam_record_action(record, width) == 0 && tcam_record_priority(record, width) == 0);
+    CHECK(tcam_record_value(record, width, width - 1) == width + 10 && tcam_record_mask(record, width, 0) == 1);
+    CHECK(is_empty(tcam_no_rule));
 }
 
 /* ---- Spots in words ---- */
@@ -159,8 +188,10 @@ static void spots_that_name_nothing(void)
     }
 }
 
+static unsigned long most; /* random numbers at each width */
+
 /* Each power of ten with its neighbours, and random numbers of every length, against C's own printing. */
-static void digits(unsigned long most)
+static void digits(void)
 {
     char want[TCAM_SPOT_TEXT + 1];
     for (uint64_t power = 1; power <= 10000000000u; power *= 10)
@@ -179,8 +210,9 @@ static void digits(unsigned long most)
 
 /* ---- Spots as the calls give them ---- */
 
-/* Five slots, of which the last is empty: a new rule before the first takes three writes, and the image has 204 bytes. */
-static uint64_t table[SLOTS(5)];
+/* Five slots, of which the last is empty: a new rule before the first takes three writes. */
+static uint64_t table[ROOM(5)];
+#define TABLE table, SLOTS(5), width
 
 static void five_slots(void)
 {
@@ -195,8 +227,9 @@ static void five_slots(void)
 
 static uint32_t insert(const struct rule *rule, uint32_t *plan, size_t room, uint32_t *count, uint32_t *spot)
 {
-    return tcam_plan_insert(table, TCAM_WORDS(table), rule->id, rule->priority, rule->value[0], rule->value[1],
-                            rule->mask[0], rule->mask[1], rule->action, plan, room, count, spot);
+    record_words given;
+    tcam_make_record(given, width, rule->id, (uint32_t)rule->priority, rule->value, rule->mask, rule->action);
+    return tcam_plan_insert(TABLE, given, TCAM_RECORD_WORDS(width), plan, room, count, spot);
 }
 
 static void refused_plans(void)
@@ -207,7 +240,7 @@ static void refused_plans(void)
     five_slots();
     number = insert(&new_rule, plan, 2, &count, &spot);
     OF_TABLE(number, spot, "3 words needed");
-    number = tcam_plan_delete(table, TCAM_WORDS(table), 3, plan, 0, &count, &spot);
+    number = tcam_plan_delete(TABLE, 3, plan, 0, &count, &spot);
     OF_TABLE(number, spot, "1 word needed");
     new_rule.id = 3;
     number = insert(&new_rule, plan, 5, &count, &spot);
@@ -218,30 +251,32 @@ static void refused_plans(void)
     number = insert(&new_rule, plan, 5, &count, &spot);
     CHECK(number == TCAM_TIE);
     OF_TABLE(number, spot, "slot 0");
-    number = tcam_plan_delete(table, TCAM_WORDS(table), 9, plan, 5, &count, &spot);
+    number = tcam_plan_delete(TABLE, 9, plan, 5, &count, &spot);
     CHECK(number == TCAM_UNKNOWN);
     OF_TABLE(number, spot, "");
     memcpy(table + SLOTS(4), table + SLOTS(1), SLOTS(1) * sizeof *table);
-    number = tcam_plan_delete(table, TCAM_WORDS(table), 3, plan, 5, &count, &spot);
+    number = tcam_plan_delete(TABLE, 3, plan, 5, &count, &spot);
     CHECK(number == TCAM_TWICE);
     OF_TABLE(number, spot, "slot 4"); /* the later of the two */
 }
 
 static void refused_images(void)
 {
-    static uint8_t image[TCAM_IMAGE_BYTES(5)];
+    static uint8_t image[TCAM_IMAGE_BYTES(MOST_WIDTH, 5)];
     uint32_t bytes, spot, number;
+    const uint32_t four_rules = width == 2 ? 204 : 396;
     HERE;
     five_slots();
-    number = tcam_save(table, TCAM_WORDS(table), image, 203, &bytes, &spot);
-    OF_IMAGE(number, spot, "204 bytes needed");
-    CHECK(tcam_save(table, TCAM_WORDS(table), image, sizeof image, &bytes, &spot) == TCAM_OK && bytes == 204);
-    number = tcam_load(image, bytes - 1, table, TCAM_WORDS(table), &spot);
+    number = tcam_save(TABLE, image, four_rules - 1, &bytes, &spot);
+    OF_IMAGE(number, spot, width == 2 ? "204 bytes needed" : "396 bytes needed");
+    CHECK(tcam_save(TABLE, image, sizeof image, &bytes, &spot) == TCAM_OK && bytes == four_rules);
+    number = tcam_load(image, bytes - 1, TABLE, &spot);
     OF_IMAGE(number, spot, "byte 2");
     /* no checksum: another action is a sound image of another table */
     image[bytes - 1] ^= 1;
-    CHECK(tcam_load(image, bytes, table, TCAM_WORDS(table), &spot) == TCAM_OK);
-    CHECK(tcam_record_action(table + SLOTS(3)) == 6 && tcam_record_id(table + SLOTS(3)) == 4);
+    CHECK(tcam_load(image, bytes, TABLE, &spot) == TCAM_OK);
+    const uint64_t *record = tcam_slot_words(TABLE, 3);
+    CHECK(record != NULL && tcam_record_action(record, width) == 6 && tcam_record_id(record, width) == 4);
 }
 
 static void refused_writes(void)
@@ -252,10 +287,10 @@ static void refused_writes(void)
     HERE;
     five_slots();
     for (int call = 0; call < 2; call++)
-        result = tcam_carry_out(table, TCAM_WORDS(table), plan, TCAM_WORDS(plan), 0, 0, 0, 0, 0, 0, 0, &progress);
+        result = tcam_carry_out(TABLE, tcam_no_rule, TCAM_RECORD_WORDS(width), plan, TCAM_WORDS(plan), &progress);
     OF_TABLE(tcam_carry_number(result), tcam_carry_spot(result), "1 write done");
     progress.done = 3;
-    result = tcam_carry_out(table, TCAM_WORDS(table), plan, TCAM_WORDS(plan), 0, 0, 0, 0, 0, 0, 0, &progress);
+    result = tcam_carry_out(TABLE, tcam_no_rule, TCAM_RECORD_WORDS(width), plan, TCAM_WORDS(plan), &progress);
     CHECK(result == TCAM_FINISHED);
     OF_TABLE(tcam_carry_number(result), tcam_carry_spot(result), "");
 }
@@ -263,12 +298,11 @@ static void refused_writes(void)
 int main(int count, char **arguments)
 {
     static void (*const cases[])(void) = {
-        constants, plan_words, lengths, record_parts, spots_that_are_slots, spots_that_count, spots_that_are_places,
-        spots_that_name_nothing, refused_plans, refused_images, refused_writes,
+        constants, plan_words, lengths, bytes_for_words, record_parts, spots_that_are_slots, spots_that_count,
+        spots_that_are_places, spots_that_name_nothing, digits, refused_plans, refused_images, refused_writes,
     };
-    unsigned long most = begin(count, arguments, 20000);
+    most = begin(count, arguments, 20000) / 2;
     run_cases(cases, COUNT_OF(cases));
-    digits(most);
 
     return verdict("header_test");
 }

@@ -5,30 +5,48 @@
 #include "tcam.h"
 #include "tcam.h" /* a second time: nothing is declared twice */
 
-#if TCAM_SLOT_WORDS != 6 || TCAM_MAX_SLOTS != 1024 || TCAM_PUT != 65535 || TCAM_EMPTY != 65534 || TCAM_WROTE != 0 || \
-    TCAM_FINISHED != 4294967295 || TCAM_SPOT_TEXT != 24
+#if TCAM_WIDTH_128 != 2 || TCAM_WIDTH_320 != 5 || TCAM_MAX_SLOTS != 1024 || TCAM_PUT != 65535 || TCAM_EMPTY != 65534 || \
+    TCAM_WROTE != 0 || TCAM_FINISHED != 4294967295 || TCAM_SPOT_TEXT != 24
 #error "a constant of tcam.h, in a condition of the preprocessor"
 #endif
 
 /* in declarations and initializers */
-uint64_t every_table[TCAM_MAX_SLOTS * TCAM_SLOT_WORDS];
-uint32_t every_plan[TCAM_MAX_SLOTS];
-uint8_t every_image[TCAM_IMAGE_BYTES(TCAM_MAX_SLOTS)];
+uint64_t every_table[TCAM_TABLE_WORDS(TCAM_WIDTH_320, TCAM_MAX_SLOTS)];
+uint32_t every_plan[TCAM_TABLE_SLOTS(TCAM_WIDTH_320, TCAM_WORDS(every_table))];
+uint8_t every_image[TCAM_IMAGE_BYTES(TCAM_WIDTH_320, TCAM_MAX_SLOTS)];
 char every_text[TCAM_SPOT_TEXT];
-const uint64_t every_record[TCAM_SLOT_WORDS] = {0, 0, 0, 0, TCAM_ID_ACTION(1, 2), 3};
+const uint64_t every_record[TCAM_RECORD_WORDS(TCAM_WIDTH_128)] = {0, 0, 0, 0, TCAM_ID_ACTION(1, 2), 3};
 size_t every_words = TCAM_WORDS(every_table) + TCAM_WORDS(every_plan);
 uint32_t every_number[] = {TCAM_PUT, TCAM_EMPTY, TCAM_FINISHED, TCAM_OK, TCAM_IMAGE};
 uint64_t every_result[] = {TCAM_WROTE, TCAM_FINISHED};
 
-size_t every_image_bytes(int rules, uint32_t slots);
+size_t every_size(int rules, uint32_t slots, uint32_t width, int signed_width);
+uint64_t every_record_function(uint64_t *record, uint32_t width, const uint64_t *key, uint32_t index);
+uint64_t every_carrying_out(uint32_t width, tcam_progress *progress);
 int every_comparison(uint32_t number, uint64_t result, size_t words);
 int every_case(uint32_t word);
 uint32_t every_number_function(uint32_t word, uint64_t result, uint32_t slot);
 const char *every_text_function(uint32_t number, uint64_t result);
 
-size_t every_image_bytes(int rules, uint32_t slots)
+size_t every_size(int rules, uint32_t slots, uint32_t width, int signed_width)
 {
-    return TCAM_IMAGE_BYTES(rules) + TCAM_IMAGE_BYTES(slots) + TCAM_IMAGE_BYTES(1 + 1);
+    return TCAM_IMAGE_BYTES(width, rules) + TCAM_IMAGE_BYTES(signed_width, slots) + TCAM_IMAGE_BYTES(1 + 1, 1 + 1) +
+           TCAM_RECORD_WORDS(width) * TCAM_RECORD_WORDS(signed_width) / TCAM_RECORD_WORDS(1 + 1) +
+           TCAM_TABLE_WORDS(width, slots) / TCAM_TABLE_WORDS(signed_width, rules) + TCAM_TABLE_WORDS(1 + 1, 1 + 1) +
+           TCAM_TABLE_SLOTS(width, slots) / TCAM_TABLE_SLOTS(signed_width, rules) + TCAM_TABLE_SLOTS(1 + 1, 6 + 6);
+}
+
+uint64_t every_record_function(uint64_t *record, uint32_t width, const uint64_t *key, uint32_t index)
+{
+    tcam_make_record(record, width, 1, 2, key, key, 3);
+    return tcam_record_value(record, width, index) + tcam_record_mask(record, width, index) + tcam_record_id(record, width) +
+           tcam_record_action(record, width) + tcam_record_priority(record, width);
+}
+
+uint64_t every_carrying_out(uint32_t width, tcam_progress *progress)
+{
+    return tcam_carry_out(every_table, TCAM_WORDS(every_table), width, tcam_no_rule, TCAM_RECORD_WORDS(width), every_plan,
+                          TCAM_WORDS(every_plan), progress);
 }
 
 /* with a number, a result and a length, as callers do */
@@ -36,7 +54,7 @@ int every_comparison(uint32_t number, uint64_t result, size_t words)
 {
     return number == TCAM_OK || number < TCAM_IMAGE || tcam_write_from(number) == TCAM_PUT ||
            tcam_write_from(number) >= TCAM_EMPTY || result == TCAM_WROTE || result != TCAM_FINISHED ||
-           words / TCAM_SLOT_WORDS > TCAM_MAX_SLOTS || words == TCAM_WORDS(every_table);
+           TCAM_TABLE_SLOTS(TCAM_WIDTH_128, words) > TCAM_MAX_SLOTS || words == TCAM_WORDS(every_table);
 }
 
 int every_case(uint32_t word)
@@ -50,12 +68,12 @@ int every_case(uint32_t word)
 
 uint32_t every_number_function(uint32_t word, uint64_t result, uint32_t slot)
 {
-    const uint64_t *record = tcam_slot_words(every_table, TCAM_WORDS(every_table), slot);
+    const uint64_t *record = tcam_slot_words(every_table, TCAM_WORDS(every_table), TCAM_WIDTH_128, slot);
     uint32_t sum = tcam_write_from(word) + tcam_write_to(word) + tcam_write_word(TCAM_PUT, slot) +
                    tcam_write_word(TCAM_EMPTY, slot) + tcam_carry_number(result) + tcam_carry_spot(result);
     if (record == NULL)
         record = every_record;
-    return sum + tcam_record_id(record) + tcam_record_action(record) + tcam_record_priority(record);
+    return sum + tcam_record_id(record, TCAM_WIDTH_128);
 }
 
 const char *every_text_function(uint32_t number, uint64_t result)

@@ -1,5 +1,5 @@
 /*
- * Saves tables and loads images as firmware would, and checks every answer: first cases whose answers are written
+ * Saves tables and loads images as firmware would, at each width, and checks every answer: first cases whose answers are written
  * here, then random tables, whose images and refusals come from a reference that goes byte by byte. Each image is
  * damaged one byte at a time: a load refuses it, or loads a sound table that saves back to the damaged bytes.
  *
@@ -8,7 +8,7 @@
 #define _DEFAULT_SOURCE /* for mmap without a file */
 #include "testing.h"
 
-#define MOST_BYTES TCAM_IMAGE_BYTES(TCAM_MAX_SLOTS)
+#define MOST_BYTES TCAM_IMAGE_BYTES(MOST_WIDTH, TCAM_MAX_SLOTS)
 
 /* ---- The reference: byte by byte, in the words of the rules for images ---- */
 
@@ -44,25 +44,32 @@ static uint64_t ref_get(const uint8_t *at, int bytes)
     return number;
 }
 
+/* Bytes of a body: a word of a value and of a mask is 8 bytes each, priority and action 4 each. */
+static uint32_t ref_body(void)
+{
+    return 8 * width + 8 * width + 4 + 4;
+}
+
 /* The image of a table, whatever is in it: how many bytes. */
 static uint32_t ref_image(const uint64_t *table, uint32_t slots, uint8_t *image)
 {
     uint32_t rules = 0, body = 0;
     for (uint32_t slot = 0; slot < slots; slot++)
-        rules += !is_empty(table + 6 * slot);
+        rules += !is_empty(table + SLOTS(slot));
     uint8_t *at = ref_put(ref_put(image, 2, slots), 2, rules);
     for (uint32_t slot = 0; slot < slots; slot++)
-        if (!is_empty(table + 6 * slot)) {
-            at = ref_put(at, 4, table[6 * slot + 4] / 4294967296u);
+        if (!is_empty(table + SLOTS(slot))) {
+            at = ref_put(at, 4, id_of(table + SLOTS(slot)));
             at = ref_put(at, 2, slot);
-            at = ref_put(at, 4, 4 + 10 * rules + 40 * body++);
+            at = ref_put(at, 4, 4 + 10 * rules + ref_body() * body++);
         }
     for (uint32_t slot = 0; slot < slots; slot++)
-        if (!is_empty(table + 6 * slot)) {
-            for (int word = 0; word < 4; word++)
-                at = ref_put(at, 8, table[6 * slot + word]);
-            at = ref_put(at, 4, table[6 * slot + 5]);
-            at = ref_put(at, 4, table[6 * slot + 4] % 4294967296u);
+        if (!is_empty(table + SLOTS(slot))) {
+            const uint64_t *record = table + SLOTS(slot);
+            for (uint32_t word = 0; word < 2 * width; word++)
+                at = ref_put(at, 8, record[word]);
+            at = ref_put(at, 4, priority_of(record));
+            at = ref_put(at, 4, tag_of(record) % 4294967296u);
         }
     return (uint32_t)(at - image);
 }
@@ -76,34 +83,44 @@ static struct told ref_save(const uint64_t *table, size_t words, size_t room, ui
     return room < bytes ? REFUSED(11, bytes) : SAVED(bytes);
 }
 
-/* Loads into `table`, which is all zero: what it holds counts where the answer is 0. */
-static struct told ref_load(const uint8_t *image, size_t bytes, uint64_t *table, size_t words)
+/* The entries of an image of so many rules: 14 at the first wrong field, or 0. */
+static struct told ref_entries(const uint8_t *image, uint32_t slots, uint32_t rules)
 {
-    uint32_t slots = slots_of(words), next = 0;
-    if (slots == 0)
-        return REFUSED(1, 0);
-    if (bytes < 4 || ref_get(image, 2) != slots)
-        return REFUSED(14, 0);
-    uint32_t rules = (uint32_t)ref_get(image + 2, 2);
-    if (rules > slots || bytes != 4 + 50 * (size_t)rules)
-        return REFUSED(14, 2);
+    uint32_t next = 0;
     for (uint32_t rule = 0; rule < rules; rule++) {
         uint32_t at = 4 + 10 * rule, slot = (uint32_t)ref_get(image + at + 4, 2);
         if (ref_get(image + at, 4) == 0)
             return REFUSED(14, at);
         if (slot >= slots || slot < next)
             return REFUSED(14, at + 4);
-        if (ref_get(image + at + 6, 4) != 4 + 10 * rules + 40 * rule)
+        if (ref_get(image + at + 6, 4) != 4 + 10 * rules + ref_body() * rule)
             return REFUSED(14, at + 6);
         next = slot + 1;
     }
+    return LOADED;
+}
+
+/* Loads into `table`, which is all zero: what it holds counts where the answer is 0. */
+static struct told ref_load(const uint8_t *image, size_t bytes, uint64_t *table, size_t words)
+{
+    uint32_t slots = slots_of(words);
+    if (slots == 0)
+        return REFUSED(1, 0);
+    if (bytes < 4 || ref_get(image, 2) != slots)
+        return REFUSED(14, 0);
+    uint32_t rules = (uint32_t)ref_get(image + 2, 2);
+    if (rules > slots || bytes != 4 + (10 + (size_t)ref_body()) * rules)
+        return REFUSED(14, 2);
+    struct told told = ref_entries(image, slots, rules);
+    if (told.number != 0)
+        return told;
     for (uint32_t rule = 0; rule < rules; rule++) {
-        uint32_t at = 4 + 10 * rules + 40 * rule;
-        uint64_t *record = table + 6 * ref_get(image + 4 + 10 * rule + 4, 2);
-        for (int word = 0; word < 4; word++)
+        uint32_t at = 4 + 10 * rules + ref_body() * rule, end = at + 16 * width;
+        uint64_t *record = table + SLOTS(ref_get(image + 4 + 10 * rule + 4, 2));
+        for (uint32_t word = 0; word < 2 * width; word++)
             record[word] = ref_get(image + at + 8 * word, 8);
-        record[4] = ref_get(image + 4 + 10 * rule, 4) * 4294967296u + ref_get(image + at + 36, 4);
-        record[5] = ref_get(image + at + 32, 4);
+        record[2 * width] = ref_get(image + 4 + 10 * rule, 4) * 4294967296u + ref_get(image + end + 4, 4);
+        record[2 * width + 1] = ref_get(image + end, 4);
         if (!is_sound(record))
             return REFUSED(14, at);
     }
@@ -148,7 +165,7 @@ enum { BYTES = 1, SPOT = 3, CELLS = 5 };
 
 /* ---- One call, with all that it promises ---- */
 
-static uint8_t wanted[MOST_BYTES + 4 * 50];
+static uint8_t wanted[MOST_BYTES];
 
 /*
  * Saves from a lent copy into a lent buffer of `room` bytes. `want` bytes are in `wanted` where it succeeds. During the
@@ -162,7 +179,7 @@ static void call_save(const uint64_t *table, size_t words, size_t room, unsigned
     mark_cells(cell, before, CELLS);
     protect_table(0);
     protect_pages(&image_pages, want.number == TCAM_OK);
-    uint32_t number = tcam_save(lent.table, words, image, room, &cell[BYTES], &cell[SPOT]);
+    uint32_t number = tcam_save(lent.table, words, width, image, room, &cell[BYTES], &cell[SPOT]);
     protect_pages(&image_pages, 1);
     protect_table(1);
     CHECK(number == want.number);
@@ -180,7 +197,7 @@ static void call_save(const uint64_t *table, size_t words, size_t room, unsigned
     }
 }
 
-static uint64_t scratch[SLOTS(MOST_SLOTS)];
+static uint64_t scratch[ROOM(MOST_SLOTS)];
 
 /*
  * Loads a lent copy of an image into a lent table with `stood` in it; `loaded` is the table where it succeeds. During
@@ -197,7 +214,7 @@ static void call_load(const uint8_t *bytes, size_t count, const uint64_t *stood,
     mark_cells(cell, before, CELLS);
     protect_pages(&image_pages, 0);
     protect_table(want.number == TCAM_OK);
-    uint32_t number = tcam_load(image, count, lent.table, words, &cell[SPOT]);
+    uint32_t number = tcam_load(image, count, lent.table, words, width, &cell[SPOT]);
     protect_table(1);
     protect_pages(&image_pages, 1);
     CHECK(number == want.number);
@@ -214,7 +231,7 @@ static void call_load(const uint8_t *bytes, size_t count, const uint64_t *stood,
 /* What stands in a table that is loaded over: anything. */
 static const uint64_t *rubbish(size_t words)
 {
-    static uint64_t table[SLOTS(MOST_SLOTS)];
+    static uint64_t table[ROOM(MOST_SLOTS)];
     for (size_t index = 0; index < words; index++)
         table[index] = index % 5 == 0 ? ALL : random_word() >> below(64);
     return table;
@@ -233,14 +250,23 @@ static void save_case(int line, const uint64_t *table, size_t words, size_t room
 
 #define SAVE_CASE(table, words, room, want) save_case(__LINE__, (table), (words), (room), (want))
 
-/* Three slots, a rule in the first and the last, and the bytes of its image as they must be. */
-static const uint64_t three_slots[SLOTS(3)] = {
-    0x0A00000000000000u, 0x0000000000000001u, 0xFF00000000000000u, 0x0000000000000003u, TCAM_ID_ACTION(0x01020304, 0xA1A2A3A4), 300,
-    0, 0, 0, 0, 0, 0,
-    0, 0, 0, 0x8000000000000000u, TCAM_ID_ACTION(0x00000007, 9), 65535 - 65236,
-};
+/* Three slots, a rule in the first and the last, of which the first and the last word are cared for. */
+static uint64_t three_slots[ROOM(3)];
 
-static const uint8_t three_slots_image[] = {
+static void make_three_slots(void)
+{
+    struct rule first = {0x01020304, 300, {0x0A00000000000000u}, {0xFF00000000000000u}, 0xA1A2A3A4};
+    struct rule last = {0x00000007, 299, {0}, {0}, 9};
+    first.value[width - 1] = 0x0000000000000001u;
+    first.mask[width - 1] = 0x0000000000000003u;
+    last.mask[width - 1] = 0x8000000000000000u;
+    memset(three_slots, 0, sizeof three_slots);
+    set_record(three_slots, &first);
+    set_record(three_slots + SLOTS(2), &last);
+}
+
+/* The bytes of its image as they must be, at each width. */
+static const uint8_t image_of_two[] = {
     0x00, 0x03, 0x00, 0x02,
     0x01, 0x02, 0x03, 0x04, 0x00, 0x00, 0x00, 0x00, 0x00, 0x18,
     0x00, 0x00, 0x00, 0x07, 0x00, 0x02, 0x00, 0x00, 0x00, 0x40,
@@ -249,15 +275,40 @@ static const uint8_t three_slots_image[] = {
     0, 0, 0, 0, 0, 0, 0, 0, 0, 0, 0, 0, 0, 0, 0, 0, 0, 0, 0, 0, 0, 0, 0, 0, 0x80, 0, 0, 0, 0, 0, 0, 0,
     0x00, 0x00, 0x01, 0x2B, 0x00, 0x00, 0x00, 0x09,
 };
-
-/* Id 5 stands twice, in slots 0 and 2; and rule 6 in slot 1 has a higher priority than rule 5 before it. */
-static const uint64_t twice_and_disordered[SLOTS(3)] = {
-    0, 0, 0, 0, TCAM_ID_ACTION(5, 1), 10,
-    0, 0, 0, 0, TCAM_ID_ACTION(6, 1), 20,
-    0, 0, 0, 0, TCAM_ID_ACTION(5, 1), 5,
+static const uint8_t image_of_five[] = {
+    0x00, 0x03, 0x00, 0x02,
+    0x01, 0x02, 0x03, 0x04, 0x00, 0x00, 0x00, 0x00, 0x00, 0x18,
+    0x00, 0x00, 0x00, 0x07, 0x00, 0x02, 0x00, 0x00, 0x00, 0x70,
+    0x0A, 0, 0, 0, 0, 0, 0, 0, 0, 0, 0, 0, 0, 0, 0, 0, 0, 0, 0, 0, 0, 0, 0, 0, 0, 0, 0, 0, 0, 0, 0, 0, 0, 0, 0, 0, 0, 0, 0, 0x01,
+    0xFF, 0, 0, 0, 0, 0, 0, 0, 0, 0, 0, 0, 0, 0, 0, 0, 0, 0, 0, 0, 0, 0, 0, 0, 0, 0, 0, 0, 0, 0, 0, 0, 0, 0, 0, 0, 0, 0, 0, 0x03,
+    0x00, 0x00, 0x01, 0x2C, 0xA1, 0xA2, 0xA3, 0xA4,
+    0, 0, 0, 0, 0, 0, 0, 0, 0, 0, 0, 0, 0, 0, 0, 0, 0, 0, 0, 0, 0, 0, 0, 0, 0, 0, 0, 0, 0, 0, 0, 0, 0, 0, 0, 0, 0, 0, 0, 0,
+    0, 0, 0, 0, 0, 0, 0, 0, 0, 0, 0, 0, 0, 0, 0, 0, 0, 0, 0, 0, 0, 0, 0, 0, 0, 0, 0, 0, 0, 0, 0, 0, 0x80, 0, 0, 0, 0, 0, 0, 0,
+    0x00, 0x00, 0x01, 0x2B, 0x00, 0x00, 0x00, 0x09,
 };
 
-static const uint64_t empty[SLOTS(TCAM_MAX_SLOTS + 1)];
+static const uint8_t *three_slots_image(void)
+{
+    return width == 2 ? image_of_two : image_of_five;
+}
+
+/* Bytes of an image of two rules, and of three. */
+#define TWO (width == 2 ? 104u : 200u)
+#define THREE (width == 2 ? 154u : 298u)
+
+/* Id 5 stands twice, in slots 0 and 2; and rule 6 in slot 1 has a higher priority than rule 5 before it. */
+static uint64_t twice_and_disordered[ROOM(3)];
+
+static void make_twice_and_disordered(void)
+{
+    static const uint32_t id[] = {5, 6, 5}, priority[] = {10, 20, 5};
+    for (uint32_t slot = 0; slot < 3; slot++) {
+        struct rule rule = rule_of(id[slot], priority[slot], "", 1);
+        set_record(twice_and_disordered + SLOTS(slot), &rule);
+    }
+}
+
+static const uint64_t empty[ROOM(TCAM_MAX_SLOTS + 1)];
 
 static void save_images(void)
 {
@@ -265,71 +316,84 @@ static void save_images(void)
     HERE;
     CHECK(ref_image(empty, 1, wanted) == 4 && memcmp(wanted, empty_image, 4) == 0);
     CHECK(ref_image(empty, 1024, wanted) == 4 && memcmp(wanted, widest_image, 4) == 0);
-    CHECK(sizeof three_slots_image == TCAM_IMAGE_BYTES(2));
-    CHECK(ref_image(three_slots, 3, wanted) == sizeof three_slots_image);
-    CHECK(memcmp(wanted, three_slots_image, sizeof three_slots_image) == 0);
+    CHECK(sizeof image_of_two == 104 && sizeof image_of_five == 200);
+    CHECK(ref_image(three_slots, 3, wanted) == TWO);
+    CHECK(memcmp(wanted, three_slots_image(), TWO) == 0);
 
     SAVE_CASE(empty, SLOTS(1), 4, SAVED(4));
     SAVE_CASE(empty, SLOTS(1), 500, SAVED(4));
     SAVE_CASE(empty, SLOTS(1024), 4, SAVED(4));
-    SAVE_CASE(three_slots, SLOTS(3), 104, SAVED(104));
-    SAVE_CASE(three_slots, SLOTS(3), 105, SAVED(104));
+    SAVE_CASE(three_slots, SLOTS(3), TWO, SAVED(TWO));
+    SAVE_CASE(three_slots, SLOTS(3), TWO + 1, SAVED(TWO));
 }
 
 /* 1: no slot, part of a slot, 1,025 slots; a short buffer comes later. */
 static void save_lengths(void)
 {
-    SAVE_CASE(three_slots, 0, 104, REFUSED(TCAM_SHAPE, 0));
-    SAVE_CASE(three_slots, 5, 104, REFUSED(TCAM_SHAPE, 0));
-    SAVE_CASE(three_slots, 17, 0, REFUSED(TCAM_SHAPE, 0));
-    SAVE_CASE(empty, SLOTS(1025), 104, REFUSED(TCAM_SHAPE, 0));
+    SAVE_CASE(three_slots, 0, TWO, REFUSED(TCAM_SHAPE, 0));
+    SAVE_CASE(three_slots, 5, TWO, REFUSED(TCAM_SHAPE, 0));
+    SAVE_CASE(three_slots, SLOTS(1) / 2, TWO, REFUSED(TCAM_SHAPE, 0));
+    SAVE_CASE(three_slots, SLOTS(3) - 1, 0, REFUSED(TCAM_SHAPE, 0));
+    SAVE_CASE(empty, SLOTS(1025), TWO, REFUSED(TCAM_SHAPE, 0));
 
     /* 11: the bytes needed */
-    SAVE_CASE(three_slots, SLOTS(3), 103, REFUSED(TCAM_SHORT, 104));
-    SAVE_CASE(three_slots, SLOTS(3), 0, REFUSED(TCAM_SHORT, 104));
+    SAVE_CASE(three_slots, SLOTS(3), TWO - 1, REFUSED(TCAM_SHORT, TWO));
+    SAVE_CASE(three_slots, SLOTS(3), 0, REFUSED(TCAM_SHORT, TWO));
     SAVE_CASE(empty, SLOTS(1), 3, REFUSED(TCAM_SHORT, 4));
     SAVE_CASE(empty, SLOTS(1), 0, REFUSED(TCAM_SHORT, 4));
 }
 
 /* 2: id 0, priority 65,536, a value bit outside the mask; the lowest slot. */
-static void save_faults(void)
+static void save_unsound(void)
 {
-    uint64_t table[SLOTS(3)];
+    uint64_t table[ROOM(3)];
     memcpy(table, three_slots, sizeof table);
-    table[16] = 9;
-    SAVE_CASE(table, SLOTS(3), 104, REFUSED(TCAM_RECORD, 2));
-    table[11] = 65536;
-    SAVE_CASE(table, SLOTS(3), 104, REFUSED(TCAM_RECORD, 1));
-    table[1] |= 4;
+    table[SLOTS(2) + 2 * width] = 9;
+    SAVE_CASE(table, SLOTS(3), TWO, REFUSED(TCAM_RECORD, 2));
+    table[SLOTS(1) + 2 * width + 1] = 65536;
+    SAVE_CASE(table, SLOTS(3), TWO, REFUSED(TCAM_RECORD, 1));
+    table[width - 1] |= 4;
     SAVE_CASE(table, SLOTS(3), 0, REFUSED(TCAM_RECORD, 0));
+}
 
-    /* 3: copies of one id are not compared by 4; then 4 before 11 */
+/* 3: copies of one id are not compared by 4; then 4 before 11 */
+static void save_disordered(void)
+{
+    uint64_t table[ROOM(3)], *const last = table + SLOTS(2);
     memcpy(table, three_slots, sizeof table);
-    table[16] = TCAM_ID_ACTION(0x01020304, 1);
-    table[17] = 400;
-    SAVE_CASE(table, SLOTS(3), 104, REFUSED(TCAM_TWICE, 2));
-    table[16] = TCAM_ID_ACTION(8, 1);
+    last[2 * width] = TCAM_ID_ACTION(0x01020304, 1);
+    last[2 * width + 1] = 400;
+    SAVE_CASE(table, SLOTS(3), TWO, REFUSED(TCAM_TWICE, 2));
+    last[2 * width] = TCAM_ID_ACTION(8, 1);
     SAVE_CASE(table, SLOTS(3), 0, REFUSED(TCAM_ORDER, 2));
-    table[17] = 300;
-    SAVE_CASE(table, SLOTS(3), 104, REFUSED(TCAM_ORDER, 2));
-    table[17] = 299;
-    SAVE_CASE(table, SLOTS(3), 104, SAVED(104));
+    last[2 * width + 1] = 300;
+    SAVE_CASE(table, SLOTS(3), TWO, REFUSED(TCAM_ORDER, 2));
+    last[2 * width + 1] = 299;
+    SAVE_CASE(table, SLOTS(3), TWO, SAVED(TWO));
 
     /* 3 before 4, which alone would tell slot 1 */
-    SAVE_CASE(twice_and_disordered, SLOTS(3), 154, REFUSED(TCAM_TWICE, 2));
+    SAVE_CASE(twice_and_disordered, SLOTS(3), THREE, REFUSED(TCAM_TWICE, 2));
     SAVE_CASE(twice_and_disordered, SLOTS(3), 0, REFUSED(TCAM_TWICE, 2));
+}
+
+/* The tables of this width, for all cases. */
+static void make_tables(void)
+{
+    make_three_slots();
+    make_twice_and_disordered();
 }
 
 static void save_cases(void)
 {
     save_images();
     save_lengths();
-    save_faults();
+    save_unsound();
+    save_disordered();
 }
 
 /* ---- Written cases: loading ---- */
 
-static uint8_t image[TCAM_IMAGE_BYTES(3)]; /* the image of three_slots, but for what a case changes */
+static uint8_t image[TCAM_IMAGE_BYTES(MOST_WIDTH, 3)]; /* the image of three_slots, but for what a case changes */
 
 static void load_case(int line, size_t bytes, size_t words, struct told want)
 {
@@ -339,48 +403,54 @@ static void load_case(int line, size_t bytes, size_t words, struct told want)
     CHECK(told.number == want.number && told.spot == want.spot);
     for (unsigned shift = 0; shift < 3; shift++)
         call_load(image, bytes, rubbish(words), words, shift, want, scratch);
-    memcpy(image, three_slots_image, sizeof three_slots_image);
+    memcpy(image, three_slots_image(), TWO);
 }
 
 #define LOAD_CASE(bytes, words, want) load_case(__LINE__, (bytes), (words), (want))
 
 /* A byte of the image and what stands there in a case. */
 struct change {
-    uint8_t at, byte;
+    uint32_t at;
+    uint8_t byte;
 };
 
 static void changed_case(int line, struct told want, const struct change *changes, size_t count)
 {
     for (size_t index = 0; index < count; index++)
         image[changes[index].at] = changes[index].byte;
-    load_case(line, sizeof three_slots_image, SLOTS(3), want);
+    load_case(line, TWO, SLOTS(3), want);
 }
 
 #define CHANGED(want, ...) \
     changed_case(__LINE__, want, (struct change[]){__VA_ARGS__}, sizeof((struct change[]){__VA_ARGS__}) / sizeof(struct change))
 #define AT(spot) REFUSED(TCAM_IMAGE, spot)
-#define BODY(k) (24 + 40 * (k))
+
+/* Where the parts of body k begin. */
+#define BODY(k) (24 + (width == 2 ? 40u : 88u) * (k))
+#define MASK(k) (BODY(k) + 8 * width)
+#define PRIORITY(k) (BODY(k) + 16 * width)
 
 /* SHAPE, whatever the image; then 14 at offsets 0 and 2: lengths, slots and the number of rules. */
 static void load_lengths(void)
 {
-    LOAD_CASE(104, SLOTS(3), LOADED);
+    LOAD_CASE(TWO, SLOTS(3), LOADED);
     CHECK(memcmp(scratch, three_slots, sizeof three_slots) == 0);
-    LOAD_CASE(104, 0, REFUSED(TCAM_SHAPE, 0));
-    LOAD_CASE(104, 17, REFUSED(TCAM_SHAPE, 0));
-    LOAD_CASE(0, 19, REFUSED(TCAM_SHAPE, 0));
-    LOAD_CASE(104, SLOTS(1025), REFUSED(TCAM_SHAPE, 0));
+    LOAD_CASE(TWO, 0, REFUSED(TCAM_SHAPE, 0));
+    LOAD_CASE(TWO, SLOTS(3) - 1, REFUSED(TCAM_SHAPE, 0));
+    LOAD_CASE(0, SLOTS(3) + 1, REFUSED(TCAM_SHAPE, 0));
+    LOAD_CASE(TWO, SLOTS(3) / 2, REFUSED(TCAM_SHAPE, 0));
+    LOAD_CASE(TWO, SLOTS(1025), REFUSED(TCAM_SHAPE, 0));
     for (size_t bytes = 0; bytes < 4; bytes++)
         LOAD_CASE(bytes, SLOTS(3), AT(0));
-    LOAD_CASE(104, SLOTS(2), AT(0));
-    LOAD_CASE(104, SLOTS(4), AT(0));
+    LOAD_CASE(TWO, SLOTS(2), AT(0));
+    LOAD_CASE(TWO, SLOTS(4), AT(0));
     CHANGED(AT(0), {0, 1});
     CHANGED(AT(0), {1, 0});
     CHANGED(AT(2), {3, 4});
     CHANGED(AT(2), {2, 1});
     CHANGED(AT(2), {2, 255}, {3, 255});
-    LOAD_CASE(103, SLOTS(3), AT(2));
-    LOAD_CASE(105, SLOTS(3), AT(2));
+    LOAD_CASE(TWO - 1, SLOTS(3), AT(2));
+    LOAD_CASE(TWO + 1, SLOTS(3), AT(2));
     LOAD_CASE(4, SLOTS(3), AT(2));
     CHANGED(AT(2), {3, 1});
 }
@@ -397,22 +467,25 @@ static void load_contents(void)
     CHANGED(AT(18), {19, 3});
     CHANGED(AT(18), {19, 0});
     CHANGED(AT(18), {9, 2}, {19, 1});
-    CHANGED(AT(20), {23, 0x3F}, {BODY(0) + 33, 1});
+    CHANGED(AT(20), {23, 0x3F}, {PRIORITY(0) + 1, 1});
+    CHANGED(AT(20), {23, width == 2 ? 0x70 : 0x40}); /* the offset that it would have at the other width */
 }
 
 /* Each body, at its start, for its value or its priority; then 3 and 4 of the table meant, where the spot is a slot. */
 static void load_bodies(void)
 {
-    CHANGED(AT(BODY(0)), {BODY(0), 0x8A}, {BODY(0) + 16, 0x7F});
-    CHANGED(AT(BODY(0)), {BODY(0) + 15, 4});
-    CHANGED(AT(BODY(0)), {BODY(0) + 33, 1}, {BODY(1) + 32, 1});
-    CHANGED(AT(BODY(1)), {BODY(1) + 32, 1});
+    CHANGED(AT(BODY(0)), {BODY(0), 0x8A}, {MASK(0), 0x7F});
+    CHANGED(AT(BODY(0)), {MASK(0) - 1, 4});
+    CHANGED(AT(BODY(0)), {PRIORITY(0) + 1, 1}, {PRIORITY(1), 1});
+    CHANGED(AT(BODY(1)), {PRIORITY(1), 1});
     CHANGED(AT(BODY(1)), {BODY(1), 1});
-    CHANGED(REFUSED(TCAM_ORDER, 2), {BODY(1) + 34, 255}, {BODY(1) + 35, 255}, {BODY(1) + 24, 0});
+    for (uint32_t byte = 0; byte < 8 * width; byte++) /* a bit of each byte, none of them cared for */
+        CHANGED(AT(BODY(1)), {BODY(1) + byte, 0x40});
+    CHANGED(REFUSED(TCAM_ORDER, 2), {PRIORITY(1) + 2, 255}, {PRIORITY(1) + 3, 255}, {PRIORITY(1) - 8, 0});
     CHANGED(REFUSED(TCAM_TWICE, 2), {14, 1}, {15, 2}, {16, 3}, {17, 4});
-    CHANGED(REFUSED(TCAM_TWICE, 1), {14, 1}, {15, 2}, {16, 3}, {17, 4}, {19, 1}, {BODY(1) + 34, 2});
-    CHANGED(REFUSED(TCAM_ORDER, 2), {BODY(1) + 35, 0x2C});
-    CHANGED(REFUSED(TCAM_ORDER, 1), {19, 1}, {BODY(1) + 35, 0x2C});
+    CHANGED(REFUSED(TCAM_TWICE, 1), {14, 1}, {15, 2}, {16, 3}, {17, 4}, {19, 1}, {PRIORITY(1) + 2, 2});
+    CHANGED(REFUSED(TCAM_ORDER, 2), {PRIORITY(1) + 3, 0x2C});
+    CHANGED(REFUSED(TCAM_ORDER, 1), {19, 1}, {PRIORITY(1) + 3, 0x2C});
     CHANGED(LOADED, {19, 1});
 }
 
@@ -425,40 +498,99 @@ static void load_two_faults(void)
     CHANGED(AT(14), {14, 0}, {15, 0}, {16, 0}, {17, 0}, {23, 0x3F}); /* id and offset */
 
     /* 3 before 4, which alone would tell slot 1 */
-    CHECK(ref_image(twice_and_disordered, 3, image) == 154);
-    LOAD_CASE(154, SLOTS(3), REFUSED(TCAM_TWICE, 2));
+    CHECK(ref_image(twice_and_disordered, 3, image) == THREE);
+    LOAD_CASE(THREE, SLOTS(3), REFUSED(TCAM_TWICE, 2));
 }
 
 static void load_cases(void)
 {
-    memcpy(image, three_slots_image, sizeof three_slots_image);
+    memcpy(image, three_slots_image(), TWO);
     load_lengths();
     load_contents();
     load_bodies();
     load_two_faults();
 }
 
+/* ---- Written cases: widths ---- */
+
+/* An image of the other width, for as many slots, is wrong in its number of rules, but for an image without rules. */
+static void images_of_other_width(void)
+{
+    const uint8_t *other = width == 2 ? image_of_five : image_of_two;
+    const size_t bytes = width == 2 ? sizeof image_of_five : sizeof image_of_two;
+    static const uint8_t no_rules[] = {0x00, 0x03, 0x00, 0x00};
+    HERE;
+    call_load(other, bytes, rubbish(SLOTS(3)), SLOTS(3), 0, AT(2), NULL);
+    call_load(other, bytes, rubbish(SLOTS(4)), SLOTS(4), 1, AT(0), NULL);
+    call_load(no_rules, sizeof no_rules, rubbish(SLOTS(3)), SLOTS(3), 2, LOADED, empty);
+}
+
+/* Another width is SHAPE, before anything is said of the table, of the image or of the buffer; and nothing is written. */
+static void other_widths(void)
+{
+    static const uint32_t others[] = {0, 1, 3, 4, 6, 7, 10, 65538, 65541, 0x80000002u, UINT32_MAX};
+    static uint8_t buffer[TCAM_IMAGE_BYTES(MOST_WIDTH, 3)], before[sizeof buffer];
+    uint64_t table[ROOM(3)];
+    memset(buffer, 0xA5, sizeof buffer);
+    memcpy(before, buffer, sizeof buffer);
+    memcpy(table, three_slots, sizeof table);
+    for (size_t index = 0; index < COUNT_OF(others); index++)
+        for (size_t words = 0; words <= SLOTS(3); words++) {
+            uint32_t bytes = 77, spot = 78;
+            HERE;
+            CHECK(tcam_save(table, words, others[index], buffer, words % 2 ? sizeof buffer : 0, &bytes, &spot) == TCAM_SHAPE);
+            CHECK(bytes == 77 && spot == 0 && memcmp(buffer, before, sizeof buffer) == 0);
+            spot = 78;
+            CHECK(tcam_load(three_slots_image(), words % 2 ? TWO : 3, table, words, others[index], &spot) == TCAM_SHAPE);
+            CHECK(spot == 0 && memcmp(table, three_slots, sizeof table) == 0);
+        }
+}
+
+/* 1,024 rules: the longest image, and the bytes that the header tells of. */
+static void longest_image(void)
+{
+    static uint64_t table[ROOM(TCAM_MAX_SLOTS)];
+    const uint32_t bytes = width == 2 ? 51204 : 100356;
+    for (uint32_t slot = 0; slot < 1024; slot++) {
+        struct rule rule = rule_of(slot + 1, 60000 - slot, "", slot);
+        set_record(table + SLOTS(slot), &rule);
+    }
+    SAVE_CASE(table, SLOTS(1024), bytes, SAVED(bytes));
+    SAVE_CASE(table, SLOTS(1024), bytes - 1, REFUSED(TCAM_SHORT, bytes));
+    HERE;
+    ref_image(table, 1024, wanted);
+    call_load(wanted, bytes, rubbish(SLOTS(1024)), SLOTS(1024), 1, LOADED, table);
+    call_load(wanted, bytes - 1, rubbish(SLOTS(1024)), SLOTS(1024), 1, AT(2), NULL);
+    call_load(wanted, bytes, rubbish(SLOTS(1025)), SLOTS(1025), 1, REFUSED(TCAM_SHAPE, 0), NULL);
+}
+
+static void width_cases(void)
+{
+    images_of_other_width();
+    other_widths();
+    longest_image();
+}
+
 /* ---- Made tables ---- */
 
 /* A sound table: of `rules` rules with priorities that fall from slot to slot, in slots at random. */
-static uint32_t make_table(uint64_t *table, uint32_t slots, uint32_t rules)
+static void make_table(uint64_t *table, uint32_t slots, uint32_t rules)
 {
     uint32_t left = rules, priority = 65535;
     memset(table, 0, SLOTS(slots) * sizeof *table);
     for (uint32_t slot = 0; slot < slots; slot++) {
         if (below(slots - slot) >= left)
             continue;
-        uint64_t *record = table + 6 * slot;
-        for (int word = 0; word < 2; word++) {
-            record[2 + word] = below(3) == 0 ? 0 : random_word() >> below(64);
-            record[word] = random_word() & record[2 + word];
+        uint64_t *record = table + SLOTS(slot);
+        for (uint32_t word = 0; word < width; word++) {
+            record[width + word] = below(3) == 0 ? 0 : random_word() >> below(64);
+            record[word] = random_word() & record[width + word];
         }
-        record[4] = TCAM_ID_ACTION(slot * 4194304 + 1 + below(4194304), random_word());
+        record[2 * width] = TCAM_ID_ACTION(slot * 4194304 + 1 + below(4194304), random_word());
         priority -= below(2) + (slot == 0 ? 0 : 1);
-        record[5] = priority;
+        record[2 * width + 1] = priority;
         left--;
     }
-    return rules;
 }
 
 /* A load of the image's bytes, as the reference has it; where it succeeds the table saves back to them. */
@@ -499,12 +631,12 @@ static void damage(const uint8_t *saved, size_t count, size_t words, size_t step
 
 static void made_table(uint32_t slots, uint32_t rules, size_t step)
 {
-    static uint64_t table[SLOTS(TCAM_MAX_SLOTS)];
+    static uint64_t table[ROOM(TCAM_MAX_SLOTS)];
     static uint8_t saved[MOST_BYTES];
     size_t words = SLOTS(slots);
     make_table(table, slots, rules);
     struct told told = ref_save(table, words, MOST_BYTES, wanted);
-    CHECK(told.number == TCAM_OK && told.bytes == TCAM_IMAGE_BYTES(rules));
+    CHECK(told.number == TCAM_OK && told.bytes == TCAM_IMAGE_BYTES(width, rules));
     memcpy(saved, wanted, told.bytes);
     call_save(table, words, told.bytes, below(16), told);
     memcpy(wanted, saved, told.bytes);
@@ -518,13 +650,13 @@ static void made_table(uint32_t slots, uint32_t rules, size_t step)
         damage(saved, told.bytes, words, step);
 }
 
-int main(int count, char **arguments)
+static unsigned long tables; /* at each width */
+
+static void made_tables(void)
 {
-    unsigned long tables = begin(count, arguments, 40);
-    open_pages(&image_pages, MOST_BYTES + 4 * MARGIN + 200);
-    save_cases();
-    load_cases();
     case_line = 0;
+    made_how = "made table";
+    damaged_refused = damaged_loaded = 0;
     for (turn = 0; turn < tables; turn++) {
         uint32_t slots = 1 + below(turn % 4 == 0 ? 24 : 6);
         made_table(slots, below(slots + 1), 1);
@@ -534,5 +666,13 @@ int main(int count, char **arguments)
     made_table(1024, 1, 5);
     made_table(1023, 40, 101);
     CHECK(damaged_refused > 0 && damaged_loaded > 0);
+}
+
+int main(int count, char **arguments)
+{
+    static void (*const cases[])(void) = {make_tables, save_cases, load_cases, width_cases, made_tables};
+    tables = begin(count, arguments, 40) / 2;
+    open_pages(&image_pages, MOST_BYTES + 4 * MARGIN + 200);
+    run_cases(cases, COUNT_OF(cases));
     return verdict("image_test");
 }

@@ -1,17 +1,12 @@
 /*
- * Plans inserts and deletes as firmware would, carries the plans out, and checks every answer, every lent buffer and
- * every table on the way: first cases whose plans are written here, then all tables of a few slots and random ones.
+ * Plans inserts and deletes as firmware would, at each width, carries the plans out, and checks every answer, every lent buffer
+ * and every table on the way: first cases whose plans are written here, then all tables of a few slots and random ones.
  * Their plans come from a reference written from document 01, and their counts from a search of its comparison class.
  *
  *     plan_test [seed [tables]]
  */
 #define _DEFAULT_SOURCE /* for mmap without a file */
 #include "testing.h"
-
-static int matches(const uint64_t *record, const uint64_t *key)
-{
-    return !is_empty(record) && (key[0] & record[2]) == record[0] && (key[1] & record[3]) == record[1];
-}
 
 /* ---- The reference: document 01, "Why a call declines" and "How a plan is found" ---- */
 
@@ -29,7 +24,7 @@ static struct {
 /* Whether the first of two rules precedes the second: they overlap and it has the higher priority. */
 static int precedes(const uint64_t *a, const uint64_t *b)
 {
-    return a[5] > b[5] && !is_empty(a) && !is_empty(b) && overlap(a, b);
+    return priority_of(a) > priority_of(b) && !is_empty(a) && !is_empty(b) && overlap(a, b);
 }
 
 static uint32_t refuse(struct told *told, uint32_t number, uint32_t spot)
@@ -57,12 +52,12 @@ static void find_down_costs(const uint64_t *table, int slots)
     for (int slot = slots - 1; slot >= 0; slot--) {
         int least = NEVER, dependant = slots - 1;
         down_next[slot] = -1;
-        if (is_empty(table + 6 * slot)) {
+        if (is_empty(table + SLOTS(slot))) {
             down_cost[slot] = 0;
             continue;
         }
         for (int later = slot + 1; later < slots; later++)
-            if (precedes(table + 6 * slot, table + 6 * later)) {
+            if (precedes(table + SLOTS(slot), table + SLOTS(later))) {
                 dependant = later;
                 break;
             }
@@ -80,12 +75,12 @@ static void find_up_costs(const uint64_t *table, int slots)
     for (int slot = 0; slot < slots; slot++) {
         int least = NEVER, preceding = 0;
         up_next[slot] = -1;
-        if (is_empty(table + 6 * slot)) {
+        if (is_empty(table + SLOTS(slot))) {
             up_cost[slot] = 0;
             continue;
         }
         for (int earlier = slot - 1; earlier >= 0; earlier--)
-            if (precedes(table + 6 * earlier, table + 6 * slot)) {
+            if (precedes(table + SLOTS(earlier), table + SLOTS(slot))) {
                 preceding = earlier;
                 break;
             }
@@ -104,10 +99,10 @@ static void find_neighbours(const uint64_t *table, int slots, const uint64_t *ne
     *a = -1;
     *b = slots;
     for (int slot = 0; slot < slots; slot++)
-        if (precedes(table + 6 * slot, new_record))
+        if (precedes(table + SLOTS(slot), new_record))
             *a = slot;
     for (int slot = slots - 1; slot >= 0; slot--)
-        if (precedes(new_record, table + 6 * slot))
+        if (precedes(new_record, table + SLOTS(slot)))
             *b = slot;
 }
 
@@ -120,9 +115,9 @@ static void find_way(const uint64_t *table, int slots, int a, int b, int slot)
         if (other >= 0 && other < slots && other != slot && cost[other] == cost[slot])
             way.choice_tie = 1;
     for (; cost[slot] > 0; slot = next[slot]) {
-        const uint64_t *rule = table + 6 * slot;
+        const uint64_t *rule = table + SLOTS(slot);
         for (int to = next[slot]; to >= 0 && to < slots; to += way.up ? -1 : 1) {
-            int last = way.up ? precedes(table + 6 * to, rule) : precedes(rule, table + 6 * to);
+            int last = way.up ? precedes(table + SLOTS(to), rule) : precedes(rule, table + SLOTS(to));
             way.hop_tie |= to != next[slot] && cost[to] == cost[next[slot]];
             way.on_dependant |= to == next[slot] && last;
             way.around_dependant |= cost[to] > cost[next[slot]] && last;
@@ -167,7 +162,7 @@ static void find_plan(const uint64_t *table, int slots, int a, int b, struct tol
 /* Checks 1 to 10 of an insert, and its plan. */
 static void ref_insert(const uint64_t *table, size_t words, const struct rule *rule, struct told *told)
 {
-    uint64_t record[6];
+    record_words record;
     uint32_t slots = slots_of(words), empties = 0;
     int a, b;
     if (ref_table(table, words, told) != 0)
@@ -178,17 +173,19 @@ static void ref_insert(const uint64_t *table, size_t words, const struct rule *r
         return;
     }
     for (uint32_t slot = 0; slot < slots; slot++)
-        if (id_of(table + 6 * slot) == rule->id) {
+        if (id_of(table + SLOTS(slot)) == rule->id) {
             refuse(told, 6, slot);
             return;
         }
-    for (uint32_t slot = 0; slot < slots; slot++)
-        if (!is_empty(table + 6 * slot) && table[6 * slot + 5] == rule->priority && overlap(table + 6 * slot, record)) {
+    for (uint32_t slot = 0; slot < slots; slot++) {
+        const uint64_t *held = table + SLOTS(slot);
+        if (!is_empty(held) && priority_of(held) == rule->priority && overlap(held, record)) {
             refuse(told, 8, slot);
             return;
         }
+    }
     for (uint32_t slot = 0; slot < slots; slot++)
-        empties += is_empty(table + 6 * slot) != 0;
+        empties += is_empty(table + SLOTS(slot)) != 0;
     if (empties == 0) {
         refuse(told, 9, 0);
         return;
@@ -212,7 +209,7 @@ static void ref_delete(const uint64_t *table, size_t words, uint32_t id, struct 
         return;
     }
     for (uint32_t slot = 0; slot < slots; slot++)
-        if (id_of(table + 6 * slot) == id) {
+        if (id_of(table + SLOTS(slot)) == id) {
             told->count = 1;
             told->plan[0] = EMPTYING(slot);
             return;
@@ -281,22 +278,33 @@ static void check_left(const struct lent *lent, uint32_t number, const struct to
     check_lent(lent);
 }
 
-static uint32_t call_insert(const struct lent *lent, const struct rule *rule, uint32_t room, int at_end, const struct told *want)
+/* The rule is lent at either end of its pages, and so many of its words. */
+static uint32_t call_insert_of(const struct lent *lent, const struct rule *rule, size_t rule_words, uint32_t room, int at_end,
+                               const struct told *want)
 {
+    uint64_t given[ROOM(2)] = {0};
+    set_record(given, rule);
+    struct lent lent_rule = lend_in(&rule_pages, given, rule_words, at_end);
     lend_plan(room, at_end);
     mark_cells(cells.now, cells.before, CELLS);
-    uint32_t number = tcam_plan_insert(lent->table, lent->words, rule->id, rule->priority, rule->value[0], rule->value[1],
-                                       rule->mask[0], rule->mask[1], rule->action, plan.words, room, &cells.now[COUNT],
-                                       &cells.now[SPOT]);
+    uint32_t number = tcam_plan_insert(lent->table, lent->words, width, lent_rule.table, rule_words, plan.words, room,
+                                       &cells.now[COUNT], &cells.now[SPOT]);
     check_left(lent, number, want);
+    check_lent(&lent_rule);
     return number;
+}
+
+static uint32_t call_insert(const struct lent *lent, const struct rule *rule, uint32_t room, int at_end, const struct told *want)
+{
+    return call_insert_of(lent, rule, SLOTS(1), room, at_end, want);
 }
 
 static uint32_t call_delete(const struct lent *lent, uint32_t id, uint32_t room, int at_end, const struct told *want)
 {
     lend_plan(room, at_end);
     mark_cells(cells.now, cells.before, CELLS);
-    uint32_t number = tcam_plan_delete(lent->table, lent->words, id, plan.words, room, &cells.now[COUNT], &cells.now[SPOT]);
+    uint32_t number = tcam_plan_delete(lent->table, lent->words, width, id, plan.words, room, &cells.now[COUNT],
+                                       &cells.now[SPOT]);
     check_left(lent, number, want);
     return number;
 }
@@ -307,38 +315,45 @@ static uint32_t call_delete(const struct lent *lent, uint32_t id, uint32_t room,
 
 struct keys {
     uint32_t count;
-    uint64_t key[MOST_KEYS][2];
+    pattern_words key[MOST_KEYS];
 };
 
-static void add_key(struct keys *keys, uint64_t high, uint64_t low)
+static void add_key(struct keys *keys, const uint64_t *key)
 {
-    if (keys->count < MOST_KEYS) {
-        keys->key[keys->count][0] = high;
-        keys->key[keys->count][1] = low;
-        keys->count++;
-    }
+    if (keys->count < MOST_KEYS)
+        memcpy(keys->key[keys->count++], key, width * sizeof *key);
+}
+
+/* A key at random, of those that have this value at the bits of this mask. */
+static void add_random_key(struct keys *keys, const uint64_t *value, const uint64_t *mask)
+{
+    pattern_words key;
+    for (uint32_t word = 0; word < width; word++)
+        key[word] = value[word] | (random_word() & ~mask[word]);
+    add_key(keys, key);
 }
 
 /* Keys that the rules match, one each, and some that they may not. */
 static void sample_keys(struct keys *keys, const uint64_t *table, uint32_t slots, const struct rule *rule, uint32_t most)
 {
+    static const pattern_words none;
     keys->count = 0;
     for (uint32_t round = 0; round < most / 4; round++)
-        add_key(keys, rule->value[0] | (random_word() & ~rule->mask[0]), rule->value[1] | (random_word() & ~rule->mask[1]));
+        add_random_key(keys, rule->value, rule->mask);
     for (uint32_t round = 0; round < most / 2; round++) {
         const uint64_t *record = table + SLOTS(slots <= most / 2 ? round % slots : below(slots));
-        add_key(keys, record[0] | (random_word() & ~record[2]), record[1] | (random_word() & ~record[3]));
+        add_random_key(keys, record, record + width);
     }
     while (keys->count < most)
-        add_key(keys, random_word(), random_word());
+        add_random_key(keys, none, none);
 }
 
-/* Word 4 of the first slot that matches, id and action; 0 for a miss. */
+/* Id and action of the first slot that matches; 0 for a miss. */
 static uint64_t first_reply(const uint64_t *table, uint32_t slots, const uint64_t *key)
 {
     for (uint32_t slot = 0; slot < slots; slot++)
         if (matches(table + SLOTS(slot), key))
-            return table[SLOTS(slot) + 4];
+            return tag_of(table + SLOTS(slot));
     return 0;
 }
 
@@ -347,9 +362,9 @@ static uint64_t best_reply(const uint64_t *table, uint32_t slots, const uint64_t
 {
     const uint64_t *best = matches(new_record, key) ? new_record : NULL;
     for (uint32_t slot = 0; slot < slots; slot++)
-        if (matches(table + SLOTS(slot), key) && (best == NULL || table[SLOTS(slot) + 5] > best[5]))
+        if (matches(table + SLOTS(slot), key) && (best == NULL || priority_of(table + SLOTS(slot)) > priority_of(best)))
             best = table + SLOTS(slot);
-    return best == NULL ? 0 : best[4];
+    return best == NULL ? 0 : tag_of(best);
 }
 
 /* The rule of a slot against all others: the overlapping ones before it have strictly higher priorities, those after lower. */
@@ -358,7 +373,7 @@ static int in_order_at(const uint64_t *table, uint32_t slots, uint32_t slot)
     const uint64_t *rule = table + SLOTS(slot);
     for (uint32_t other = 0; other < slots && !is_empty(rule); other++) {
         const uint64_t *record = table + SLOTS(other);
-        if (other < slot ? record[5] > rule[5] : record[5] < rule[5])
+        if (other < slot ? priority_of(record) > priority_of(rule) : priority_of(record) < priority_of(rule))
             continue;
         if (id_of(record) != id_of(rule) && !is_empty(record) && overlap(record, rule))
             return 0;
@@ -387,18 +402,35 @@ static uint32_t times_held(const uint64_t *table, uint32_t slots, const uint64_t
 {
     uint32_t times = 0;
     for (uint32_t slot = 0; slot < slots; slot++)
-        times += table[SLOTS(slot) + 4] == record[4] && memcmp(table + SLOTS(slot), record, SLOTS(1) * sizeof *record) == 0;
+        times += tag_of(table + SLOTS(slot)) == tag_of(record) &&
+                 memcmp(table + SLOTS(slot), record, SLOTS(1) * sizeof *record) == 0;
     return times;
 }
 
-static uint64_t carried[SLOTS(TCAM_MAX_SLOTS)];
+static uint64_t carried[ROOM(TCAM_MAX_SLOTS)];
+
+/* After an insert: each rule of the table before stands once, and so does the new one. */
+static void check_held_once(const uint64_t *old, uint32_t slots, const uint64_t *new_record)
+{
+    int held_once = times_held(carried, slots, new_record) == 1;
+    uint32_t old_empty = 0, empty = 0;
+    for (uint32_t slot = 0; slot < slots; slot++) {
+        old_empty += is_empty(old + SLOTS(slot)) != 0;
+        empty += is_empty(carried + SLOTS(slot)) != 0;
+        if (!is_empty(old + SLOTS(slot)))
+            held_once &= times_held(carried, slots, old + SLOTS(slot)) == 1;
+    }
+    CHECK(held_once);
+    CHECK(empty + 1 == old_empty);
+}
 
 /* Carries out the plan of an insert, on `carried`, and checks the table after every write. */
 static void carry_out_insert(const uint64_t *old, uint32_t slots, const struct rule *rule, const uint32_t *writes,
                              uint32_t count, const struct keys *keys)
 {
     int toward_higher = 0, toward_lower = 0;
-    uint64_t new_record[TCAM_SLOT_WORDS], old_reply[MOST_KEYS], new_reply[MOST_KEYS];
+    record_words new_record;
+    uint64_t old_reply[MOST_KEYS], new_reply[MOST_KEYS];
     set_record(new_record, rule);
     memcpy(carried, old, SLOTS(slots) * sizeof *old);
     for (uint32_t key = 0; key < keys->count; key++) {
@@ -427,19 +459,10 @@ static void carry_out_insert(const uint64_t *old, uint32_t slots, const struct r
             replies_right &= first_reply(carried, slots, keys->key[key]) == (last ? new_reply[key] : old_reply[key]);
         CHECK(replies_right);
         uint32_t key = below(keys->count), slot, id, action, spot;
-        CHECK(tcam_lookup(carried, SLOTS(slots), keys->key[key][0], keys->key[key][1], &slot, &id, &action, &spot) == TCAM_OK &&
+        CHECK(tcam_lookup(carried, SLOTS(slots), width, keys->key[key], width, &slot, &id, &action, &spot) == TCAM_OK &&
               TCAM_ID_ACTION(id, action) == (last ? new_reply[key] : old_reply[key]));
     }
-    int held_once = times_held(carried, slots, new_record) == 1;
-    uint32_t old_empty = 0, empty = 0;
-    for (uint32_t slot = 0; slot < slots; slot++) {
-        old_empty += is_empty(old + SLOTS(slot)) != 0;
-        empty += is_empty(carried + SLOTS(slot)) != 0;
-        if (!is_empty(old + SLOTS(slot)))
-            held_once &= times_held(carried, slots, old + SLOTS(slot)) == 1;
-    }
-    CHECK(held_once);
-    CHECK(empty + 1 == old_empty);
+    check_held_once(old, slots, new_record);
 }
 
 /* Carries out the plan of a delete, on `carried`. */
@@ -543,13 +566,14 @@ static uint32_t least_toward(const int *start, int slots, int higher)
 
 static uint32_t least_in_class(const uint64_t *table, uint32_t slots, const struct rule *rule)
 {
-    uint64_t records[SLOTS(CLASS_SLOTS + 1)];
+    uint64_t records[ROOM(CLASS_SLOTS + 1)];
     int held[CLASS_SLOTS];
     memcpy(records, table, SLOTS(slots) * sizeof *table);
     set_record(records + SLOTS(slots), rule);
     for (uint32_t a = 0; a <= slots; a++)
         for (uint32_t b = 0; b <= slots; b++)
-            may[a][b] = records[SLOTS(a) + 5] > records[SLOTS(b) + 5] || !overlap(records + SLOTS(a), records + SLOTS(b));
+            may[a][b] = priority_of(records + SLOTS(a)) > priority_of(records + SLOTS(b)) ||
+                        !overlap(records + SLOTS(a), records + SLOTS(b));
     for (uint32_t slot = 0; slot < slots; slot++)
         held[slot] = is_empty(table + SLOTS(slot)) ? NONE : (int)slot;
     uint32_t down = least_toward(held, (int)slots, 1), up = least_toward(held, (int)slots, 0);
@@ -558,7 +582,7 @@ static uint32_t least_in_class(const uint64_t *table, uint32_t slots, const stru
 
 /* ---- Cases ---- */
 
-static uint64_t table[SLOTS(MOST_SLOTS)];
+static uint64_t table[ROOM(MOST_SLOTS)];
 static struct told want, ref;
 
 static void clear(void)
@@ -573,7 +597,8 @@ static void put(uint32_t slot, struct rule rule)
 
 /* A rule and the slot that holds it. */
 struct placed {
-    uint32_t slot, id, priority;
+    uint32_t slot, id;
+    uint64_t priority;
     const char *pattern;
     uint32_t action;
 };
@@ -710,11 +735,15 @@ static void names(void)
     CHECK(tcam_write_from(0xFFFE0002u) == TCAM_EMPTY && tcam_write_to(0xFFFE0002u) == 2);
 }
 
-static void look_up(int line, uint32_t slots, uint64_t key_high, uint32_t want_slot, uint32_t want_id, uint32_t want_action)
+/* A key of this first word and this last one. */
+static void look_up(int line, uint32_t slots, uint64_t key_first, uint64_t key_last, uint32_t want_slot,
+                    uint32_t want_id, uint32_t want_action)
 {
     uint32_t slot = 77, id = 77, action = 77, spot = 77;
+    pattern_words key = {key_first};
     case_line = line;
-    CHECK(tcam_lookup(table, SLOTS(slots), key_high, 0, &slot, &id, &action, &spot) == TCAM_OK);
+    key[width - 1] |= key_last;
+    CHECK(tcam_lookup(table, SLOTS(slots), width, key, width, &slot, &id, &action, &spot) == TCAM_OK);
     CHECK(slot == want_slot && id == want_id && action == want_action && spot == 77);
 }
 
@@ -729,9 +758,81 @@ static void script(void)
     INSERTED(6, rule_of(5, 10, "00", 1), PUT(3));                     /* I 5 10 00 1 */
     INSERTED(6, rule_of(6, 40, "01", 2), PUT(4));                     /* I 6 40 01 2 */
     REFUSED(SLOTS(6), rule_of(7, 20, "0", 3), TCAM_CROSSED, 4);       /* I 7 20 0 3 */
-    look_up(__LINE__, 6, 0x5000000000000000u, 4, 6, 2);               /* L 0101 */
+    look_up(__LINE__, 6, 0x5000000000000000u, 0, 4, 6, 2);            /* L 0101 */
     DELETED(6, 2, 2);                                                 /* D 2 */
-    look_up(__LINE__, 6, 0x8000000000000000u, 0, 0, 0);               /* L 1000 */
+    look_up(__LINE__, 6, 0x8000000000000000u, 0, 0, 0, 0);            /* L 1000 */
+}
+
+/* A rule that cares for the last bit of the last word alone. */
+static struct rule last_bit(uint32_t id, uint64_t priority, uint64_t bit, uint32_t action)
+{
+    struct rule rule = rule_of(id, priority, "", action);
+    rule.value[width - 1] = bit;
+    rule.mask[width - 1] = 1;
+    return rule;
+}
+
+/* [1/30 11 a7, 2/20 * a8, empty], and rules that only the last bit of the last word tells apart. */
+static void last_word_decides(void)
+{
+    HOLD({0, 1, 30, "11", 7}, {1, 2, 20, "", 8});
+    INSERTED(3, last_bit(3, 25, 1, 9), COPY(1, 2), PUT(1));
+    look_up(__LINE__, 3, TOP, 1, 1, 3, 9);
+    look_up(__LINE__, 3, TOP, 0, 2, 2, 8);
+    look_up(__LINE__, 3, TOP | TOP >> 1, 1, 0, 1, 7);
+    REFUSED(SLOTS(3), last_bit(4, 25, 0, 9), TCAM_FULL, 0); /* and no tie */
+    REFUSED(SLOTS(3), last_bit(4, 25, 1, 9), TCAM_TIE, 1);
+    DELETED(3, 2, 2);
+    PLANNED(3, last_bit(4, 25, 0, 9), PUT(2));
+
+    /* the same words at the other width: 36 are six slots or three */
+    HOLD({0, 1, 30, "11", 7}, {1, 2, 20, "", 8});
+    width = width == 2 ? 5 : 2;
+    REFUSED(36, rule_of(9, 1, "", 1), TCAM_RECORD, 0);
+    KEPT(36, 1, TCAM_RECORD, 0);
+    width = width == 2 ? 5 : 2;
+    PLANNED(36 / (2 * width + 2), rule_of(9, 1, "", 1), PUT(2));
+}
+
+/* A rule of any other number of words, before anything is said of the table, of the rule or of the buffer. */
+static void other_rules(void)
+{
+    const struct rule rule = rule_of(3, 25, "1", 9), unsound = rule_of(0, 65536, "1", 9);
+    HERE;
+    HOLD({0, 1, 30, "11", 7}, {1, 2, 20, "", 8});
+    wanted(TCAM_SHAPE, 0, NULL, 0);
+    for (int fault = 0; fault < 2; fault++) {
+        for (size_t rule_words = 0; rule_words <= ROOM(1) + 2; rule_words++)
+            for (int at_end = 0; at_end < 2 && rule_words != SLOTS(1); at_end++) {
+                struct lent lent = lend(table, SLOTS(3), at_end);
+                protect_table(0);
+                call_insert_of(&lent, &rule, rule_words, 3, at_end, &want);
+                call_insert_of(&lent, &unsound, rule_words, 0, at_end, &want);
+                protect_table(1);
+            }
+        table[SLOTS(2)] = 1;
+    }
+}
+
+/* Every other width, whatever the words of the table and of the rule are: nothing is written. */
+static void other_widths(void)
+{
+    static const uint32_t others[] = {0, 1, 3, 4, 6, 7, 10, 65538, 65541, 0x80000002u, UINT32_MAX};
+    const struct rule rule = rule_of(3, 25, "1", 9);
+    record_words given = {0};
+    HOLD({0, 1, 30, "11", 7}, {1, 2, 20, "", 8});
+    set_record(given, &rule);
+    for (size_t index = 0; index < COUNT_OF(others); index++)
+        for (size_t words = 0; words <= SLOTS(3); words++) {
+            uint32_t lent_plan[4] = {77, 78, 79, 80}, count = 81, spot = 82;
+            HERE;
+            for (size_t rule_words = 0; rule_words <= ROOM(1); rule_words++, spot = 82) {
+                CHECK(tcam_plan_insert(table, words, others[index], given, rule_words, lent_plan, 4, &count, &spot) == TCAM_SHAPE);
+                CHECK(lent_plan[0] == 77 && lent_plan[1] == 78 && count == 81 && spot == 0);
+            }
+            CHECK(tcam_plan_delete(table, words, others[index], 1, lent_plan, 4, &count, &spot) == TCAM_SHAPE);
+            CHECK(lent_plan[0] == 77 && lent_plan[1] == 78 && count == 81 && spot == 0);
+        }
 }
 
 /* 0 empty, 1 a, 2 b, and b depends on a. */
@@ -763,26 +864,30 @@ static void edge_tables(void)
 /* A plan of two in a buffer of one word. */
 static void short_buffers(void)
 {
+    uint32_t two_words[2] = {77, 78}, count = 79, spot = 80;
+    const struct rule rule = rule_of(22, 20, "11", 3);
+    record_words given;
     between_two();
     HERE;
-    uint32_t two_words[2] = {77, 78}, count = 79, spot = 80;
-    CHECK(tcam_plan_insert(table, SLOTS(3), 22, 20, 0xC000000000000000u, 0, 0xC000000000000000u, 0, 3, two_words, 1, &count,
-                           &spot) == TCAM_SHORT);
+    set_record(given, &rule);
+    CHECK(tcam_plan_insert(table, SLOTS(3), width, given, SLOTS(1), two_words, 1, &count, &spot) == TCAM_SHORT);
     CHECK(two_words[0] == 77 && two_words[1] == 78 && count == 79 && spot == 2);
 
-    /* no buffer at all, and no table */
-    CHECK(tcam_plan_insert(table, SLOTS(3), 22, 20, 0xC000000000000000u, 0, 0xC000000000000000u, 0, 3, NULL, 0, &count, &spot) ==
-          TCAM_SHORT);
+    /* no buffer at all, no table and no rule */
+    CHECK(tcam_plan_insert(table, SLOTS(3), width, given, SLOTS(1), NULL, 0, &count, &spot) == TCAM_SHORT);
     CHECK(count == 79 && spot == 2);
-    CHECK(tcam_plan_delete(table, SLOTS(3), 21, NULL, 0, &count, &spot) == TCAM_SHORT);
+    CHECK(tcam_plan_delete(table, SLOTS(3), width, 21, NULL, 0, &count, &spot) == TCAM_SHORT);
     CHECK(count == 79 && spot == 1);
-    CHECK(tcam_plan_insert(NULL, 0, 22, 20, 0, 0, 0, 0, 3, two_words, 2, &count, &spot) == TCAM_SHAPE);
+    CHECK(tcam_plan_insert(NULL, 0, width, given, SLOTS(1), two_words, 2, &count, &spot) == TCAM_SHAPE);
     CHECK(count == 79 && spot == 0);
     spot = 80;
-    CHECK(tcam_plan_delete(NULL, 0, 21, two_words, 2, &count, &spot) == TCAM_SHAPE);
+    CHECK(tcam_plan_insert(table, SLOTS(3), width, NULL, 0, two_words, 2, &count, &spot) == TCAM_SHAPE);
+    CHECK(count == 79 && spot == 0);
+    spot = 80;
+    CHECK(tcam_plan_delete(NULL, 0, width, 21, two_words, 2, &count, &spot) == TCAM_SHAPE);
     CHECK(two_words[0] == 77 && two_words[1] == 78 && count == 79 && spot == 0);
     spot = 80;
-    CHECK(tcam_plan_delete(table, SLOTS(3), 21, two_words, 2, &count, &spot) == TCAM_OK);
+    CHECK(tcam_plan_delete(table, SLOTS(3), width, 21, two_words, 2, &count, &spot) == TCAM_OK);
     CHECK(two_words[0] == 0xFFFE0002u && two_words[1] == 78 && count == 1 && spot == 80);
 }
 
@@ -808,6 +913,9 @@ static void priorities_at_ends(void)
     REFUSED(SLOTS(2), rule_of(1, 65536, "1", 1), TCAM_RULE, 0);
     REFUSED(SLOTS(2), rule_of(1, 0x10000001u, "1", 1), TCAM_RULE, 0);
     REFUSED(SLOTS(2), rule_of(1, UINT32_MAX, "1", 1), TCAM_RULE, 0);
+    REFUSED(SLOTS(2), rule_of(1, 0x100000001u, "1", 1), TCAM_RULE, 0); /* 1 in the lower 32 bits */
+    REFUSED(SLOTS(2), rule_of(1, TOP, "1", 1), TCAM_RULE, 0);
+    REFUSED(SLOTS(2), rule_of(1, ALL, "1", 1), TCAM_RULE, 0);
     put(1, rule_of(7, 65535, "1", 1));
     PLANNED(3, rule_of(1, 65534, "", 1), PUT(2));
     REFUSED(SLOTS(3), rule_of(1, 65535, "", 1), TCAM_TIE, 1);
@@ -868,6 +976,15 @@ static void displaced_rules(void)
     PLANNED(3, rule_of(1, 12, "1", 1), PUT(2));
 }
 
+/* A rule whose value and mask have these bits in one word, and no others. */
+static struct rule of_word(uint32_t id, uint64_t priority, uint32_t word, uint64_t value, uint64_t mask)
+{
+    struct rule rule = rule_of(id, priority, "", 1);
+    rule.value[word] = value;
+    rule.mask[word] = mask;
+    return rule;
+}
+
 /* Priorities of rules that do not overlap count for nothing. */
 static void rules_apart(void)
 {
@@ -877,15 +994,24 @@ static void rules_apart(void)
     PLANNED(5, rule_of(1, 3, "1", 1), PUT(3));
     REFUSED(SLOTS(5), rule_of(1, 30000, "0", 1), TCAM_CROSSED, 1);
     REFUSED(SLOTS(5), rule_of(1, 3, "*0", 1), TCAM_CROSSED, 2);
+}
 
-    /* bits of the low words decide too, and only both masks together */
+/* Bits of any other word than the first decide too, and only both masks together. */
+static void rules_apart_in_word(uint32_t word)
+{
     clear();
-    put(0, (struct rule){2, 20, {0, 1}, {0, 1}, 1});
-    put(1, (struct rule){3, 10, {0, 0}, {0, 2}, 1});
-    PLANNED(3, ((struct rule){1, 30, {0, 0}, {0, 1}, 1}), COPY(1, 2), PUT(1));
-    PLANNED(3, ((struct rule){1, 30, {0, 2}, {0, 3}, 1}), PUT(2));
-    PLANNED(3, ((struct rule){1, 15, {0, 1}, {0, 3}, 1}), COPY(1, 2), PUT(1));
-    PLANNED(3, ((struct rule){1, 30, {0, 3}, {0, 3}, 1}), COPY(1, 2), COPY(0, 1), PUT(0));
+    put(0, of_word(2, 20, word, 1, 1));
+    put(1, of_word(3, 10, word, 0, 2));
+    PLANNED(3, of_word(1, 30, word, 0, 1), COPY(1, 2), PUT(1));
+    PLANNED(3, of_word(1, 30, word, 2, 3), PUT(2));
+    PLANNED(3, of_word(1, 15, word, 1, 3), COPY(1, 2), PUT(1));
+    PLANNED(3, of_word(1, 30, word, 3, 3), COPY(1, 2), COPY(0, 1), PUT(0));
+}
+
+static void rules_apart_in_words(void)
+{
+    for (uint32_t word = 0; word < width; word++)
+        rules_apart_in_word(word);
 }
 
 #define FINE rule_of(99, 7, "0000", 1)
@@ -894,8 +1020,8 @@ static void rules_apart(void)
 static void wrong_lengths(void)
 {
     clear();
-    for (size_t words = 0; words <= 40; words++) {
-        if (words % 6 == 0 && words != 0)
+    for (size_t words = 0; words <= SLOTS(6) + 4; words++) {
+        if (words % SLOTS(1) == 0 && words != 0)
             continue;
         REFUSED(words, FINE, TCAM_SHAPE, 0);
         KEPT(words, 1, TCAM_SHAPE, 0);
@@ -907,24 +1033,31 @@ static void wrong_lengths(void)
     KEPT(SLOTS(1025), 1, TCAM_SHAPE, 0);
 }
 
-/* Lengths of more than 16 bits: the one ends in those of a six, the other in those of a zero. */
+/* Lengths of more than 16 bits: the one ends in those of a record, the other in those of a zero. */
 static void long_lengths(void)
 {
-    static uint64_t long_table[3 * 65536 + 6];
+    static uint64_t long_table[3 * 65536 + ROOM(1)];
     static uint32_t long_plan[65536];
+    const size_t long_words = 3 * 65536 + SLOTS(1);
+    const struct rule rule = rule_of(1, 1, "", 1);
     uint32_t count = 77, spot = 78;
+    record_words given;
     HERE;
-    CHECK(tcam_plan_insert(long_table, COUNT_OF(long_table), 1, 1, 0, 0, 0, 0, 1, long_plan, 1, &count, &spot) == TCAM_SHAPE);
+    memset(long_table, 0, sizeof long_table);
+    long_plan[0] = 0;
+    set_record(given, &rule);
+    CHECK(long_words % SLOTS(1) == 0);
+    CHECK(tcam_plan_insert(long_table, long_words, width, given, SLOTS(1), long_plan, 1, &count, &spot) == TCAM_SHAPE);
     CHECK(long_plan[0] == 0 && count == 77 && spot == 0);
     spot = 78;
-    CHECK(tcam_plan_delete(long_table, COUNT_OF(long_table), 1, long_plan, 1, &count, &spot) == TCAM_SHAPE);
+    CHECK(tcam_plan_delete(long_table, long_words, width, 1, long_plan, 1, &count, &spot) == TCAM_SHAPE);
     CHECK(long_plan[0] == 0 && count == 77 && spot == 0);
     spot = 78;
-    CHECK(tcam_plan_insert(long_table, SLOTS(1), 1, 1, 0, 0, 0, 0, 1, long_plan, COUNT_OF(long_plan), &count, &spot) == TCAM_OK);
+    CHECK(tcam_plan_insert(long_table, SLOTS(1), width, given, SLOTS(1), long_plan, COUNT_OF(long_plan), &count, &spot) == TCAM_OK);
     CHECK(long_plan[0] == PUT(0) && long_plan[1] == 0 && count == 1 && spot == 78);
     count = 77;
-    long_table[4] = TCAM_ID_ACTION(1, 1);
-    CHECK(tcam_plan_delete(long_table, SLOTS(1), 1, long_plan, COUNT_OF(long_plan), &count, &spot) == TCAM_OK);
+    long_table[2 * width] = TCAM_ID_ACTION(1, 1);
+    CHECK(tcam_plan_delete(long_table, SLOTS(1), width, 1, long_plan, COUNT_OF(long_plan), &count, &spot) == TCAM_OK);
     CHECK(long_plan[0] == EMPTYING(0) && long_plan[1] == 0 && count == 1 && spot == 78);
 }
 
@@ -939,11 +1072,11 @@ static void unsound_records(void)
     REFUSED(SLOTS(6), FINE, TCAM_RECORD, 5);
     KEPT(SLOTS(6), 2, TCAM_RECORD, 5);
     table[SLOTS(5)] = 0;
-    table[SLOTS(5) + 4] = 1;
+    table[SLOTS(5) + 2 * width] = 1;
     REFUSED(SLOTS(6), FINE, TCAM_RECORD, 5);
-    table[SLOTS(5) + 4] = TCAM_ID_ACTION(3, 0);
+    table[SLOTS(5) + 2 * width] = TCAM_ID_ACTION(3, 0);
     PLANNED(6, FINE, PUT(0));
-    table[SLOTS(5) + 5] = 0x100000000u;
+    table[SLOTS(6) - 1] = 0x100000000u;
     REFUSED(SLOTS(6), FINE, TCAM_RECORD, 5);
     KEPT(SLOTS(6), 2, TCAM_RECORD, 5);
 }
@@ -986,11 +1119,14 @@ static void four_rules(void)
 static void unsound_rules(void)
 {
     four_rules();
-    for (int bit = 0; bit < 64; bit++) {
-        uint64_t one = (uint64_t)1 << bit;
-        REFUSED(SLOTS(6), ((struct rule){99, 7, {one, 0}, {~one, ALL}, 1}), TCAM_RULE, 0);
-        REFUSED(SLOTS(6), ((struct rule){99, 7, {0, one}, {ALL, ~one}, 1}), TCAM_RULE, 0);
-        REFUSED(SLOTS(6), ((struct rule){99, 7, {one, 0}, {0, one}, 1}), TCAM_RULE, 0);
+    for (uint32_t bit = 0; bit < 64 * width; bit++) {
+        uint64_t one = (uint64_t)1 << bit % 64;
+        struct rule outside = of_word(99, 7, bit / 64, one, ~one), beside = of_word(99, 7, bit / 64, one, 0);
+        for (uint32_t word = 0; word < width; word++)
+            outside.mask[word] |= word == bit / 64 ? 0 : ALL;
+        beside.mask[(bit / 64 + 1) % width] = one;
+        REFUSED(SLOTS(6), outside, TCAM_RULE, 0);
+        REFUSED(SLOTS(6), beside, TCAM_RULE, 0);
     }
     REFUSED(SLOTS(6), rule_of(0, 7, "1", 1), TCAM_RULE, 0);
     REFUSED(SLOTS(6), rule_of(0, 0, "", 0), TCAM_RULE, 0);
@@ -1029,7 +1165,11 @@ static void crossed(void)
 /* Faults of a table and a rule, one bit each; for a delete KNOWN stands for an id that is absent. */
 enum { SHAPE = 1, RECORD = 2, TWICE = 4, ORDER = 8, RULE = 16, KNOWN = 32, TIE = 64, FULL = 128, CROSSED = 256, SHORT = 512 };
 
-static const size_t wrong_words[] = {SLOTS(9) - 1, SLOTS(9) + 1, SLOTS(9) + 3};
+static size_t wrong_words(uint32_t variant)
+{
+    const size_t wrong[] = {SLOTS(9) - 1, SLOTS(9) + 1, SLOTS(9) + SLOTS(1) / 2};
+    return wrong[variant];
+}
 
 static void faulty_table(uint32_t set)
 {
@@ -1048,7 +1188,7 @@ static struct rule faulty_rule(uint32_t set, uint32_t variant)
     if (set & RULE && variant == 1)
         rule.priority += 65536;
     if (set & RULE && variant == 2)
-        rule.value[1] = 1;
+        rule.value[width - 1] = 1;
     return rule;
 }
 
@@ -1062,7 +1202,7 @@ static void faulty_inserts(uint32_t set, size_t lowest)
     static const uint32_t writes[] = {COPY(2, 8), PUT(2)};
     for (uint32_t variant = 0; variant < 3; variant++) {
         struct rule rule = faulty_rule(set, variant);
-        size_t words = set & SHAPE ? wrong_words[variant] : SLOTS(9);
+        size_t words = set & SHAPE ? wrong_words(variant) : SLOTS(9);
         HERE;
         if (lowest < COUNT_OF(faults))
             wanted(faults[lowest].number, faults[lowest].spot, NULL, 0);
@@ -1078,7 +1218,7 @@ static void faulty_inserts(uint32_t set, size_t lowest)
 static void faulty_delete(uint32_t set, size_t lowest)
 {
     uint32_t id = set & RULE ? 0 : set & KNOWN ? 98 : 6, write = EMPTYING(5);
-    size_t words = set & SHAPE ? wrong_words[set % 3] : SLOTS(9);
+    size_t words = set & SHAPE ? wrong_words(set % 3) : SLOTS(9);
     HERE;
     if (lowest < 5)
         wanted(faults[lowest].number, faults[lowest].spot, NULL, 0);
@@ -1116,7 +1256,7 @@ static void long_chain(uint32_t hole, uint32_t place)
     clear();
     for (uint32_t slot = 0; slot < 1024; slot++)
         if (slot != hole)
-            put(slot, (struct rule){slot + 1, 60000 - 40 * slot, {0, 0}, {0, 0}, slot});
+            put(slot, rule_of(slot + 1, 60000 - 40 * slot, "", slot));
     if (place <= hole) {
         for (uint32_t slot = hole; slot > place; slot--)
             writes[count++] = COPY(slot - 1, slot);
@@ -1126,7 +1266,7 @@ static void long_chain(uint32_t hole, uint32_t place)
             writes[count++] = COPY(slot + 1, slot);
         writes[count++] = PUT(place - 1);
     }
-    insert_case(__LINE__, 1024, (struct rule){5000, 60020 - 40 * place, {0, 0}, {0, 0}, 9}, 0, writes, count);
+    insert_case(__LINE__, 1024, rule_of(5000, 60020 - 40 * place, "", 9), 0, writes, count);
 }
 
 static void long_chains(void)
@@ -1136,10 +1276,19 @@ static void long_chains(void)
         long_chain(empties[index / COUNT_OF(places)], places[index % COUNT_OF(places)]);
 }
 
-/* A rule of the high word `value`, all of whose bits are cared for. */
-static struct rule exact(uint32_t id, uint32_t priority, uint64_t value, uint32_t action)
+/* A rule of the first word `value`, all of whose bits are cared for. */
+static struct rule exact(uint32_t id, uint64_t priority, uint64_t value, uint32_t action)
 {
-    return (struct rule){id, priority, {value, 0}, {ALL, 0}, action};
+    return (struct rule){id, priority, {value}, {ALL}, action};
+}
+
+/* The same, which cares for the last bit of the last word too. */
+static struct rule exact_to_last(uint32_t id, uint64_t priority, uint64_t value, uint32_t action)
+{
+    struct rule rule = exact(id, priority, value, action);
+    rule.value[width - 1] |= 1;
+    rule.mask[width - 1] |= 1;
+    return rule;
 }
 
 /* No rule overlaps another: one move is enough, over the whole table. */
@@ -1149,9 +1298,9 @@ static void long_table_apart(uint32_t hole)
     for (uint32_t slot = 0; slot < 1024; slot++)
         if (slot != hole)
             put(slot, exact(slot + 1, slot % 7, slot, slot));
-    PLANNED(1024, ((struct rule){5000, 3, {1024, 1}, {ALL, 1}, 9}), PUT(hole));
-    REFUSED(SLOTS(1024), ((struct rule){700, 3, {1024, 1}, {ALL, 1}, 9}), TCAM_KNOWN, 699);
-    REFUSED(SLOTS(1024), ((struct rule){5000, 700 % 7, {700, 1}, {ALL, 1}, 9}), TCAM_TIE, 700);
+    PLANNED(1024, exact_to_last(5000, 3, 1024, 9), PUT(hole));
+    REFUSED(SLOTS(1024), exact_to_last(700, 3, 1024, 9), TCAM_KNOWN, 699);
+    REFUSED(SLOTS(1024), exact_to_last(5000, 700 % 7, 700, 9), TCAM_TIE, 700);
     DELETED(1024, 701, 700);
     KEPT(SLOTS(1024), 701, TCAM_UNKNOWN, 0);
 }
@@ -1162,8 +1311,8 @@ static void long_tables_apart(void)
         long_table_apart(empties[index]);
     put(700, exact(701, 0, 700, 700));
     PLANNED(1024, exact(5000, 9, 0, 9), COPY(0, 1023), PUT(0));
-    REFUSED(SLOTS(1024), ((struct rule){5000, 3, {0, 0}, {0, 0}, 9}), TCAM_TIE, 3);
-    REFUSED(SLOTS(1024), ((struct rule){5000, 3, {1, 0}, {~(uint64_t)4, 0}, 9}), TCAM_CROSSED, 5);
+    REFUSED(SLOTS(1024), rule_of(5000, 3, "", 9), TCAM_TIE, 3);
+    REFUSED(SLOTS(1024), of_word(5000, 3, 0, 1, ~(uint64_t)4), TCAM_CROSSED, 5);
     put(1023, exact(1024, 1, 1023, 1));
     REFUSED(SLOTS(1024), exact(5000, 9, 0, 9), TCAM_FULL, 0);
     memset(table, 0, SLOTS(1) * sizeof *table);
@@ -1265,19 +1414,17 @@ static void made_delete(const struct lent *lent, uint32_t slots, uint32_t id)
     }
 }
 
-/* Patterns of a few bits, at places of their own among the 128, over bits that all rules of a table have in common. */
+/* Patterns of a few bits, at places of their own among all bits, over bits that all rules of a table have in common. */
 struct space {
     uint32_t bits, place[4];
-    uint64_t value[2], mask[2]; /* in common */
+    pattern_words value, mask; /* in common */
 };
 
 /* digits: one of 0, 1 and 2 (not cared for) for each bit */
 static void set_digits(struct rule *rule, const struct space *space, const uint8_t *digits)
 {
-    for (int word = 0; word < 2; word++) {
-        rule->value[word] = space->value[word];
-        rule->mask[word] = space->mask[word];
-    }
+    memcpy(rule->value, space->value, sizeof rule->value);
+    memcpy(rule->mask, space->mask, sizeof rule->mask);
     for (uint32_t bit = 0; bit < space->bits; bit++) {
         uint64_t one = TOP >> space->place[bit] % 64;
         if (digits[bit] == 1)
@@ -1292,8 +1439,8 @@ static void space_keys(struct keys *keys, const struct space *space)
 {
     keys->count = 0;
     for (uint32_t number = 0; number < (uint32_t)1 << space->bits; number++) {
-        uint64_t key[2];
-        for (int word = 0; word < 2; word++)
+        pattern_words key;
+        for (uint32_t word = 0; word < width; word++)
             key[word] = space->value[word] | (random_word() & ~space->mask[word]);
         for (uint32_t bit = 0; bit < space->bits; bit++) {
             uint64_t one = TOP >> space->place[bit] % 64;
@@ -1301,7 +1448,20 @@ static void space_keys(struct keys *keys, const struct space *space)
             if (number >> bit & 1)
                 key[space->place[bit] / 64] |= one;
         }
-        add_key(keys, key[0], key[1]);
+        add_key(keys, key);
+    }
+}
+
+/* The table of this number: each decimal digit is a slot's pattern, or 9 for an empty slot. */
+static void small_table(const struct space *space, const uint8_t (*patterns)[2], uint32_t slots, uint32_t number)
+{
+    clear();
+    for (uint32_t slot = 0; slot < slots; slot++, number /= 10) {
+        struct rule rule = rule_of(slot + 1, 2 * (slots - slot), "", 50 + slot);
+        if (number % 10 == 9)
+            continue;
+        set_digits(&rule, space, patterns[number % 10]);
+        put(slot, rule);
     }
 }
 
@@ -1309,11 +1469,12 @@ static void space_keys(struct keys *keys, const struct space *space)
  * All tables of 1 to 4 slots whose rules are patterns of two bits, with priorities that fall from slot to slot, and all
  * new rules of such patterns with a priority between two of them, below or above. An insert that is not crossed depends
  * on the overlaps and on the place among the priorities alone. With 4 slots three patterns of the new rule do: the
- * others come of them by exchanging the bits or 0 and 1, for all rules of the table too.
+ * others come of them by exchanging the bits or 0 and 1, for all rules of the table too. The two bits are the last of a
+ * word and the first of the last one.
  */
 static void all_tables(void)
 {
-    static const struct space space = {2, {63, 64, 0, 0}, {0, 0}, {0, 0}};
+    const struct space space = {2, {63, 64 * (width - 1), 0, 0}, {0}, {0}};
     static const uint8_t patterns[9][2] = {{0, 0}, {0, 2}, {2, 2}, {0, 1}, {1, 0}, {1, 1}, {1, 2}, {2, 0}, {2, 1}};
     struct keys keys;
     uint32_t tables = 1;
@@ -1321,23 +1482,16 @@ static void all_tables(void)
     case_line = 0;
     made_how = "small table";
     turn = 0;
+    memset(&seen, 0, sizeof seen);
     space_keys(&keys, &space);
     for (uint32_t slots = 1; slots <= 4; slots++) {
         tables *= 10;
         for (uint32_t number = 0; number < tables; number++) {
-            uint32_t rest = number;
-            clear();
-            for (uint32_t slot = 0; slot < slots; slot++, rest /= 10) {
-                struct rule rule = {slot + 1, 2 * (slots - slot), {0, 0}, {0, 0}, 50 + slot};
-                if (rest % 10 == 9)
-                    continue;
-                set_digits(&rule, &space, patterns[rest % 10]);
-                put(slot, rule);
-            }
+            small_table(&space, patterns, slots, number);
             struct lent lent = lend(table, SLOTS(slots), (int)number % 2);
             for (uint32_t pattern = 0; pattern < (slots == 4 ? 3 : 9); pattern++)
                 for (uint32_t place = 0; place <= slots; place++) {
-                    struct rule rule = {90, 2 * place + 1, {0, 0}, {0, 0}, 91};
+                    struct rule rule = rule_of(90, 2 * place + 1, "", 91);
                     set_digits(&rule, &space, patterns[pattern]);
                     made_insert(&lent, slots, &rule, &keys);
                     turn++;
@@ -1350,19 +1504,24 @@ static void all_tables(void)
     CHECK(seen.refused[TCAM_FULL] > turn / 4);
 }
 
+/* The first bits, the last, those at the border of the last word, some in all words, or any. */
 static void random_space(struct space *space)
 {
-    static const uint32_t places[4][4] = {{0, 1, 2, 3}, {127, 126, 125, 124}, {62, 63, 64, 65}, {5, 70, 40, 101}};
+    const uint32_t bits = 64 * width, last = bits - 64;
+    const uint32_t places[4][4] = {{0, 1, 2, 3},
+                                   {bits - 1, bits - 2, bits - 3, bits - 4},
+                                   {last - 2, last - 1, last, last + 1},
+                                   {5, bits - 58, 40, bits - 27}};
     uint32_t choice = below(5);
     space->bits = 2 + below(3);
     for (uint32_t bit = 0; bit < 4; bit++)
-        space->place[bit] = choice < 4 ? places[choice][bit] : bit * 32 + below(32);
-    space->mask[0] = below(2) == 0 ? 0 : below(2) == 0 ? ALL : random_word();
-    space->mask[1] = below(2) == 0 ? 0 : below(2) == 0 ? ALL : random_word();
+        space->place[bit] = choice < 4 ? places[choice][bit] : bit * (bits / 4) + below(bits / 4);
+    for (uint32_t word = 0; word < MOST_WIDTH; word++)
+        space->mask[word] = below(2) == 0 ? 0 : below(2) == 0 ? ALL : random_word();
     for (uint32_t bit = 0; bit < 4; bit++)
         space->mask[space->place[bit] / 64] &= ~(TOP >> space->place[bit] % 64);
-    space->value[0] = random_word() & space->mask[0];
-    space->value[1] = random_word() & space->mask[1];
+    for (uint32_t word = 0; word < MOST_WIDTH; word++)
+        space->value[word] = random_word() & space->mask[word];
 }
 
 /* The ids of a table, all different. */
@@ -1456,7 +1615,7 @@ static uint32_t make_table(const struct space *space, uint32_t slots, uint32_t *
     make_rule(space, rules, below(2) == 0 ? stars : 3 + below(6), priority_ranges[below(4)]);
     made[rules].rule.id = made_id(*id_kind, rules);
     if (rules > 0 && below(2) == 0) { /* a priority next to that of some rule */
-        uint32_t near = made[below(rules)].rule.priority;
+        uint64_t near = made[below(rules)].rule.priority;
         made[rules].rule.priority = near == 65535 || (near > 0 && below(2) == 0) ? near - 1 : near + 1;
     }
     return rules;
@@ -1464,7 +1623,7 @@ static uint32_t make_table(const struct space *space, uint32_t slots, uint32_t *
 
 static void swap_slots(uint32_t a, uint32_t b)
 {
-    for (uint32_t word = 0; word < TCAM_SLOT_WORDS; word++) {
+    for (size_t word = 0; word < SLOTS(1); word++) {
         uint64_t kept = table[SLOTS(a) + word];
         table[SLOTS(a) + word] = table[SLOTS(b) + word];
         table[SLOTS(b) + word] = kept;
@@ -1479,20 +1638,20 @@ static size_t damage(uint32_t slots, struct rule *rule)
         swap_slots(below(slots), below(slots));
     if (below(24) == 0) { /* an id twice */
         uint32_t from = below(slots), to = below(slots);
-        table[SLOTS(to) + 4] = table[SLOTS(from) + 4];
+        table[SLOTS(to) + 2 * width] = table[SLOTS(from) + 2 * width];
     }
     if (below(24) == 0) { /* any bit */
-        uint32_t bit = below(64 * 6 * slots);
+        uint32_t bit = below(64 * (uint32_t)SLOTS(slots));
         table[bit / 64] ^= (uint64_t)1 << bit % 64;
     }
     if (below(48) == 0)
-        words = words - 1 - below(5) + (below(2) == 0 ? 6 : 0);
+        words = words - 1 - below((uint32_t)SLOTS(1) - 1) + (below(2) == 0 ? SLOTS(1) : 0);
     if (below(16) == 0) /* an id of the table, or 0 */
         rule->id = id_of(table + SLOTS(below(slots)));
     if (below(32) == 0)
-        rule->priority += 65536 * (1 + below(65535));
+        rule->priority += (uint64_t)65536 << below(48);
     if (below(32) == 0)
-        rule->value[below(2)] |= (uint64_t)1 << below(64);
+        rule->value[below(width)] |= (uint64_t)1 << below(64);
     return words;
 }
 
@@ -1550,14 +1709,17 @@ static void check_plans(unsigned long tables)
     CHECK(seen.deleted > tables / 4);
 }
 
-static void random_tables(unsigned long tables)
+static unsigned long tables_made; /* at each width */
+
+static void random_tables(void)
 {
+    const unsigned long tables = tables_made;
     case_line = 0;
     made_how = "random table";
     memset(&seen, 0, sizeof seen);
     for (turn = 0; turn < tables; turn++)
         random_table(1 + below(12));
-    if (tables < 100000)
+    if (tables < 50000)
         return;
 
     check_refusals(seen.refused, insert_refusals, tables);
@@ -1577,15 +1739,14 @@ static void longer_tables(void)
 int main(int count, char **words)
 {
     static void (*const cases[])(void) = {
-        names, script, edge_tables, short_buffers, absent_ids, priorities_at_ends, mask_zero, choices, displaced_rules,
-        rules_apart, wrong_lengths, long_lengths, unsound_records, ids_twice, disordered, unsound_rules, known_and_tied,
-        crossed, fault_sets, long_chains, long_tables_apart, long_tables_of_few_rules, all_tables,
+        names, script, last_word_decides, other_rules, other_widths, edge_tables, short_buffers, absent_ids,
+        priorities_at_ends, mask_zero, choices, displaced_rules, rules_apart, rules_apart_in_words, wrong_lengths,
+        long_lengths, unsound_records, ids_twice, disordered, unsound_rules, known_and_tied, crossed, fault_sets,
+        long_chains, long_tables_apart, long_tables_of_few_rules, all_tables, random_tables, longer_tables,
     };
-    unsigned long tables = begin(count, words, 102000);
+    tables_made = begin(count, words, 102000) / 2;
     open_pages(&plan_pages, (MOST_ROOM + PLAN_GUARDS) * sizeof(uint32_t));
     run_cases(cases, COUNT_OF(cases));
-    random_tables(tables);
-    longer_tables();
 
     return verdict("plan_test");
 }

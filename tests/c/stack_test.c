@@ -1,7 +1,7 @@
 /*
- * Measures how much stack each call takes at 1,024 slots, and checks that it is no more than tcam.h says. A call runs on
- * a stack of its own, painted beforehand; what it has used is what is no longer paint. Compiled without sanitizers: the
- * planning calls, tcam_save and tcam_load call memset, tcam_load memcpy too, and a sanitizer's take more stack than C's.
+ * Measures how much stack each call takes at 1,024 slots of each width, and checks that it is no more than tcam.h says. A call
+ * runs on a stack of its own, painted beforehand; what it has used is what is no longer paint. Compiled without sanitizers: some
+ * calls call C's memory functions, as tcam.h says, and a sanitizer's take more stack than C's.
  *
  *     stack_test [-v]    -v prints the measures
  */
@@ -13,30 +13,43 @@
 #include <sys/mman.h>
 
 #define SLOTS 1024
-#define WORDS ((size_t)SLOTS * TCAM_SLOT_WORDS)
+#define MOST_WORDS TCAM_TABLE_WORDS(TCAM_WIDTH_320, SLOTS)
 #define STACK_BYTES ((size_t)1 << 20)
 
-/* What tcam.h says. */
-#define LOOKUP_BYTES 128
-#define DELETE_BYTES 24064
-#define CARRY_BYTES 192
-#define INSERT_BYTES 30336 /* or, where that is more, */
-#define CHAIN_BYTES 10752  /* and */
-#define WRITE_BYTES 96     /* for each word of the plan */
-#define SAVE_BYTES 24064
-#define LOAD_BYTES 73216
+/* What tcam.h says, at each width. */
+static const struct limits {
+    uint32_t width;
+    size_t lookup, slot_record, plan_delete, carry_out;
+    size_t plan_insert; /* or, where that is more, */
+    size_t chain;       /* and */
+    size_t write;       /* for each word of the plan */
+    size_t save, load;
+} limits[] = {
+    {TCAM_WIDTH_128, 288, 128, 24640, 304, 30848, 10752, 96, 24704, 74112},
+    {TCAM_WIDTH_320, 288, 128, 24640, 304, 30848, 10752, 96, 24704, 123264},
+};
+static const struct limits *limit;
+
+/* What tcam.h said while width 2 was the only one: at that width a call takes at most a twentieth more, or, where that is less than a
+ * frame, 160 bytes: a lookup and a step hold words and addresses for both widths. */
+static const struct limits once = {TCAM_WIDTH_128, 128, 128, 24064, 192, 30336, 10752, 96, 24064, 73216};
+
+static size_t grown(size_t bytes)
+{
+    return bytes + (bytes / 20 < 160 ? 160 : bytes / 20);
+}
 
 #ifdef __SANITIZE_ADDRESS__
 #error "the stack is measured without sanitizers"
 #endif
 
-static uint64_t table[WORDS];
+static uint64_t table[MOST_WORDS];
+static uint64_t rule[TCAM_RECORD_WORDS(TCAM_WIDTH_320)];
 static uint32_t plan[SLOTS];
-static uint8_t image[TCAM_IMAGE_BYTES(SLOTS)];
-static size_t room;
-static struct rule {
-    uint32_t id, priority;
-} rule;
+static uint8_t image[TCAM_IMAGE_BYTES(TCAM_WIDTH_320, SLOTS)];
+static const uint64_t key[TCAM_WIDTH_320] = {1, 2, 3, 4, 5};
+static size_t words, rule_words, room;
+static uint32_t width;
 
 static tcam_progress progress;
 
@@ -51,43 +64,43 @@ static unsigned char *top; /* the stack of the function that calls */
 ON_OWN_STACK run_lookup(void)
 {
     top = __builtin_frame_address(0);
-    result = tcam_lookup(table, WORDS, 1, 2, &slot, &id, &action, &spot);
+    result = tcam_lookup(table, words, width, key, width, &slot, &id, &action, &spot);
 }
 
 ON_OWN_STACK run_slot_record(void)
 {
     top = __builtin_frame_address(0);
-    result = tcam_slot_record(table, WORDS, 1000, &first);
+    result = tcam_slot_record(table, words, width, 1000, &first);
 }
 
 ON_OWN_STACK run_plan_insert(void)
 {
     top = __builtin_frame_address(0);
-    result = tcam_plan_insert(table, WORDS, rule.id, rule.priority, 0, 0, 0, 0, 7, plan, room, &count, &spot);
+    result = tcam_plan_insert(table, words, width, rule, rule_words, plan, room, &count, &spot);
 }
 
 ON_OWN_STACK run_plan_delete(void)
 {
     top = __builtin_frame_address(0);
-    result = tcam_plan_delete(table, WORDS, rule.id, plan, SLOTS, &count, &spot);
+    result = tcam_plan_delete(table, words, width, 1000, plan, SLOTS, &count, &spot);
 }
 
 ON_OWN_STACK run_carry_out(void)
 {
     top = __builtin_frame_address(0);
-    carried = tcam_carry_out(table, WORDS, plan, room, rule.id, rule.priority, 0, 0, 0, 0, 7, &progress);
+    carried = tcam_carry_out(table, words, width, rule, rule_words, plan, room, &progress);
 }
 
 ON_OWN_STACK run_save(void)
 {
     top = __builtin_frame_address(0);
-    result = tcam_save(table, WORDS, image, sizeof image, &bytes_saved, &spot);
+    result = tcam_save(table, words, width, image, sizeof image, &bytes_saved, &spot);
 }
 
 ON_OWN_STACK run_load(void)
 {
     top = __builtin_frame_address(0);
-    result = tcam_load(image, bytes_saved, table, WORDS, &spot);
+    result = tcam_load(image, bytes_saved, table, words, width, &spot);
 }
 
 /* Calls a function with the stack pointer at the end of the painted stack. */
@@ -101,27 +114,34 @@ static void run_on_stack(void (*run)(void))
                        "cc", "memory");
 }
 
+/* The bytes that the call used of a stack of this paint. */
+static size_t used_of(void (*run)(void), unsigned char paint)
+{
+    size_t low = 0;
+    memset(stack, paint, STACK_BYTES);
+    run_on_stack(run);
+    while (low < STACK_BYTES && stack[low] == paint)
+        low++;
+    return (size_t)(top - (stack + low));
+}
+
 /*
  * The bytes that the call used: the most of two paints, since a byte may happen to have the paint's value. The table and
- * the progress record are the same for both.
+ * the progress record are the same for both. A call before them finds C's functions, so that the loader's stack is not counted.
  */
 static size_t used(void (*run)(void))
 {
-    static const unsigned char paints[] = {0xA5, 0x3C};
-    static uint64_t made[WORDS];
+    static const unsigned char paints[] = {0, 0xA5, 0x3C};
+    static uint64_t made[MOST_WORDS];
     const tcam_progress start = progress;
     size_t most = 0;
     memcpy(made, table, sizeof table);
-    for (int round = 0; round < 2; round++) {
-        size_t low = 0;
+    for (int round = 0; round < 3; round++) {
         memcpy(table, made, sizeof table);
         progress = start;
-        memset(stack, paints[round], STACK_BYTES);
-        run_on_stack(run);
-        while (low < STACK_BYTES && stack[low] == paints[round])
-            low++;
-        if ((size_t)(top - (stack + low)) > most)
-            most = (size_t)(top - (stack + low));
+        size_t bytes = used_of(run, paints[round]);
+        if (round > 0 && bytes > most)
+            most = bytes;
     }
     return most;
 }
@@ -129,16 +149,24 @@ static size_t used(void (*run)(void))
 static unsigned long checks, failures;
 static int told;
 
-static void check(int holds, const char *what, size_t bytes, size_t limit)
+/* The call answered as it should, and took no more than that. */
+static void check(int answered, const char *what, size_t bytes, size_t most)
 {
     checks++;
     if (told)
-        printf("%-50s %6zu bytes, at most %zu\n", what, bytes, limit);
-    if (holds)
+        printf("width %u, %-50s %6zu bytes, at most %zu\n", (unsigned)width, what, bytes, most);
+    if (answered && bytes <= most)
         return;
     failures++;
-    fprintf(stderr, "stack_test: %s: result %u, count %u, %zu bytes of stack, at most %zu wanted\n", what, (unsigned)result,
-            (unsigned)count, bytes, limit);
+    fprintf(stderr, "stack_test: width %u, %s: result %u, count %u, %zu bytes of stack, at most %zu wanted\n", (unsigned)width,
+            what, (unsigned)result, (unsigned)count, bytes, most);
+}
+
+/* A rule that matches every key. */
+static void make_rule(uint64_t *record, uint32_t rule_id, uint32_t priority)
+{
+    static const uint64_t none[TCAM_WIDTH_320];
+    tcam_make_record(record, width, rule_id, priority, none, none, 7);
 }
 
 /* Every rule depends on all before it, and one slot is empty. */
@@ -146,48 +174,43 @@ static void make_chain(uint32_t hole)
 {
     memset(table, 0, sizeof table);
     for (uint32_t at = 0; at < SLOTS; at++)
-        if (at != hole) {
-            table[6 * at + 4] = TCAM_ID_ACTION(at + 1, at);
-            table[6 * at + 5] = 60000 - 2 * at;
-        }
+        if (at != hole)
+            make_rule(table + TCAM_TABLE_WORDS(width, at), at + 1, 60000 - 2 * at);
 }
 
 static void try_insert(const char *what, uint32_t hole, uint32_t priority, uint32_t want_count)
 {
     make_chain(hole);
-    rule = (struct rule){5000, priority};
+    make_rule(rule, 5000, priority);
     room = SLOTS;
-    size_t bytes = used(run_plan_insert), limit = CHAIN_BYTES + (size_t)WRITE_BYTES * want_count;
-    if (limit < INSERT_BYTES)
-        limit = INSERT_BYTES;
-    check(result == TCAM_OK && count == want_count && bytes <= limit, what, bytes, limit);
+    size_t bytes = used(run_plan_insert), most = limit->chain + limit->write * want_count;
+    check(result == TCAM_OK && count == want_count, what, bytes, most < limit->plan_insert ? limit->plan_insert : most);
 }
 
 /* One step of a plan of one word, where that write is next. */
 static void try_carry(const char *what, uint32_t word, uint64_t want)
 {
     make_chain(1023);
-    rule = (struct rule){5000, 1};
+    make_rule(rule, 5000, 1);
     plan[0] = word;
     room = 1;
     progress = (tcam_progress){0, 1};
     size_t bytes = used(run_carry_out);
-    check(carried == want && bytes <= CARRY_BYTES, what, bytes, CARRY_BYTES);
+    check(carried == want, what, bytes, limit->carry_out);
 }
 
 static void measure_lookups(void)
 {
     size_t bytes = used(run_lookup);
-    check(result == TCAM_OK && bytes <= LOOKUP_BYTES, "tcam_lookup", bytes, LOOKUP_BYTES);
+    check(result == TCAM_OK, "tcam_lookup", bytes, limit->lookup);
     bytes = used(run_slot_record);
-    check(result == 6 && bytes <= LOOKUP_BYTES, "tcam_slot_record", bytes, LOOKUP_BYTES);
+    check(result == TCAM_RECORD_WORDS(width), "tcam_slot_record", bytes, limit->slot_record);
 }
 
 static void measure_plans(void)
 {
-    rule = (struct rule){1000, 0};
     size_t bytes = used(run_plan_delete);
-    check(result == TCAM_OK && count == 1 && bytes <= DELETE_BYTES, "tcam_plan_delete", bytes, DELETE_BYTES);
+    check(result == TCAM_OK && count == 1, "tcam_plan_delete", bytes, limit->plan_delete);
     try_insert("tcam_plan_insert, 1 write", 1023, 1, 1);
     try_insert("tcam_plan_insert, 2 writes", 1023, 57957, 2);
     try_insert("tcam_plan_insert, 3 writes", 1023, 57959, 3);
@@ -199,7 +222,7 @@ static void measure_plans(void)
     /* a plan that does not fit is not walked: the buffer bounds the stack */
     room = 1023;
     bytes = used(run_plan_insert);
-    check(result == TCAM_SHORT && spot == 1024 && bytes <= INSERT_BYTES, "tcam_plan_insert, one word short", bytes, INSERT_BYTES);
+    check(result == TCAM_SHORT && spot == 1024, "tcam_plan_insert, one word short", bytes, limit->plan_insert);
 }
 
 static void measure_writes(void)
@@ -214,16 +237,51 @@ static void measure_images(void)
 {
     make_chain(5);
     size_t bytes = used(run_save);
-    check(result == TCAM_OK && bytes_saved == TCAM_IMAGE_BYTES(1023) && bytes <= SAVE_BYTES, "tcam_save", bytes, SAVE_BYTES);
-    run_load(); /* finds memcpy, so that the loader's stack is not counted */
+    check(result == TCAM_OK && bytes_saved == TCAM_IMAGE_BYTES(width, 1023), "tcam_save", bytes, limit->save);
     bytes = used(run_load);
-    check(result == TCAM_OK && bytes <= LOAD_BYTES, "tcam_load", bytes, LOAD_BYTES);
+    check(result == TCAM_OK, "tcam_load", bytes, limit->load);
 }
 
-int main(int arguments, char **words)
+/* No limit at width 2 is more than it may be. */
+static void compare_limits(const struct limits *now)
+{
+    const struct {
+        const char *what;
+        size_t bytes, once;
+    } of_call[] = {
+        {"limit of tcam_lookup", now->lookup, once.lookup},
+        {"limit of tcam_slot_record", now->slot_record, once.slot_record},
+        {"limit of tcam_plan_delete", now->plan_delete, once.plan_delete},
+        {"limit of tcam_carry_out", now->carry_out, once.carry_out},
+        {"limit of tcam_plan_insert, short plans", now->plan_insert, once.plan_insert},
+        {"limit of tcam_plan_insert, 1,024 writes", now->chain + SLOTS * now->write, once.chain + SLOTS * once.write},
+        {"limit of tcam_save", now->save, once.save},
+        {"limit of tcam_load", now->load, once.load},
+    };
+    for (size_t index = 0; index < sizeof of_call / sizeof of_call[0]; index++)
+        check(1, of_call[index].what, of_call[index].bytes, grown(of_call[index].once));
+}
+
+/* Each call at the width of these limits. */
+static void measure(const struct limits *at_width)
+{
+    limit = at_width;
+    width = limit->width;
+    words = TCAM_TABLE_WORDS(width, SLOTS);
+    rule_words = TCAM_RECORD_WORDS(width);
+    make_chain(1023);
+    measure_lookups();
+    measure_plans();
+    measure_writes();
+    measure_images();
+    if (width == once.width)
+        compare_limits(limit);
+}
+
+int main(int argument_count, char **arguments)
 {
     size_t page = 4096;
-    told = arguments > 1 && strcmp(words[1], "-v") == 0;
+    told = argument_count > 1 && strcmp(arguments[1], "-v") == 0;
     char *mapped = mmap(NULL, STACK_BYTES + page, PROT_NONE, MAP_PRIVATE | MAP_ANONYMOUS, -1, 0);
     if (mapped == MAP_FAILED || mprotect(mapped + page, STACK_BYTES, PROT_READ | PROT_WRITE) != 0) {
         perror("stack_test: pages");
@@ -231,11 +289,8 @@ int main(int arguments, char **words)
     }
     stack = (unsigned char *)mapped + page;
 
-    make_chain(1023);
-    measure_lookups();
-    measure_plans();
-    measure_writes();
-    measure_images();
+    for (size_t index = 0; index < sizeof limits / sizeof limits[0]; index++)
+        measure(&limits[index]);
 
     if (failures != 0) {
         fprintf(stderr, "stack_test: %lu of %lu checks failed\n", failures, checks);

@@ -1,6 +1,7 @@
 /*
- * What the test programs over the library share: counted checks, rules and records, checks 1 to 4, random numbers, and lent
- * tables and cells between guards. A program defines _DEFAULT_SOURCE before it includes this, for mmap without a file.
+ * What the test programs over the library share: the width under test, counted checks, rules and records, checks 1 to 4, random
+ * numbers, and lent tables, rules, keys and cells between guards. A program defines _DEFAULT_SOURCE before it includes this, for
+ * mmap without a file.
  */
 #ifndef TESTING_H
 #define TESTING_H
@@ -15,8 +16,21 @@
 
 #define ALL UINT64_MAX
 #define TOP 0x8000000000000000u
-#define SLOTS(n) ((size_t)(n) * TCAM_SLOT_WORDS)
 #define COUNT_OF(array) (sizeof(array) / sizeof *(array))
+
+/* ---- The width under test ---- */
+
+static const uint32_t widths[] = {TCAM_WIDTH_128, TCAM_WIDTH_320};
+static uint32_t width = TCAM_WIDTH_128;
+
+/* Words of a table of so many slots at this width, which are also where slot n begins; and room for it at either width. */
+#define SLOTS(n) ((size_t)(n) * (2 * width + 2))
+#define MOST_WIDTH TCAM_WIDTH_320
+#define ROOM(slots) TCAM_TABLE_WORDS(MOST_WIDTH, slots)
+
+/* A record at either width; a value, a mask or a key. */
+typedef uint64_t record_words[ROOM(1)];
+typedef uint64_t pattern_words[MOST_WIDTH];
 
 /* Words of a plan. */
 #define COPY(from, to) ((uint32_t)(from) * 65536u + (uint32_t)(to))
@@ -41,9 +55,9 @@ static inline void check(int holds, const char *expression, const char *file, in
         return;
     fprintf(stderr, "%s:%d: failed: %s", file, line, expression);
     if (case_line != 0)
-        fprintf(stderr, " (case at line %d)\n", case_line);
+        fprintf(stderr, " (case at line %d, width %u)\n", case_line, (unsigned)width);
     else
-        fprintf(stderr, " (%s %lu, seed %llu)\n", made_how, turn, seed);
+        fprintf(stderr, " (%s %lu, width %u, seed %llu)\n", made_how, turn, (unsigned)width, seed);
 }
 
 #define CHECK(expression) check((expression) ? 1 : 0, #expression, __FILE__, __LINE__)
@@ -62,26 +76,28 @@ static inline int verdict(const char *program)
 
 /* ---- Rules and records, bit by bit, in the words of the rules ---- */
 
+/* The words of a value and a mask past the width are not used. */
 struct rule {
-    uint32_t id, priority;
-    uint64_t value[2], mask[2];
+    uint32_t id;
+    uint64_t priority;
+    pattern_words value, mask;
     uint32_t action;
 };
 
 static inline void set_record(uint64_t *record, const struct rule *rule)
 {
-    record[0] = rule->value[0];
-    record[1] = rule->value[1];
-    record[2] = rule->mask[0];
-    record[3] = rule->mask[1];
-    record[4] = TCAM_ID_ACTION(rule->id, rule->action);
-    record[5] = rule->priority;
+    for (uint32_t word = 0; word < width; word++) {
+        record[word] = rule->value[word];
+        record[width + word] = rule->mask[word];
+    }
+    record[2 * width] = TCAM_ID_ACTION(rule->id, rule->action);
+    record[2 * width + 1] = rule->priority;
 }
 
 /* A rule from a pattern of 0, 1 and *, highest bit first, the rest uncared for. */
-static inline struct rule rule_of(uint32_t id, uint32_t priority, const char *pattern, uint32_t action)
+static inline struct rule rule_of(uint32_t id, uint64_t priority, const char *pattern, uint32_t action)
 {
-    struct rule rule = {id, priority, {0, 0}, {0, 0}, action};
+    struct rule rule = {id, priority, {0}, {0}, action};
     for (size_t index = 0; pattern[index] != 0; index++) {
         uint64_t one = TOP >> index % 64;
         if (pattern[index] == '1')
@@ -92,25 +108,36 @@ static inline struct rule rule_of(uint32_t id, uint32_t priority, const char *pa
     return rule;
 }
 
+/* The word with id and action. */
+static inline uint64_t tag_of(const uint64_t *record)
+{
+    return record[2 * width];
+}
+
 static inline uint32_t id_of(const uint64_t *record)
 {
-    return (uint32_t)(record[4] / 4294967296u);
+    return (uint32_t)(tag_of(record) / 4294967296u);
+}
+
+static inline uint64_t priority_of(const uint64_t *record)
+{
+    return record[2 * width + 1];
 }
 
 static inline int is_empty(const uint64_t *record)
 {
-    for (int word = 5; word >= 0; word--)
-        if (record[word] != 0)
+    for (uint32_t word = 2 * width + 2; word > 0; word--)
+        if (record[word - 1] != 0)
             return 0;
     return 1;
 }
 
 static inline int is_sound(const uint64_t *record)
 {
-    if (id_of(record) == 0 || record[5] > 65535)
+    if (id_of(record) == 0 || priority_of(record) > 65535)
         return 0;
-    for (int word = 0; word < 2; word++) {
-        uint64_t value = record[word], mask = record[word + 2];
+    for (uint32_t word = 0; word < width; word++) {
+        uint64_t value = record[word], mask = record[width + word];
         for (; value != 0; value /= 2, mask /= 2)
             if (value % 2 == 1 && mask % 2 == 0)
                 return 0;
@@ -121,8 +148,8 @@ static inline int is_sound(const uint64_t *record)
 /* Bit by bit, until one of the masks has no bits left: no position is cared for by both with different values. */
 static inline int overlap(const uint64_t *a, const uint64_t *b)
 {
-    for (int word = 0; word < 2; word++) {
-        uint64_t value_a = a[word], mask_a = a[word + 2], value_b = b[word], mask_b = b[word + 2];
+    for (uint32_t word = 0; word < width; word++) {
+        uint64_t value_a = a[word], mask_a = a[width + word], value_b = b[word], mask_b = b[width + word];
         while (mask_a != 0 && mask_b != 0) {
             if ((mask_a & 1) == 1 && (mask_b & 1) == 1 && (value_a & 1) != (value_b & 1))
                 return 0;
@@ -135,13 +162,22 @@ static inline int overlap(const uint64_t *a, const uint64_t *b)
     return 1;
 }
 
+/* Whether a key matches a rule, word by word. */
+static inline int matches(const uint64_t *record, const uint64_t *key)
+{
+    for (uint32_t word = 0; word < width; word++)
+        if ((key[word] & record[width + word]) != record[word])
+            return 0;
+    return !is_empty(record);
+}
+
 /* ---- Checks 1 to 4 of a table ---- */
 
-/* The number of slots; 0 where the words are not 6 times 1 to 1,024. */
+/* The number of slots; 0 where the width is neither 2 nor 5, or the words are not those of 1 to 1,024 slots. */
 static inline uint32_t slots_of(size_t words)
 {
-    for (uint32_t slots = 1; slots <= 1024; slots++)
-        if (words == (size_t)6 * slots)
+    for (uint32_t slots = 1; slots <= 1024 && (width == 2 || width == 5); slots++)
+        if (words == SLOTS(slots))
             return slots;
     return 0;
 }
@@ -150,7 +186,7 @@ static inline uint32_t slots_of(size_t words)
 static inline uint32_t first_unsound(const uint64_t *table, uint32_t slots)
 {
     for (uint32_t slot = 0; slot < slots; slot++)
-        if (!is_empty(table + 6 * slot) && !is_sound(table + 6 * slot))
+        if (!is_empty(table + SLOTS(slot)) && !is_sound(table + SLOTS(slot)))
             return slot;
     return slots;
 }
@@ -159,8 +195,8 @@ static inline uint32_t first_unsound(const uint64_t *table, uint32_t slots)
 static inline uint32_t first_twice(const uint64_t *table, uint32_t slots)
 {
     for (uint32_t slot = 0; slot < slots; slot++)
-        for (uint32_t earlier = 0; earlier < slot && !is_empty(table + 6 * slot); earlier++)
-            if (id_of(table + 6 * earlier) == id_of(table + 6 * slot))
+        for (uint32_t earlier = 0; earlier < slot && !is_empty(table + SLOTS(slot)); earlier++)
+            if (id_of(table + SLOTS(earlier)) == id_of(table + SLOTS(slot)))
                 return slot;
     return slots;
 }
@@ -169,10 +205,10 @@ static inline uint32_t first_twice(const uint64_t *table, uint32_t slots)
 static inline uint32_t first_out_of_order(const uint64_t *table, uint32_t slots)
 {
     for (uint32_t slot = 0; slot < slots; slot++) {
-        const uint64_t *rule = table + 6 * slot;
+        const uint64_t *rule = table + SLOTS(slot);
         for (uint32_t earlier = 0; earlier < slot && !is_empty(rule); earlier++) {
-            const uint64_t *other = table + 6 * earlier;
-            if (other[5] <= rule[5] && !is_empty(other) && overlap(other, rule))
+            const uint64_t *other = table + SLOTS(earlier);
+            if (priority_of(other) <= priority_of(rule) && !is_empty(other) && overlap(other, rule))
                 return slot;
         }
     }
@@ -214,24 +250,28 @@ static inline uint32_t below(uint32_t limit)
     return (uint32_t)((random_word() >> 32) % limit);
 }
 
-/* ---- Lent tables ---- */
+/* ---- Lent tables, rules and keys ---- */
 
 /*
- * Lent tables stand in pages of their own, at the first word or at the last. The pages before and behind cannot be
- * read or written. At its other end a table has guard words: rules that match every key, so that a slot read too many
- * shows in an answer.
+ * What is lent as words stands in pages of its own, at the first word or at the last. The pages before and behind cannot be
+ * read or written. At its other end it has guard words: rules that match every key, so that a slot read too many shows in
+ * an answer.
  */
 #define MOST_SLOTS (TCAM_MAX_SLOTS + 2)
 #define GUARDS SLOTS(2)
 
-static const uint64_t guard_rule[TCAM_SLOT_WORDS] = {0, 0, 0, 0, TCAM_ID_ACTION(0x600D600D, 0x0BAD0BAD), 9};
+static inline uint64_t guard_word(size_t index)
+{
+    index %= SLOTS(1);
+    return index == 2 * width ? TCAM_ID_ACTION(0x600D600D, 0x0BAD0BAD) : index == 2 * width + 1 ? 9 : 0;
+}
 
 struct pages {
     char *start;
     size_t bytes;
 };
 
-static struct pages table_pages;
+static struct pages table_pages, rule_pages, key_pages;
 
 static inline void open_pages(struct pages *pages, size_t least_bytes)
 {
@@ -259,24 +299,29 @@ static inline void protect_table(int writable)
 }
 
 struct lent {
-    const uint64_t *original; /* the table as it was */
+    const uint64_t *original; /* the words as they were */
     uint64_t *table;          /* the copy that is lent */
     uint64_t *guards;
     size_t words;
 };
 
-static inline struct lent lend(const uint64_t *original, size_t words, int at_end)
+static inline struct lent lend_in(const struct pages *in, const uint64_t *original, size_t words, int at_end)
 {
-    uint64_t *pages = (uint64_t *)(void *)table_pages.start;
+    uint64_t *pages = (uint64_t *)(void *)in->start;
     struct lent lent = {original, pages, pages + words, words};
     if (at_end) {
-        lent.table = pages + table_pages.bytes / sizeof *pages - words;
+        lent.table = pages + in->bytes / sizeof *pages - words;
         lent.guards = lent.table - GUARDS;
     }
     memcpy(lent.table, original, words * sizeof *original);
     for (size_t index = 0; index < GUARDS; index++)
-        lent.guards[index] = guard_rule[index % TCAM_SLOT_WORDS];
+        lent.guards[index] = guard_word(index);
     return lent;
+}
+
+static inline struct lent lend(const uint64_t *original, size_t words, int at_end)
+{
+    return lend_in(&table_pages, original, words, at_end);
 }
 
 static inline void check_lent(const struct lent *lent)
@@ -284,7 +329,7 @@ static inline void check_lent(const struct lent *lent)
     int guards_stay = 1;
     CHECK(memcmp(lent->table, lent->original, lent->words * sizeof *lent->table) == 0);
     for (size_t index = 0; index < GUARDS; index++)
-        guards_stay &= lent->guards[index] == guard_rule[index % TCAM_SLOT_WORDS];
+        guards_stay &= lent->guards[index] == guard_word(index);
     CHECK(guards_stay);
 }
 
@@ -323,14 +368,20 @@ static inline unsigned long begin(int count, char **arguments, unsigned long mos
     if (count > 2)
         most = strtoul(arguments[2], NULL, 0);
     random_state = seed;
-    open_pages(&table_pages, (SLOTS(MOST_SLOTS) + GUARDS) * sizeof(uint64_t));
+    open_pages(&table_pages, (ROOM(MOST_SLOTS) + ROOM(2)) * sizeof(uint64_t));
+    open_pages(&rule_pages, ROOM(4) * sizeof(uint64_t));
+    open_pages(&key_pages, ROOM(4) * sizeof(uint64_t));
     return most;
 }
 
+/* At each width all cases, in their order. */
 static inline void run_cases(void (*const *cases)(void), size_t count)
 {
-    for (size_t index = 0; index < count; index++)
-        cases[index]();
+    for (size_t at = 0; at < COUNT_OF(widths); at++) {
+        width = widths[at];
+        for (size_t index = 0; index < count; index++)
+            cases[index]();
+    }
 }
 
 #endif

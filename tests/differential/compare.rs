@@ -4,11 +4,12 @@
 use crate::guarded::{Guarded, Seen};
 use crate::input::{initial_bytes, initial_words, Call, Input, CELL_START};
 use crate::tally::Tally;
+use reference::bits::Bits;
 use reference::carry::{carry_out, Carried, Progress};
 use reference::image::{load, save};
 use reference::lookup::{lookup, slot_record, Found};
 use reference::plan::{plan_delete, plan_insert};
-use reference::table::{first_out_of_order, read_slots, Refusal, Rule, Slot, RECORD_WORDS};
+use reference::table::{first_out_of_order, read_slots, record_words, rule_of, Refusal, Rule, Slot};
 
 /// Tables of up to this many slots are tested for order after every write; larger ones now and then, and around the last write.
 const SLOTS_ALWAYS_TESTED: usize = 64;
@@ -30,12 +31,12 @@ impl Mismatch {
 
 /// Makes the input's call on both sides.
 pub fn check(library: &Guarded, input: &Input, tally: &mut Tally) -> Result<(), Mismatch> {
-    tally.slots = input.table.len() / RECORD_WORDS;
+    tally.begin(input);
     match input.call {
-        Call::Lookup => input.keys.iter().try_for_each(|&key| check_lookup(library, input, key, tally).map(|_| ())),
+        Call::Lookup => input.keys.iter().try_for_each(|key| check_lookup(library, input, key, tally).map(|_| ())),
         Call::SlotRecord => {
             let expected = expected_slot_record(input);
-            tally.count_at(input.call, if expected.result == 0 { "empty part" } else { "record" }, input.slot as usize);
+            tally.part(input, expected.result, read_slots(&input.table, input.width).map(|_| ()));
             same("slot_record", library.slot_record(input), expected)
         }
         Call::PlanInsert => check_plan(library, input, tally).map(|_| ()),
@@ -60,6 +61,7 @@ fn same(what: &str, seen: Seen, expected: Seen) -> Result<(), Mismatch> {
     note("result", seen.result != expected.result);
     note("cells", seen.cells != expected.cells);
     note("table", seen.table != expected.table);
+    note("rule or key", seen.beside != expected.beside);
     note("plan", seen.plan != expected.plan);
     note("image", seen.image != expected.image);
     note("guards", seen.guards_hold != expected.guards_hold);
@@ -72,6 +74,7 @@ fn untouched(input: &Input, cells: usize) -> Seen {
         result: 0,
         cells: (0..cells).map(|cell| CELL_START + cell as u32).collect(),
         table: input.table.clone(),
+        beside: Vec::new(),
         plan: Vec::new(),
         image: Vec::new(),
         guards_hold: true,
@@ -85,9 +88,10 @@ fn refused(mut seen: Seen, refusal: Refusal) -> Seen {
     seen
 }
 
-fn check_lookup(library: &Guarded, input: &Input, key: u128, tally: &mut Tally) -> Result<Option<Found>, Mismatch> {
-    let answer = lookup(&input.table, key);
+fn check_lookup(library: &Guarded, input: &Input, key: &[u64], tally: &mut Tally) -> Result<Option<Found>, Mismatch> {
+    let answer = lookup(&input.table, input.width, key);
     let mut expected = untouched(input, 4);
+    expected.beside = key.to_vec();
     match answer {
         Ok(Found::Hit { slot, id, action }) => {
             expected.cells[..3].copy_from_slice(&[slot as u32, id, action]);
@@ -99,7 +103,7 @@ fn check_lookup(library: &Guarded, input: &Input, key: u128, tally: &mut Tally) 
         }
         Err(refusal) => {
             expected = refused(expected, refusal);
-            tally.refusal(Call::Lookup, refusal);
+            tally.refusal(Call::Lookup, input, refusal);
         }
     }
     same("lookup", library.lookup(input, key), expected)?;
@@ -107,7 +111,7 @@ fn check_lookup(library: &Guarded, input: &Input, key: u128, tally: &mut Tally) 
 }
 
 fn expected_slot_record(input: &Input) -> Seen {
-    let part = slot_record(&input.table, u64::from(input.slot));
+    let part = slot_record(&input.table, input.width, u64::from(input.slot));
     let mut expected = untouched(input, 1);
     expected.result = part.len() as u64;
     expected.cells[0] = part.start as u32;
@@ -118,11 +122,12 @@ fn expected_slot_record(input: &Input) -> Seen {
 fn check_plan(library: &Guarded, input: &Input, tally: &mut Tally) -> Result<Option<Vec<u32>>, Mismatch> {
     let is_insert = matches!(input.call, Call::PlanInsert | Call::InsertInFull);
     let (call, answer) = if is_insert {
-        (Call::PlanInsert, plan_insert(&input.table, &input.rule, input.room))
+        (Call::PlanInsert, plan_insert(&input.table, input.width, &input.rule, input.room))
     } else {
-        (Call::PlanDelete, plan_delete(&input.table, input.rule.id, input.room))
+        (Call::PlanDelete, plan_delete(&input.table, input.width, input.id, input.room))
     };
     let mut expected = untouched(input, 2);
+    expected.beside = if is_insert { input.rule.clone() } else { Vec::new() };
     expected.plan = initial_words(input.room);
     match &answer {
         Ok(writes) => {
@@ -132,7 +137,7 @@ fn check_plan(library: &Guarded, input: &Input, tally: &mut Tally) -> Result<Opt
         }
         Err(refusal) => {
             expected = refused(expected, *refusal);
-            tally.refusal(call, *refusal);
+            tally.refusal(call, input, *refusal);
         }
     }
     let seen = if is_insert { library.plan_insert(input) } else { library.plan_delete(input) };
@@ -144,7 +149,7 @@ fn check_plan(library: &Guarded, input: &Input, tally: &mut Tally) -> Result<Opt
 fn check_carry_out(library: &Guarded, input: &mut Input, tally: &mut Tally) -> Result<Option<Carried>, Mismatch> {
     let mut progress = Progress { done: input.done, total: input.total };
     let mut table = input.table.clone();
-    let answer = carry_out(&mut table, &input.plan, &input.rule, &mut progress);
+    let answer = carry_out(&mut table, input.width, &input.rule, &input.plan, &mut progress);
     let result = match answer {
         Ok(Carried::Wrote) => 0,
         Ok(Carried::Finished) => FINISHED,
@@ -155,6 +160,7 @@ fn check_carry_out(library: &Guarded, input: &mut Input, tally: &mut Tally) -> R
     expected.result = result;
     expected.cells = vec![progress.done, progress.total];
     expected.table = table.clone();
+    expected.beside = input.rule.clone();
     expected.plan = input.plan.clone();
     same("carry_out", library.carry_out(input), expected)?;
     input.table = table;
@@ -165,59 +171,60 @@ fn check_carry_out(library: &Guarded, input: &mut Input, tally: &mut Tally) -> R
 fn check_save(library: &Guarded, input: &Input, tally: &mut Tally) -> Result<(), Mismatch> {
     let mut expected = untouched(input, 2);
     expected.image = initial_bytes(input.room);
-    match save(&input.table, input.room) {
+    match save(&input.table, input.width, input.room) {
         Ok(bytes) => {
             expected.cells[0] = bytes.len() as u32;
             expected.image[..bytes.len()].copy_from_slice(&bytes);
-            tally.count_at(Call::Save, "saved", highest_rule(&input.table));
+            tally.count_at(Call::Save, "saved", highest_rule(&input.table, input.width));
         }
         Err(refusal) => {
             expected = refused(expected, refusal);
-            tally.refusal(Call::Save, refusal);
+            tally.refusal(Call::Save, input, refusal);
         }
     }
     same("save", library.save(input), expected)
 }
 
 /// The highest slot that has a rule, or 0 where none has.
-fn highest_rule(table: &[u64]) -> usize {
-    table.chunks(RECORD_WORDS).rposition(|record| record[4] != 0).unwrap_or(0)
+fn highest_rule(table: &[u64], width: usize) -> usize {
+    table.chunks(record_words(width)).rposition(|record| record[2 * width] != 0).unwrap_or(0)
 }
 
 /// A table that loads is saved again to the same bytes, on the reference.
 fn check_load(library: &Guarded, input: &Input, tally: &mut Tally) -> Result<(), Mismatch> {
     let mut expected = untouched(input, 1);
     expected.image = input.image.clone();
-    match load(&input.image, input.table.len()) {
+    match load(&input.image, input.table.len(), input.width) {
         Ok(table) => {
-            let again = save(&table, input.image.len());
+            let again = save(&table, input.width, input.image.len());
             if again.as_ref() != Ok(&input.image) {
                 return Err(Mismatch::of("the reference saves other bytes".to_string(), &input.image, again));
             }
-            tally.count_at(Call::Load, "loaded", highest_rule(&table));
+            tally.count_at(Call::Load, "loaded", highest_rule(&table, input.width));
             expected.table = table;
         }
         Err(refusal) => {
             expected = refused(expected, refusal);
-            tally.loading(refusal, &input.image);
+            tally.loading(refusal, input);
         }
     }
     same("load", library.load(input), expected)
 }
 
 /// The reply that the demands promise: the highest-priority matching rule of a set, whatever the layout.
-fn reply_of_rules<'a>(rules: impl Iterator<Item = &'a Rule>, key: u128) -> Option<(u32, u32)> {
+fn reply_of_rules<'a>(rules: impl Iterator<Item = &'a Rule>, key: Bits) -> Option<(u32, u32)> {
     rules.filter(|rule| rule.matches(key)).max_by_key(|rule| rule.priority).map(|rule| (rule.id, rule.action))
 }
 
 /// Plans, then carries out write by write. Before the last write each key has its old reply, after it its new one.
 fn check_in_full(library: &Guarded, input: &Input, tally: &mut Tally) -> Result<(), Mismatch> {
     let Some(writes) = check_plan(library, input, tally)? else { return Ok(()) };
-    let old_rules: Vec<Rule> = read_slots(&input.table).expect("a planned table is sound").into_iter().flatten().collect();
+    let slots = read_slots(&input.table, input.width).expect("a planned table is sound");
+    let old_rules: Vec<Rule> = slots.into_iter().flatten().collect();
     let is_delete = input.call == Call::DeleteInFull;
-    let mut new_rules: Vec<Rule> = old_rules.iter().filter(|rule| !is_delete || rule.id != input.rule.id).copied().collect();
+    let mut new_rules: Vec<Rule> = old_rules.iter().filter(|rule| !is_delete || rule.id != input.id).copied().collect();
     if !is_delete {
-        new_rules.push(input.rule);
+        new_rules.push(rule_of(&input.rule, input.width));
     }
     let mut state = input.clone();
     state.call = Call::CarryOut;
@@ -248,16 +255,16 @@ fn check_in_full(library: &Guarded, input: &Input, tally: &mut Tally) -> Result<
 
 /// Order and replies between two writes.
 fn check_state(library: &Guarded, state: &Input, rules: &[Rule], tally: &mut Tally) -> Result<(), Mismatch> {
-    let slots: Vec<Slot> = read_slots(&state.table).expect("copies of sound records are sound");
-    let is_small = state.table.len() <= SLOTS_ALWAYS_TESTED * RECORD_WORDS;
+    let slots: Vec<Slot> = read_slots(&state.table, state.width).expect("copies of sound records are sound");
+    let is_small = slots.len() <= SLOTS_ALWAYS_TESTED;
     if is_small || state.done % 256 == 0 || state.done + 1 >= state.total {
         if let Some(slot) = first_out_of_order(&slots) {
             return Err(Mismatch::of(format!("out of order after {} writes", state.done), slot, &state.plan));
         }
-        for &key in &state.keys {
+        for key in &state.keys {
             let found = check_lookup(library, state, key, tally)?.expect("the records are sound");
             tally.lookups_between += 1;
-            let promised = reply_of_rules(rules.iter(), key);
+            let promised = reply_of_rules(rules.iter(), Bits::of_words(key));
             if found.reply() != promised {
                 return Err(Mismatch::of(format!("reply after {} writes", state.done), found, promised));
             }

@@ -3,15 +3,19 @@
 
 use crate::fence::Fence;
 use crate::input::{initial_bytes, initial_words, Input, CELL_START};
+use reference::bits::WIDTHS;
+use reference::image::image_bytes;
 use reference::table::SLOTS_MOST;
 use support::calls::*;
 
-/// Everything that can be seen of a call. Cells that a call doesn't have stay out of the list.
+/// Everything that can be seen of a call. Cells and buffers that a call doesn't have stay out or empty.
 #[derive(Clone, Debug, PartialEq, Eq)]
 pub struct Seen {
     pub result: u64,
     pub cells: Vec<u32>,
     pub table: Vec<u64>,
+    /// The words of the rule or of the key.
+    pub beside: Vec<u64>,
     pub plan: Vec<u32>,
     pub image: Vec<u8>,
     pub guards_hold: bool,
@@ -46,132 +50,130 @@ impl Cells {
     }
 }
 
-/// The fenced room for tables, plans and images, made once.
+/// What a call is lent beside the table.
+#[derive(Default)]
+struct Contents<'a> {
+    beside: &'a [u64],
+    plan: &'a [u32],
+    image: &'a [u8],
+}
+
+/// The buffers where they are lent, each with its length.
+struct Buffers {
+    table: (*mut u64, usize),
+    beside: (*const u64, usize),
+    plan: (*mut u32, usize),
+    image: (*mut u8, usize),
+}
+
+/// The fenced room for the buffers, made once.
 pub struct Guarded {
     table: Fence,
+    beside: Fence,
     plan: Fence,
     image: Fence,
 }
 
+/// The most words that an input has in its table, and in its rule or a key.
+pub const TABLE_WORDS_MOST: usize = 14 * (SLOTS_MOST + 1);
+pub const RECORD_WORDS_MOST: usize = 600;
+
 impl Guarded {
     pub fn new() -> Guarded {
-        let most_words = 6 * SLOTS_MOST + 64;
-        Guarded { table: Fence::new(8 * most_words), plan: Fence::new(4 * most_words), image: Fence::new(60 * SLOTS_MOST + 4096) }
+        Guarded {
+            table: Fence::new(8 * TABLE_WORDS_MOST),
+            beside: Fence::new(8 * RECORD_WORDS_MOST),
+            plan: Fence::new(8 * SLOTS_MOST),
+            image: Fence::new(image_bytes(WIDTHS[1], SLOTS_MOST) + 4096),
+        }
     }
 
-    pub fn lookup(&self, input: &Input, key: u128) -> Seen {
-        self.on_table(input, 4, |table, words, cells| unsafe {
-            let (high, low) = halves(key);
-            u64::from(tcam_lookup(table, words, high, low, cells.cell(0), cells.cell(1), cells.cell(2), cells.cell(3)))
+    /// Lends the buffers, makes the call and looks at everything afterwards.
+    fn observe(
+        &self,
+        input: &Input,
+        contents: Contents,
+        cell_count: usize,
+        call: impl FnOnce(&Buffers, &mut Cells) -> u64,
+    ) -> Seen {
+        let after = input.fence_after;
+        let (table, beside) = (self.table.lend(&input.table, after), self.beside.lend(contents.beside, after));
+        let (plan, image) = (self.plan.lend(contents.plan, after), self.image.lend(contents.image, after));
+        let buffers = Buffers {
+            table: (table.pointer(after), input.table.len()),
+            beside: (beside.pointer::<u64>(after), contents.beside.len()),
+            plan: (plan.pointer(after), contents.plan.len()),
+            image: (image.pointer(after), contents.image.len()),
+        };
+        let mut cells = Cells::new();
+        let result = call(&buffers, &mut cells);
+        let fences = [(&self.table, &table), (&self.beside, &beside), (&self.plan, &plan), (&self.image, &image)];
+        Seen {
+            result,
+            cells: cells.first(cell_count),
+            table: table.read_back(),
+            beside: beside.read_back(),
+            plan: plan.read_back(),
+            image: image.read_back(),
+            guards_hold: cells.guards_hold() && fences.iter().all(|(fence, lent)| fence.guards_hold(lent, after)),
+        }
+    }
+
+    pub fn lookup(&self, input: &Input, key: &[u64]) -> Seen {
+        let contents = Contents { beside: key, ..Contents::default() };
+        self.observe(input, contents, 4, |Buffers { table, beside: key, .. }, cells| unsafe {
+            let (slot, id, action, spot) = (cells.cell(0), cells.cell(1), cells.cell(2), cells.cell(3));
+            u64::from(tcam_lookup(table.0, table.1, input.width as u32, key.0, key.1, slot, id, action, spot))
         })
     }
 
     pub fn slot_record(&self, input: &Input) -> Seen {
-        self.on_table(input, 1, |table, words, cells| unsafe {
-            u64::from(tcam_slot_record(table, words, input.slot, cells.cell(0)))
+        self.observe(input, Contents::default(), 1, |Buffers { table, .. }, cells| unsafe {
+            u64::from(tcam_slot_record(table.0, table.1, input.width as u32, input.slot, cells.cell(0)))
         })
     }
 
-    /// A call that reads the table and writes only cells.
-    fn on_table(&self, input: &Input, cell_count: usize, call: impl Fn(*const u64, usize, &mut Cells) -> u64) -> Seen {
-        let lent = self.table.lend(&input.table, input.fence_after);
-        let mut cells = Cells::new();
-        let result = call(lent.pointer(input.fence_after), input.table.len(), &mut cells);
-        Seen {
-            result,
-            cells: cells.first(cell_count),
-            table: lent.read_back(),
-            plan: Vec::new(),
-            image: Vec::new(),
-            guards_hold: cells.guards_hold() && self.table.guards_hold(&lent, input.fence_after),
-        }
-    }
-
     pub fn plan_insert(&self, input: &Input) -> Seen {
-        self.on_plan(input, |table, words, plan, room, cells| unsafe {
-            plan_insert_on((table, words), &input.rule, (plan, room), cells.cell(0), cells.cell(1))
+        let contents = Contents { beside: &input.rule, plan: &initial_words(input.room), ..Contents::default() };
+        self.observe(input, contents, 2, |Buffers { table, beside: rule, plan, .. }, cells| unsafe {
+            let (width, count, spot) = (input.width as u32, cells.cell(0), cells.cell(1));
+            u64::from(tcam_plan_insert(table.0, table.1, width, rule.0, rule.1, plan.0, plan.1, count, spot))
         })
     }
 
     pub fn plan_delete(&self, input: &Input) -> Seen {
-        self.on_plan(input, |table, words, plan, room, cells| unsafe {
-            tcam_plan_delete(table, words, input.rule.id, plan, room, cells.cell(0), cells.cell(1))
+        let contents = Contents { plan: &initial_words(input.room), ..Contents::default() };
+        self.observe(input, contents, 2, |Buffers { table, plan, .. }, cells| unsafe {
+            let (width, count, spot) = (input.width as u32, cells.cell(0), cells.cell(1));
+            u64::from(tcam_plan_delete(table.0, table.1, width, input.id, plan.0, plan.1, count, spot))
         })
-    }
-
-    /// A planning call: reads the table, writes a plan buffer of `input.room` words.
-    fn on_plan(&self, input: &Input, call: impl Fn(*const u64, usize, *mut u32, usize, &mut Cells) -> u32) -> Seen {
-        let table = self.table.lend(&input.table, input.fence_after);
-        let plan = self.plan.lend(&initial_words(input.room), input.fence_after);
-        let mut cells = Cells::new();
-        let (table_pointer, plan_pointer) = (table.pointer(input.fence_after), plan.pointer(input.fence_after));
-        let result = call(table_pointer, input.table.len(), plan_pointer, input.room, &mut cells);
-        let guards_hold = self.table.guards_hold(&table, input.fence_after) && self.plan.guards_hold(&plan, input.fence_after);
-        Seen {
-            result: u64::from(result),
-            cells: cells.first(2),
-            table: table.read_back(),
-            plan: plan.read_back(),
-            image: Vec::new(),
-            guards_hold: guards_hold && cells.guards_hold(),
-        }
     }
 
     /// The cells seen are the progress record afterwards.
     pub fn carry_out(&self, input: &Input) -> Seen {
-        let table = self.table.lend(&input.table, input.fence_after);
-        let plan = self.plan.lend(&input.plan, input.fence_after);
-        let table_lent = (table.pointer(input.fence_after), input.table.len());
-        let plan_lent = (plan.pointer::<u32>(input.fence_after) as *const u32, input.plan.len());
+        let contents = Contents { beside: &input.rule, plan: &input.plan, ..Contents::default() };
         let mut guarded = [CELL_GUARD, input.done, input.total, CELL_GUARD];
-        let result = unsafe {
+        let mut seen = self.observe(input, contents, 0, |Buffers { table, beside: rule, plan, .. }, _| unsafe {
             let progress = guarded.as_mut_ptr().add(1) as *mut ProgressRecord;
-            carry_out_on(table_lent, plan_lent, &input.rule, progress)
-        };
-        let guards_hold = self.table.guards_hold(&table, input.fence_after) && self.plan.guards_hold(&plan, input.fence_after);
-        Seen {
-            result,
-            cells: guarded[1..3].to_vec(),
-            table: table.read_back(),
-            plan: plan.read_back(),
-            image: Vec::new(),
-            guards_hold: guards_hold && guarded[0] == CELL_GUARD && guarded[3] == CELL_GUARD,
-        }
+            tcam_carry_out(table.0, table.1, input.width as u32, rule.0, rule.1, plan.0, plan.1, progress)
+        });
+        seen.cells = guarded[1..3].to_vec();
+        seen.guards_hold &= guarded[0] == CELL_GUARD && guarded[3] == CELL_GUARD;
+        seen
     }
 
     pub fn save(&self, input: &Input) -> Seen {
-        self.on_image(input, &initial_bytes(input.room), 2, |table, words, image, bytes, cells| unsafe {
-            tcam_save(table, words, image, bytes, cells.cell(0), cells.cell(1))
+        let contents = Contents { image: &initial_bytes(input.room), ..Contents::default() };
+        self.observe(input, contents, 2, |Buffers { table, image, .. }, cells| unsafe {
+            let (width, bytes, spot) = (input.width as u32, cells.cell(0), cells.cell(1));
+            u64::from(tcam_save(table.0, table.1, width, image.0, image.1, bytes, spot))
         })
     }
 
     pub fn load(&self, input: &Input) -> Seen {
-        self.on_image(input, &input.image, 1, |table, words, image, bytes, cells| unsafe {
-            tcam_load(image, bytes, table, words, cells.cell(0))
+        let contents = Contents { image: &input.image, ..Contents::default() };
+        self.observe(input, contents, 1, |Buffers { table, image, .. }, cells| unsafe {
+            u64::from(tcam_load(image.0, image.1, table.0, table.1, input.width as u32, cells.cell(0)))
         })
-    }
-
-    /// A call between a table and an image of these bytes; either may be the one that is written.
-    fn on_image(
-        &self,
-        input: &Input,
-        content: &[u8],
-        cell_count: usize,
-        call: impl Fn(*mut u64, usize, *mut u8, usize, &mut Cells) -> u32,
-    ) -> Seen {
-        let table = self.table.lend(&input.table, input.fence_after);
-        let image = self.image.lend(content, input.fence_after);
-        let mut cells = Cells::new();
-        let (table_pointer, image_pointer) = (table.pointer(input.fence_after), image.pointer(input.fence_after));
-        let result = call(table_pointer, input.table.len(), image_pointer, content.len(), &mut cells);
-        let guards_hold = self.table.guards_hold(&table, input.fence_after) && self.image.guards_hold(&image, input.fence_after);
-        Seen {
-            result: u64::from(result),
-            cells: cells.first(cell_count),
-            table: table.read_back(),
-            plan: Vec::new(),
-            image: image.read_back(),
-            guards_hold: guards_hold && cells.guards_hold(),
-        }
     }
 }

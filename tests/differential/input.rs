@@ -1,7 +1,7 @@
 // One input of the differential test: a call and everything handed to it, in one flat record that can be made smaller.
 // Buffers that a call only writes start with known contents, so that words left as they were can be told.
 
-use reference::table::Rule;
+use reference::table::record_words;
 
 #[derive(Clone, Copy, Debug, PartialEq, Eq, PartialOrd, Ord)]
 pub enum Call {
@@ -21,10 +21,14 @@ pub enum Call {
 #[derive(Clone, Debug, PartialEq, Eq)]
 pub struct Input {
     pub call: Call,
+    /// The words of a value, as the call is told; they may be others than those of table, rule and keys.
+    pub width: usize,
     pub table: Vec<u64>,
-    /// The new rule; its id is also the id to delete.
-    pub rule: Rule,
-    pub keys: Vec<u128>,
+    /// The new rule's record.
+    pub rule: Vec<u64>,
+    /// The id to delete.
+    pub id: u32,
+    pub keys: Vec<Vec<u64>>,
     pub slot: u32,
     /// Length of the lent plan buffer in words, or of the image buffer in bytes.
     pub room: usize,
@@ -36,12 +40,14 @@ pub struct Input {
 }
 
 impl Input {
-    pub fn new(call: Call, table: Vec<u64>, fence_after: bool) -> Input {
-        let rule = Rule { id: 0, priority: 0, value: 0, mask: 0, action: 0 };
+    /// A rule of zeros and nothing else beside the table.
+    pub fn new(call: Call, width: usize, table: Vec<u64>, fence_after: bool) -> Input {
         Input {
             call,
+            width,
             table,
-            rule,
+            rule: vec![0; record_words(width)],
+            id: 0,
             keys: Vec::new(),
             slot: 0,
             room: 0,

@@ -2,7 +2,9 @@
 // Few other tables have 1,024 slots, and what is asked of them is seldom decided there.
 
 use crate::input::{Call, Input};
-use crate::make::{image_of, GROUP_BITS, GROUP_PLACES};
+use crate::make::{group_number, group_place, EVERY_GROUP};
+use reference::bits::Bits;
+use reference::image::{image_bytes, image_of};
 use reference::plan::{plan_insert, write_word, EMPTYING, PUT_IN};
 use reference::table::{words_of, Rule, Slot, SLOTS_MOST};
 use support::random::Random;
@@ -81,9 +83,9 @@ const KINDS: &[(Call, Edge)] = &[
     (Call::Load, Edge::Order),
 ];
 
-pub fn make_largest(random: &mut Random, turn: usize) -> Input {
+pub fn make_largest(random: &mut Random, width: usize, turn: usize) -> Input {
     let (call, edge) = KINDS[turn % KINDS.len()];
-    let input = Input::new(call, Vec::new(), random.one_in(2));
+    let input = Input::new(call, width, Vec::new(), random.one_in(2));
     match edge {
         Edge::Down { nearly } => long_plan(random, input, true, nearly),
         Edge::Up { nearly } => long_plan(random, input, false, nearly),
@@ -113,65 +115,72 @@ fn long_plan(random: &mut Random, mut input: Input, down: bool, nearly: bool) ->
     let spared_first = random.below(spared + 1);
     let (place, hole) =
         if down { (spared_first, LAST - (spared - spared_first)) } else { (SLOTS_MOST - (spared - spared_first), spared_first) };
-    let mut table = chain(random, place, &mut input.rule);
+    let (mut table, new) = chain(random, input.width, place);
     table[hole] = None;
-    input.table = words_of(&table);
+    input.table = words_of(&table, input.width);
+    input.rule = new.record(input.width);
     let writes = SLOTS_MOST - spared;
     input.room = random.pick(&[writes, SLOTS_MOST, SLOTS_MOST + 1]);
     if input.call == Call::CarryOut {
         carried_far(random, &mut input, table);
     } else if random.one_in(8) {
         input.call = Call::InsertInFull;
-        input.keys = vec![input.rule.value, random.wide()];
+        input.keys = [new.value, random.bits(input.width)].map(|key| key.words(input.width).to_vec()).to_vec();
     }
     input
 }
 
 /// Rules in all slots, each of which overlaps the next: either all overlap, or only neighbours, since each rule cares for all
 /// bits of a Gray code but the one that changes toward the next. The new rule overlaps those on both sides of its place.
-fn chain(random: &mut Random, place: usize, new: &mut Rule) -> Vec<Slot> {
+fn chain(random: &mut Random, width: usize, place: usize) -> (Vec<Slot>, Rule) {
     let ids = shuffled_ids(random);
     let highest = random.pick(&[2 * SLOTS_MOST - 1, 40_000, 65_534]);
-    let lowest_bit = random.below(128 - 11);
-    let bits: u128 = if random.one_in(2) { 0 } else { 2047 };
-    let code = |number: usize| (number ^ number >> 1) as u128;
-    let rule = |slot: usize, id: u32, action: u32| {
-        let mask = bits & !(code(slot) ^ code(slot + 1));
-        let priority = (highest - 2 * slot) as u64;
-        Rule { id, priority, value: (code(slot) & mask) << lowest_bit, mask: mask << lowest_bit, action }
+    let first_bit = random.below(64 * width - CODE_BITS);
+    let all: usize = if random.one_in(2) { 0 } else { (1 << CODE_BITS) - 1 };
+    let code = |number: usize| number ^ number >> 1;
+    let mut rule = |id: u32, priority: usize, value: usize, mask: usize| {
+        let bits = |number: usize| Bits::number(first_bit, CODE_BITS, number);
+        Rule { id, priority: priority as u64, value: bits(value & mask), mask: bits(mask), action: random.word() as u32 }
     };
-    let (value, mask) = ((code(place) & bits) << lowest_bit, bits << lowest_bit);
-    *new = Rule { id: NEW_ID, priority: (highest + 1 - 2 * place) as u64, value, mask, action: random.word() as u32 };
-    ids.into_iter().enumerate().map(|(slot, id)| Some(rule(slot, id, random.word() as u32))).collect()
+    let new = rule(NEW_ID, highest + 1 - 2 * place, code(place), all);
+    let mut slots = Vec::new();
+    for (slot, id) in ids.into_iter().enumerate() {
+        slots.push(Some(rule(id, highest - 2 * slot, code(slot), all & !(code(slot) ^ code(slot + 1)))));
+    }
+    (slots, new)
 }
+
+/// Bits of a Gray code of all slots and one more.
+const CODE_BITS: usize = 11;
 
 /// The plan of the input's rule, carried out up to one of its last three writes.
 fn carried_far(random: &mut Random, input: &mut Input, mut table: Vec<Slot>) {
-    input.plan = plan_insert(&input.table, &input.rule, SLOTS_MOST).expect("the rule has its place");
+    input.plan = plan_insert(&input.table, input.width, &input.rule, SLOTS_MOST).expect("the rule has its place");
     let writes = input.plan.len();
     let done = random.between(writes - 3, writes - 1);
     for &write in &input.plan[..done] {
         table[write as usize % 65_536] = table[write as usize / 65_536];
     }
-    input.table = words_of(&table);
+    input.table = words_of(&table, input.width);
     (input.done, input.total) = (done as u32, writes as u32);
 }
 
 /// A table of rules that are all apart, in which the last slot decides what the call answers.
 fn last_slot(random: &mut Random, mut input: Input, edge: Edge) -> Input {
-    let lowest_bit = random.pick(&GROUP_PLACES);
-    let mut table = apart(random, lowest_bit);
+    let place = group_place(random, input.width);
+    let mut table = apart(random, place);
     let last = table[LAST].expect("the last slot has a rule");
     let other = random.below(LAST);
-    input.rule = Rule { id: NEW_ID, ..last };
-    spoil(random, &mut table, edge, other);
+    let mut new = Rule { id: NEW_ID, ..last };
+    spoil(random, &mut table, edge, (input.width, other));
     match edge {
-        Edge::Known => input.rule.id = last.id,
-        Edge::Crossed => cross(random, &mut table, &mut input.rule),
+        Edge::Known => new.id = last.id,
+        Edge::Crossed => cross(random, &mut table, &mut new, input.width),
         _ => {}
     }
     input.room = SLOTS_MOST;
-    input.table = words_of(&table);
+    input.rule = new.record(input.width);
+    input.table = words_of(&table, input.width);
     fill_in(random, &mut input, edge, &table, (&last, other));
     input
 }
@@ -179,9 +188,12 @@ fn last_slot(random: &mut Random, mut input: Input, edge: Edge) -> Input {
 /// What the call needs beside the table; the last slot had the rule `last` before it was spoiled.
 fn fill_in(random: &mut Random, input: &mut Input, edge: Edge, table: &[Slot], (last, other): (&Rule, usize)) {
     match input.call {
-        Call::Lookup => input.keys = vec![last.value | random.wide() & !last.mask],
+        Call::Lookup => {
+            let key = last.value | random.bits(input.width) & !last.mask;
+            input.keys = vec![key.words(input.width).to_vec()];
+        }
         Call::SlotRecord => input.slot = LAST as u32,
-        Call::PlanDelete => input.rule.id = last.id,
+        Call::PlanDelete => input.id = last.id,
         Call::CarryOut => {
             input.plan = vec![match edge {
                 Edge::Copied => write_word(other as u32, LAST),
@@ -191,9 +203,9 @@ fn fill_in(random: &mut Random, input: &mut Input, edge: Edge, table: &[Slot], (
             }];
             input.total = 1;
         }
-        Call::Save => input.room = 4 + 50 * SLOTS_MOST,
+        Call::Save => input.room = image_bytes(input.width, SLOTS_MOST),
         Call::Load => {
-            input.image = image_of(table, SLOTS_MOST);
+            input.image = image_of(table, input.width);
             input.table.iter_mut().for_each(|word| *word = random.any_word());
         }
         _ => {}
@@ -201,26 +213,36 @@ fn fill_in(random: &mut Random, input: &mut Input, edge: Edge, table: &[Slot], (
 }
 
 /// A rule in every slot, each with a number of its own at the same bits.
-fn apart(random: &mut Random, lowest_bit: u32) -> Vec<Slot> {
+fn apart(random: &mut Random, place: usize) -> Vec<Slot> {
     let ids = shuffled_ids(random);
     let turned = random.below(SLOTS_MOST);
     let mut rule = |slot: usize, id: u32| {
         let priority = random.between(1, 65_534) as u64;
-        let value = ((slot ^ turned) as u128) << lowest_bit;
-        Some(Rule { id, priority, value, mask: GROUP_BITS << lowest_bit, action: random.word() as u32 })
+        let value = group_number(place, slot ^ turned);
+        Some(Rule { id, priority, value, mask: group_number(place, EVERY_GROUP), action: random.word() as u32 })
     };
     ids.into_iter().enumerate().map(|(slot, id)| rule(slot, id)).collect()
 }
 
+/// A bit that a mask has or, where it is to be outside, has not.
+fn bit_of(random: &mut Random, width: usize, mask: Bits, outside: bool) -> Bits {
+    loop {
+        let bit = Bits::at(random.below(64 * width));
+        if (bit & mask).is_none() == outside {
+            return bit;
+        }
+    }
+}
+
 /// Changes the last slot as the edge says; `other` is the slot that it is at odds with.
-fn spoil(random: &mut Random, table: &mut [Slot], edge: Edge, other: usize) {
+fn spoil(random: &mut Random, table: &mut [Slot], edge: Edge, (width, other): (usize, usize)) {
     let rule = table[other].expect("every slot has a rule");
     let last = table[LAST].as_mut().expect("every slot has a rule");
     match edge {
         Edge::Record => match random.below(3) {
             0 => last.id = 0,
             1 => last.priority = 65_536,
-            _ => last.value ^= 1 << ((last.mask.trailing_zeros() as usize + random.between(10, 127)) % 128),
+            _ => last.value ^= bit_of(random, width, last.mask, true),
         },
         Edge::Twice => last.id = rule.id,
         Edge::Order => {
@@ -235,8 +257,8 @@ fn spoil(random: &mut Random, table: &mut [Slot], edge: Edge, other: usize) {
 
 /// Takes one cared-for bit out of the new rule, which has the last slot's pattern, so that it overlaps a second rule; the last
 /// slot's then precedes it, and the second depends on it. Slot 0, whose number has no bit of the last one's, is emptied.
-fn cross(random: &mut Random, table: &mut [Slot], new: &mut Rule) {
-    new.mask ^= 1 << (new.mask.trailing_zeros() as usize + random.below(10));
+fn cross(random: &mut Random, table: &mut [Slot], new: &mut Rule, width: usize) {
+    new.mask ^= bit_of(random, width, new.mask, false);
     new.value &= new.mask;
     table[0] = None;
     for (slot, rule) in table.iter_mut().enumerate() {

@@ -10,6 +10,7 @@ mod guarded;
 mod input;
 mod largest;
 mod make;
+mod misfit;
 mod shrink;
 mod tally;
 
@@ -18,7 +19,8 @@ use crate::compare::{check, Mismatch};
 use crate::guarded::Guarded;
 use crate::input::Input;
 use crate::tally::Tally;
-use reference::table::RECORD_WORDS;
+use reference::bits::WIDTHS;
+use reference::table::record_words;
 use std::os::unix::process::CommandExt;
 use std::process::Command;
 use std::sync::atomic::{AtomicU64, Ordering};
@@ -131,10 +133,12 @@ fn report_signal(library: &Guarded, input: Input) {
 }
 
 fn print_input(input: &Input) {
-    for (slot, record) in input.table.chunks(RECORD_WORDS).enumerate() {
-        eprintln!("  slot {slot}: {record:x?}");
+    eprintln!("  width {}, {} words of table", input.width, input.table.len());
+    let (part, words) = if WIDTHS.contains(&input.width) { ("slot", record_words(input.width)) } else { ("eight words", 8) };
+    for (place, words) in input.table.chunks(words).enumerate() {
+        eprintln!("  {part} {place}: {words:x?}");
     }
-    eprintln!("  rule {:x?}", input.rule);
+    eprintln!("  rule {:x?}, id {:x}", input.rule, input.id);
     eprintln!("  keys {:x?}, slot {}, room {}", input.keys, input.slot, input.room);
     eprintln!("  plan {:x?}, done {}, total {}", input.plan, input.done, input.total);
     eprintln!("  image {:x?}", input.image);

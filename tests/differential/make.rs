@@ -1,12 +1,15 @@
 // How inputs are made: sound tables of every fill and layout, damage to them, arbitrary words, plans and images.
 // Rules use few bit positions, so that overlaps, ties and crossings are frequent and plans long.
 // In larger tables they also stand apart, so that the maps of 160 slots and more tell most pairs.
+// Half of the inputs have values of two words, half of five; in some, words and width don't fit each other.
 
 use crate::input::{Call, Input};
 use crate::largest::make_largest;
-use reference::image::save;
+use crate::misfit;
+use reference::bits::{Bits, WIDTHS};
+use reference::image::{body_offset, image_bytes, image_of};
 use reference::plan::{plan_insert, write_word, EMPTYING, PUT_IN};
-use reference::table::{read_slots, rule_of, words_of, Rule, Slot, RECORD_WORDS};
+use reference::table::{read_slots, record_words, rule_of, words_of, Rule, Slot, SLOTS_MOST};
 use support::random::Random;
 
 /// How the patterns of a table are made.
@@ -20,63 +23,80 @@ enum Style {
     Mixed,
     /// Mask 0 or nearly: every pair overlaps.
     Wild,
-    /// Random words of 128 bits, few bits cared for.
+    /// Random words, few bits cared for.
     Wide,
     /// Rules in groups, taken in turn: each overlaps the rules of its own group, and those between two of them not.
-    Apart { groups: usize, lowest_bit: u32 },
+    Apart { groups: usize, place: usize },
 }
 
 /// How far apart the rules of a group stand: a few slots, and around 4, 8, 16, 64 and 128, where a search that takes slots by
 /// blocks would miss one between two blocks.
 const GROUPS: [usize; 21] = [2, 3, 4, 5, 7, 8, 9, 12, 15, 16, 17, 19, 20, 33, 63, 64, 65, 68, 130, 132, 200];
 
-/// A group's number has 10 bits: in the low word, in the high one, or in both.
-pub const GROUP_BITS: u128 = 1023;
-pub const GROUP_PLACES: [u32; 5] = [0, 54, 59, 64, 118];
+/// The bits of a group's number.
+const GROUP_BITS: usize = 10;
+
+/// Where a group's number stands: first in a word, last in one, or over two.
+pub fn group_place(random: &mut Random, width: usize) -> usize {
+    match random.below(3) {
+        0 => 64 * random.below(width),
+        1 => 64 * random.below(width) + 64 - GROUP_BITS,
+        _ => 64 * random.below(width - 1) + 64 - GROUP_BITS / 2,
+    }
+}
+
+pub fn group_number(place: usize, number: usize) -> Bits {
+    Bits::number(place, GROUP_BITS, number)
+}
+
+/// A number that has all bits of the groups' numbers.
+pub const EVERY_GROUP: usize = (1 << GROUP_BITS) - 1;
 
 struct Maker<'a> {
     random: &'a mut Random,
+    width: usize,
     style: Style,
     /// The bit positions in use.
-    bits: Vec<u32>,
+    bits: Vec<usize>,
 }
 
 /// One input of this many is at an edge of the largest table.
-const LARGEST_EVERY: u64 = 1500;
+const LARGEST_EVERY: u64 = 1200;
 
 pub fn make_input(seed: u64, number: u64) -> Input {
     let random = &mut Random::new(seed, number);
     if number % LARGEST_EVERY == 0 {
-        make_largest(random, (number / LARGEST_EVERY) as usize)
+        let turn = (number / LARGEST_EVERY) as usize;
+        make_largest(random, WIDTHS[turn % 2], turn / 2)
     } else {
-        make_any(random)
+        make_any(random, WIDTHS[number as usize % 2])
     }
 }
 
-fn make_any(random: &mut Random) -> Input {
+fn make_any(random: &mut Random, width: usize) -> Input {
     let fence_after = random.one_in(2);
     let slots = slot_count(random);
-    let style = style(random, slots);
-    let mut maker = Maker { bits: bit_positions(random), style, random };
-    let mut table = maker.sound_table(slots);
-    let new = maker.new_rule(&table);
+    let style = style(random, slots, width);
+    let mut maker = Maker { bits: bit_positions(random, width), width, style, random };
     let call = maker.random.pick(CALLS);
     if call == Call::InsertInFull || call == Call::DeleteInFull {
-        let mut input = Input::new(call, words_of(&table), fence_after);
-        input.rule = if call == Call::DeleteInFull { maker.present_rule(&table).unwrap_or(new) } else { new };
-        input.keys = (0..4).map(|_| maker.key(&table, &input.rule)).collect();
-        input.room = slots + maker.random.below(3);
-        return input;
+        return maker.in_full(call, slots, fence_after);
     }
+    let mut table =
+        if maker.random.one_in(40) { misfit::either_width(maker.random, width, slots) } else { maker.sound_table(slots) };
+    let new = maker.new_rule(&table);
     if matches!(call, Call::Lookup | Call::SlotRecord | Call::CarryOut) && maker.random.one_in(2) {
         maker.add_copies(&mut table);
     }
-    let mut input = Input::new(call, words_of(&table), fence_after);
-    input.rule = new;
+    let mut input = Input::new(call, width, words_of(&table, width), fence_after);
+    (input.rule, input.id) = (new.record(width), new.id);
     if maker.random.one_in(3) {
         maker.damage(&mut input.table);
     }
-    maker.fill_in(&mut input, &table);
+    maker.fill_in(&mut input, &table, &new);
+    if maker.random.one_in(16) {
+        misfit::misfit(maker.random, &mut input, &table);
+    }
     input
 }
 
@@ -113,19 +133,20 @@ fn slot_count(random: &mut Random) -> usize {
 }
 
 /// Tables of more than 12 slots have their rules apart every other time: the other styles overlap at every few slots.
-fn style(random: &mut Random, slots: usize) -> Style {
+fn style(random: &mut Random, slots: usize, width: usize) -> Style {
     if random.one_in(if slots > 12 { 2 } else { 8 }) {
-        return Style::Apart { groups: random.pick(&GROUPS), lowest_bit: random.pick(&GROUP_PLACES) };
+        return Style::Apart { groups: random.pick(&GROUPS), place: group_place(random, width) };
     }
     random.pick(&[Style::Path, Style::Path, Style::Prefix, Style::Mixed, Style::Mixed, Style::Wild, Style::Wide])
 }
 
 /// Up to seven positions, often the ends of the words.
-fn bit_positions(random: &mut Random) -> Vec<u32> {
-    let mut bits: Vec<u32> = Vec::new();
+fn bit_positions(random: &mut Random, width: usize) -> Vec<usize> {
+    let mut bits: Vec<usize> = Vec::new();
     let count = random.pick(&[1, 2, 3, 3, 4, 4, 5, 7]);
     while bits.len() < count {
-        let bit = if random.one_in(2) { random.pick(&[0, 1, 31, 32, 63, 64, 65, 126, 127]) } else { random.below(128) as u32 };
+        let in_word = if random.one_in(2) { random.pick(&[0, 1, 31, 32, 62, 63]) } else { random.below(64) };
+        let bit = 64 * random.below(width) + in_word;
         if !bits.contains(&bit) {
             bits.push(bit);
         }
@@ -135,18 +156,19 @@ fn bit_positions(random: &mut Random) -> Vec<u32> {
 
 impl Maker<'_> {
     /// A number over the positions in use: bit k of `small` at position k.
-    fn spread(&self, small: usize) -> u128 {
-        self.bits.iter().enumerate().filter(|(place, _)| small >> place & 1 == 1).map(|(_, &bit)| 1u128 << bit).sum()
+    fn spread(&self, small: usize) -> Bits {
+        let is_set = |(place, _): &(usize, &usize)| small >> place & 1 == 1;
+        self.bits.iter().enumerate().filter(is_set).fold(Bits::NONE, |bits, (_, &bit)| bits | Bits::at(bit))
     }
 
     /// Any number over the positions in use.
-    fn some_bits(&mut self) -> u128 {
+    fn some_bits(&mut self) -> Bits {
         let small = self.random.below(1 << self.bits.len());
         self.spread(small)
     }
 
     /// Value and mask of a rule; `place` is where it stands among the rules of a path.
-    fn pattern(&mut self, place: usize) -> (u128, u128) {
+    fn pattern(&mut self, place: usize) -> (Bits, Bits) {
         let all = 1 << self.bits.len();
         match self.style {
             Style::Path => {
@@ -165,20 +187,37 @@ impl Maker<'_> {
                 (self.some_bits() & mask, mask)
             }
             Style::Wild => {
-                let mask = if self.random.one_in(4) { self.spread(1) } else { 0 };
+                let mask = if self.random.one_in(4) { self.spread(1) } else { Bits::NONE };
                 (self.some_bits() & mask, mask)
             }
             Style::Wide => {
-                let mask = self.random.wide() & self.random.wide() & self.random.wide() & self.random.wide();
-                (self.random.wide() & mask, mask)
+                let mut word = || self.random.bits(self.width);
+                let mask = word() & word() & word() & word();
+                (word() & mask, mask)
             }
-            Style::Apart { groups, lowest_bit } => {
+            Style::Apart { groups, place: group_place } => {
                 let group = if self.random.one_in(16) { self.random.below(groups) } else { place % groups };
                 let joined = if self.random.one_in(16) { self.random.pick(&[1, 2, 3, 7]) } else { 0 };
-                let mask = (GROUP_BITS & !joined) << lowest_bit;
-                ((group as u128) << lowest_bit & mask, mask)
+                let mask = group_number(group_place, EVERY_GROUP & !joined);
+                (group_number(group_place, group) & mask, mask)
             }
         }
+    }
+
+    /// A sound table and an insert or a delete, planned and carried out, with keys to be looked up between the writes. A delete's
+    /// rule is of zeros or another; it plays no part.
+    fn in_full(&mut self, call: Call, slots: usize, fence_after: bool) -> Input {
+        let table = self.sound_table(slots);
+        let new = self.new_rule(&table);
+        let mut input = Input::new(call, self.width, words_of(&table, self.width), fence_after);
+        let subject = if call == Call::DeleteInFull { self.present_rule(&table).unwrap_or(new) } else { new };
+        if call == Call::InsertInFull || self.random.one_in(2) {
+            input.rule = new.record(self.width);
+        }
+        input.id = subject.id;
+        input.keys = (0..4).map(|_| self.key(&table, &subject)).collect();
+        input.room = slots + self.random.below(3);
+        input
     }
 
     /// A sound table: patterns and ids at random, then priorities from the last slot to the first, each higher than
@@ -261,13 +300,13 @@ impl Maker<'_> {
         let near = if priorities.is_empty() { self.random.below(40) as u64 } else { self.random.pick(&priorities) };
         rule.priority = match self.random.below(12) {
             0 => near,
-            1 => self.random.pick(&[0, 1, 65_534, 65_535, 65_535, 65_536, 65_537, 1 << 17, u64::from(u32::MAX)]),
+            1 => self.random.pick(&[0, 1, 65_534, 65_535, 65_535, 65_536, 65_537, 1 << 17, u32::MAX.into(), 1 << 32, u64::MAX]),
             2 => self.random.below(65_536) as u64,
             3..=7 => near + 1,
             _ => near.saturating_sub(1),
         };
         if self.random.one_in(60) {
-            rule.value ^= 1 << self.random.below(128);
+            rule.value ^= self.any_bit();
         }
         rule
     }
@@ -297,18 +336,23 @@ impl Maker<'_> {
         }
     }
 
+    fn any_bit(&mut self) -> Bits {
+        Bits::at(self.random.below(64 * self.width))
+    }
+
     /// A key that matches some rule, nearly matches one, or is anything.
-    fn key(&mut self, table: &[Slot], new: &Rule) -> u128 {
+    fn key(&mut self, table: &[Slot], new: &Rule) -> Vec<u64> {
         let rule = self.present_rule(table).unwrap_or(*new);
         let rule = if self.random.one_in(3) { *new } else { rule };
         let some_bits = self.some_bits();
-        let elsewhere = if self.random.one_in(2) { self.random.wide() } else { 0 };
-        match self.random.below(6) {
-            0 => self.random.wide(),
+        let elsewhere = if self.random.one_in(2) { self.random.bits(self.width) } else { Bits::NONE };
+        let key = match self.random.below(6) {
+            0 => self.random.bits(self.width),
             1 => some_bits,
-            2 => rule.value ^ 1 << self.random.below(128),
+            2 => rule.value ^ self.any_bit(),
             _ => rule.value | (some_bits | elsewhere) & !rule.mask,
-        }
+        };
+        key.words(self.width).to_vec()
     }
 
     /// Copies of rules in empty slots or over other copies, as in the middle of a plan.
@@ -322,32 +366,27 @@ impl Maker<'_> {
     }
 
     fn damage(&mut self, words: &mut Vec<u64>) {
-        let slots = words.len() / RECORD_WORDS;
-        let record = RECORD_WORDS * self.random.below(slots);
+        let slot_words = record_words(self.width);
+        let slots = words.len() / slot_words;
+        let record = slot_words * self.random.below(slots);
+        let (id_and_action, priority) = (record + slot_words - 2, record + slot_words - 1);
+        let other = slot_words * self.random.below(slots);
         match self.random.below(18) {
             0..=3 => {
                 let word = self.random.below(words.len());
                 words[word] ^= 1 << self.random.below(64);
             }
-            4 => words.truncate(words.len() - self.random.between(1, 6)),
-            5 => words.extend(vec![0; self.random.between(1, 6)]),
-            6 => *words = vec![0; self.random.pick(&[0, 1, 5, 7, 6 * 1024 + 1, 6 * 1025, 6 * 1024 - 1])],
-            7 => words[record + 4] &= 0xffff_ffff,
-            8 => words[record + 5] = self.random.pick(&[65_535, 65_536, 1 << 32, 1 << 63, u64::MAX]),
-            9 => {
-                let other = RECORD_WORDS * self.random.below(slots);
-                for word in 0..RECORD_WORDS {
-                    words.swap(record + word, other + word);
-                }
-            }
-            10 | 11 => {
-                let other = RECORD_WORDS * self.random.below(slots);
-                words[other + 4] = words[record + 4];
-            }
-            12 => words[record + 5] = words[record + 5].wrapping_add(1),
+            4 => words.truncate(words.len() - self.random.between(1, slot_words)),
+            5 => words.extend(vec![0; self.random.between(1, slot_words)]),
+            6 => *words = vec![0; self.odd_length()],
+            7 => words[id_and_action] &= 0xffff_ffff,
+            8 => words[priority] = self.random.pick(&[65_535, 65_536, 1 << 32, 1 << 63, u64::MAX]),
+            9 => (0..slot_words).for_each(|word| words.swap(record + word, other + word)),
+            10 | 11 => words[other + slot_words - 2] = words[id_and_action],
+            12 => words[priority] = words[priority].wrapping_add(1),
             13..=15 => {
                 let other = self.overlapping_record(words, record);
-                words[record + 5] = words[other + 5].saturating_add(self.random.below(2) as u64);
+                words[priority] = words[other + slot_words - 1].saturating_add(self.random.below(2) as u64);
             }
             16 => words.iter_mut().for_each(|word| *word = self.random.word()),
             _ => {
@@ -359,11 +398,18 @@ impl Maker<'_> {
         }
     }
 
+    /// A number of words that no table has.
+    fn odd_length(&mut self) -> usize {
+        let slot_words = record_words(self.width);
+        let most = slot_words * SLOTS_MOST;
+        self.random.pick(&[0, 1, slot_words - 1, slot_words + 1, most - 1, most + 1, most + slot_words])
+    }
+
     /// Where a record begins whose rule overlaps that of the record at `record`, which may be that one itself.
     fn overlapping_record(&mut self, words: &[u64], record: usize) -> usize {
-        let rule = rule_of(&words[record..]);
-        let is_met = |at: usize| words[at + 4] != 0 && rule_of(&words[at..]).overlaps(&rule);
-        let met: Vec<usize> = (0..words.len()).step_by(RECORD_WORDS).filter(|&at| is_met(at)).collect();
+        let (slot_words, rule) = (record_words(self.width), rule_of(&words[record..], self.width));
+        let is_met = |at: usize| words[at + slot_words - 2] != 0 && rule_of(&words[at..], self.width).overlaps(&rule);
+        let met: Vec<usize> = (0..words.len()).step_by(slot_words).filter(|&at| is_met(at)).collect();
         if met.is_empty() {
             record
         } else {
@@ -372,10 +418,10 @@ impl Maker<'_> {
     }
 
     /// What the call needs beside the table and the rule.
-    fn fill_in(&mut self, input: &mut Input, table: &[Slot]) {
+    fn fill_in(&mut self, input: &mut Input, table: &[Slot], new: &Rule) {
         let slots = table.len();
         match input.call {
-            Call::Lookup => input.keys = (0..3).map(|_| self.key(table, &input.rule)).collect(),
+            Call::Lookup => input.keys = (0..3).map(|_| self.key(table, new)).collect(),
             Call::SlotRecord => input.slot = self.slot_number(slots) as u32,
             Call::PlanInsert => {
                 input.room = match self.random.below(4) {
@@ -386,13 +432,13 @@ impl Maker<'_> {
             }
             Call::PlanDelete => {
                 if !self.random.one_in(8) {
-                    input.rule.id = self.present_rule(table).map_or(input.rule.id, |rule| rule.id);
+                    input.id = self.present_rule(table).map_or(input.id, |rule| rule.id);
                 }
                 input.room = self.random.pick(&[0, 1, 1, 2, 9]);
             }
             Call::CarryOut => self.plan_to_carry_out(input, slots),
             Call::Save => {
-                let needed = 4 + 50 * table.iter().flatten().count();
+                let needed = image_bytes(self.width, table.iter().flatten().count());
                 input.room = match self.random.below(4) {
                     0 => self.random.below(needed + 1),
                     1 => needed.saturating_sub(1),
@@ -407,7 +453,8 @@ impl Maker<'_> {
 
     fn slot_number(&mut self, slots: usize) -> u64 {
         match self.random.below(10) {
-            0 => self.random.pick(&[1023, 1024, 65_535, 65_533, 1 << 31, u64::from(u32::MAX), 715_827_883]),
+            // the last two times the words of a slot are just above 2^32
+            0 => self.random.pick(&[1023, 1024, 65_535, 65_533, 1 << 31, u64::from(u32::MAX), 715_827_883, 357_913_942]),
             1 => slots as u64,
             _ => self.random.below(slots) as u64,
         }
@@ -416,7 +463,7 @@ impl Maker<'_> {
     /// A plan of the library's kind or a foreign one, with progress at its start, within it, or wrong.
     fn plan_to_carry_out(&mut self, input: &mut Input, slots: usize) {
         if self.random.one_in(4) {
-            if let Ok(plan) = plan_insert(&input.table, &input.rule, slots) {
+            if let Ok(plan) = plan_insert(&input.table, self.width, &input.rule, slots) {
                 input.plan = plan;
             }
         }
@@ -455,16 +502,16 @@ impl Maker<'_> {
         if spoil_table == 0 {
             self.random.shuffle(&mut meant);
         }
-        input.image = image_of(&meant, meant.len());
         if spoil_table == 1 {
             let (from, to) = (self.random.below(table.len()), self.random.below(table.len()));
             meant[to] = meant[from];
-            input.image = image_of(&meant, meant.len());
         }
-        if read_slots(&input.table).is_ok() && self.random.one_in(2) {
+        let image_width = if self.random.one_in(16) { self.random.pick(&WIDTHS) } else { self.width };
+        input.image = image_of(&meant, image_width);
+        if read_slots(&input.table, self.width).is_ok() && self.random.one_in(2) {
             input.table.iter_mut().for_each(|word| *word = self.random.any_word());
         }
-        if self.random.one_in(3) {
+        if image_width != self.width || self.random.one_in(3) {
             return;
         }
         for _ in 0..self.random.pick(&[1, 1, 1, 2]) {
@@ -473,21 +520,23 @@ impl Maker<'_> {
     }
 
     fn damage_image(&mut self, image: &mut Vec<u8>) {
-        let rules = image.len() / 50;
+        let rule_bytes = image_bytes(self.width, 1) - image_bytes(self.width, 0);
+        let rules = image.len() / rule_bytes;
         if image.is_empty() {
             return;
         }
         let entry = 4 + 10 * self.random.below(rules.max(1));
-        let body = 4 + 10 * rules + 40 * self.random.below(rules.max(1));
+        let body = body_offset(self.width, rules, self.random.below(rules.max(1)));
+        let pattern_bytes = 16 * self.width;
         let field = match self.random.below(10) {
             0 => return image.truncate(self.random.below(image.len())),
-            1 => return image.extend(vec![0; self.random.pick(&[1, 2, 49, 50])]),
+            1 => return image.extend(vec![0; self.random.pick(&[1, 2, rule_bytes - 1, rule_bytes])]),
             2 => self.random.below(4),
             3 => entry + 3,
             4 => entry + 5,
             5 => entry + 6 + self.random.below(4),
-            6 => body + self.random.below(32),
-            7 => body + 32 + self.random.below(4),
+            6 => body + self.random.below(pattern_bytes),
+            7 => body + pattern_bytes + self.random.below(4),
             8 => entry + self.random.below(4),
             _ => self.random.below(image.len()),
         };
@@ -500,28 +549,4 @@ impl Maker<'_> {
             };
         }
     }
-}
-
-/// The bytes that an image of these slots would have, sound or not.
-pub fn image_of(slots: &[Slot], count: usize) -> Vec<u8> {
-    if let Ok(image) = save(&words_of(slots), usize::MAX) {
-        return image;
-    }
-    let rules: Vec<(usize, &Rule)> =
-        slots.iter().enumerate().filter_map(|(slot, entry)| entry.as_ref().map(|rule| (slot, rule))).collect();
-    let mut image = Vec::new();
-    image.extend((count as u16).to_be_bytes());
-    image.extend((rules.len() as u16).to_be_bytes());
-    for (place, (slot, rule)) in rules.iter().enumerate() {
-        image.extend(rule.id.to_be_bytes());
-        image.extend((*slot as u16).to_be_bytes());
-        image.extend((4 + 10 * rules.len() as u32 + 40 * place as u32).to_be_bytes());
-    }
-    for (_, rule) in rules {
-        image.extend(rule.value.to_be_bytes());
-        image.extend(rule.mask.to_be_bytes());
-        image.extend((rule.priority as u32).to_be_bytes());
-        image.extend(rule.action.to_be_bytes());
-    }
-    image
 }

@@ -1,8 +1,9 @@
-// Makes a failing input smaller as long as it still fails: fewer slots, zeroed slots, fewer bits, smaller numbers.
+// Makes a failing input smaller as long as it still fails: two words for five, fewer slots, zeroed slots, fewer bits, smaller numbers.
 // Each change is tried in turn and kept if the input still fails; rounds go on until one keeps nothing.
 
-use crate::input::Input;
-use reference::table::RECORD_WORDS;
+use crate::input::{Call, Input};
+use reference::bits::WIDTHS;
+use reference::table::record_words;
 use std::time::{Duration, Instant};
 
 const TIME_MOST: Duration = Duration::from_secs(120);
@@ -17,10 +18,12 @@ pub fn shrink(input: Input, fails: impl Fn(&Input) -> bool) -> Input {
     let mut shrinker = Shrinker { input, fails, end: Instant::now() + TIME_MOST };
     loop {
         let before = shrinker.input.clone();
+        shrinker.keep(narrow);
         shrinker.drop_slots();
         shrinker.zero_slots();
         shrinker.drop_plan_words();
         shrinker.drop_keys();
+        shrinker.drop_words();
         shrinker.clear_bits();
         shrinker.lessen_numbers();
         if shrinker.input == before || Instant::now() > shrinker.end {
@@ -41,21 +44,28 @@ impl<F: Fn(&Input) -> bool> Shrinker<F> {
         kept
     }
 
-    fn slots(&self) -> usize {
-        self.input.table.len() / RECORD_WORDS
+    fn slot_words(&self) -> usize {
+        record_words(words_of_a_value(&self.input))
     }
 
-    /// Blocks of slots, large ones first; a plan's slot numbers follow, or stay if that fails.
+    fn slots(&self) -> usize {
+        self.input.table.len() / self.slot_words()
+    }
+
+    /// Blocks of slots, large ones first; a plan's slot numbers and the slots that an image tells follow, or stay if that fails.
     fn drop_slots(&mut self) {
         let mut block = self.slots().div_ceil(2);
         while block > 0 {
             let mut first = 0;
             while first + block <= self.slots() {
                 let slots = self.slots();
-                let words = RECORD_WORDS * first..RECORD_WORDS * (first + block);
+                let words = self.slot_words() * first..self.slot_words() * (first + block);
                 let dropped = self.keep(|smaller| {
                     smaller.table.drain(words.clone());
                     smaller.plan.iter_mut().for_each(|word| *word = without_slots(*word, first, block, slots));
+                    if let Some(count) = smaller.image.get_mut(..2) {
+                        count.copy_from_slice(&((slots - block) as u16).to_be_bytes());
+                    }
                 });
                 if !dropped && !self.keep(|smaller| drop(smaller.table.drain(words.clone()))) {
                     first += 1;
@@ -67,7 +77,8 @@ impl<F: Fn(&Input) -> bool> Shrinker<F> {
 
     fn zero_slots(&mut self) {
         for slot in 0..self.slots() {
-            self.keep(|smaller| smaller.table[RECORD_WORDS * slot..RECORD_WORDS * (slot + 1)].fill(0));
+            let words = self.slot_words() * slot..self.slot_words() * (slot + 1);
+            self.keep(|smaller| smaller.table[words.clone()].fill(0));
         }
     }
 
@@ -90,9 +101,21 @@ impl<F: Fn(&Input) -> bool> Shrinker<F> {
         }
     }
 
+    /// Words at the end of the table, of the rule and of the keys; where a plan is carried out in full, these have to fit.
+    fn drop_words(&mut self) {
+        if matches!(self.input.call, Call::InsertInFull | Call::DeleteInFull) {
+            return;
+        }
+        self.lessen(|input| input.table.len() as u64, |input, length| input.table.truncate(length as usize));
+        self.lessen(|input| input.rule.len() as u64, |input, length| input.rule.truncate(length as usize));
+        for place in 0..self.input.keys.len() {
+            self.lessen(|input| input.keys[place].len() as u64, |input, length| input.keys[place].truncate(length as usize));
+        }
+    }
+
     fn clear_bits(&mut self) {
-        for bit in 0..128 {
-            self.keep(|smaller| clear_bit(smaller, bit));
+        for place in 0..64 * words_of_a_value(&self.input) {
+            self.keep(|smaller| clear_bit(smaller, place));
         }
     }
 
@@ -107,9 +130,10 @@ impl<F: Fn(&Input) -> bool> Shrinker<F> {
         for place in 0..self.input.image.len() {
             self.lessen(|input| u64::from(input.image[place]), |input, byte| input.image[place] = byte as u8);
         }
-        self.lessen(|input| input.rule.priority, |input, number| input.rule.priority = number);
-        self.lessen(|input| u64::from(input.rule.id), |input, number| input.rule.id = number as u32);
-        self.lessen(|input| u64::from(input.rule.action), |input, number| input.rule.action = number as u32);
+        for place in 0..self.input.rule.len() {
+            self.lessen(|input| input.rule[place], |input, word| input.rule[place] = word);
+        }
+        self.lessen(|input| u64::from(input.id), |input, number| input.id = number as u32);
         self.lessen(|input| u64::from(input.slot), |input, number| input.slot = number as u32);
         self.lessen(|input| input.room as u64, |input, number| input.room = number as usize);
         self.lessen(|input| u64::from(input.done), |input, number| input.done = number as u32);
@@ -137,15 +161,40 @@ fn without_slots(word: u32, first: usize, count: usize, slots: usize) -> u32 {
     moved(word / 65_536) * 65_536 + moved(word % 65_536)
 }
 
-/// Takes one bit position out of every value, mask and key.
-fn clear_bit(input: &mut Input, bit: usize) {
-    let wide = !(1u128 << bit);
-    input.rule.value &= wide;
-    input.rule.mask &= wide;
-    input.keys.iter_mut().for_each(|key| *key &= wide);
-    for record in input.table.chunks_exact_mut(RECORD_WORDS) {
-        for place in [0, 2] {
-            record[place + usize::from(bit < 64)] &= !(1u64 << (bit % 64));
-        }
+/// The words of a value by which records are told apart; where no table has the width told, five: two such records are also one of these.
+fn words_of_a_value(input: &Input) -> usize {
+    if WIDTHS.contains(&input.width) {
+        input.width
+    } else {
+        WIDTHS[1]
     }
+}
+
+/// The input at two words, without the further words of values, masks and keys. It is kept if it fails so too.
+fn narrow(input: &mut Input) {
+    let (width, wide) = (WIDTHS[0], WIDTHS[1]);
+    if input.width != wide {
+        return;
+    }
+    let narrowed = |words: &[u64]| -> Vec<u64> {
+        let is_kept = |place: usize| place >= 2 * wide || place % wide < width;
+        let kept =
+            words.chunks(record_words(wide)).flat_map(|record| record.iter().enumerate().filter(|(place, _)| is_kept(*place)));
+        kept.map(|(_, &word)| word).collect()
+    };
+    input.width = width;
+    input.table = narrowed(&input.table);
+    input.rule = narrowed(&input.rule);
+    input.keys.iter_mut().for_each(|key| key.truncate(width));
+}
+
+/// Takes one bit position out of every value, mask and key.
+fn clear_bit(input: &mut Input, place: usize) {
+    let (width, word, others) = (words_of_a_value(input), place / 64, !(1 << (63 - place % 64)));
+    let records = input.table.chunks_exact_mut(record_words(width)).chain(input.rule.chunks_exact_mut(record_words(width)));
+    for record in records {
+        record[word] &= others;
+        record[width + word] &= others;
+    }
+    input.keys.iter_mut().filter_map(|key| key.get_mut(word)).for_each(|word| *word &= others);
 }

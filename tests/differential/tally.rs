@@ -1,12 +1,14 @@
-// Counts of what a run reached: answers and refusals of each call, plan lengths and directions.
-// A run that never reached one of the answers listed here has tested less than it says, and fails.
+// Counts of what a run reached at each width: answers and refusals of each call, plan lengths and directions.
+// A run that never reached one of the answers listed here, at one of the widths, has tested less than it says, and fails.
 
 use crate::input::{Call, Input};
 use crate::largest::{LAST, LONG};
+use reference::bits::WIDTHS;
 use reference::carry::Carried;
+use reference::image::image_bytes;
 use reference::plan::{EMPTYING, PUT_IN};
 use reference::table::{
-    Refusal, CROSSED, FULL, IMAGE, KNOWN, ORDER, RECORD, RULE, SHAPE, SHORT, SLOTS_MOST, TIE, TWICE, UNKNOWN, WRITE,
+    record_words, Refusal, CROSSED, FULL, IMAGE, KNOWN, ORDER, RECORD, RULE, SHAPE, SHORT, SLOTS_MOST, TIE, TWICE, UNKNOWN, WRITE,
 };
 use std::collections::BTreeMap;
 
@@ -15,35 +17,61 @@ const SMALL_MOST: usize = 64;
 
 #[derive(Default)]
 pub struct Tally {
-    counts: BTreeMap<(Call, String), u64>,
-    /// How many slots the table at hand has.
-    pub slots: usize,
-    /// How many insert plans had 1, 2, 3 .. writes; the last place is for longer ones.
-    lengths: [u64; 10],
-    longest: usize,
+    /// By call and answer, then by the width that the call was told.
+    counts: BTreeMap<(Call, String), BTreeMap<usize, u64>>,
+    /// Inputs by the width that they tell.
+    inputs: BTreeMap<usize, u64>,
+    /// The width told and the slots of the table at hand.
+    width: usize,
+    slots: usize,
+    /// How many insert plans had 1, 2, 3 .. writes, and how long the longest was, at each width; the last place is for longer ones.
+    lengths: BTreeMap<usize, [u64; 10]>,
+    longest: BTreeMap<usize, usize>,
     pub lookups_between: u64,
 }
 
-/// The answers and refusals that every run must reach.
+/// Widths that no table has, beside the two that tables have; every call must be told each of them.
+pub const OTHER_WIDTHS: [usize; 5] = [0, 1, 3, 4, 6];
+
+/// What all calls that take a table refuse with 1.
+const TABLE_WORDS: [&str; 3] = ["1 no words", "1 part of a slot", "1 too many slots"];
+
+/// The answers and refusals that every run must reach at each of the two widths.
 fn wanted() -> Vec<(Call, String)> {
     let mut wanted = Vec::new();
     let mut want = |call: Call, kinds: &[&str], numbers: &[u32]| {
         wanted.extend(kinds.iter().map(|kind| (call, kind.to_string())));
         wanted.extend(numbers.iter().map(|number| (call, format!("{number}"))));
     };
-    let table = [SHAPE, RECORD, TWICE, ORDER];
-    want(Call::Lookup, &["hit", "miss"], &[SHAPE, RECORD]);
-    want(Call::SlotRecord, &["record", "empty part"], &[]);
+    for call in [Call::Lookup, Call::PlanInsert, Call::PlanDelete, Call::CarryOut, Call::Save, Call::Load] {
+        want(call, &TABLE_WORDS, &[]);
+    }
+    let table = [RECORD, TWICE, ORDER];
+    want(Call::Lookup, &["hit", "miss", "1 key words"], &[RECORD]);
+    want(Call::SlotRecord, &["record", "empty part", "empty part, 1", "empty part, 2"], &[]);
     want(Call::PlanInsert, &["one write", "down", "up"], &table);
-    want(Call::PlanInsert, &[], &[RULE, KNOWN, TIE, FULL, CROSSED, SHORT]);
+    want(Call::PlanInsert, &["1 rule words"], &[RULE, KNOWN, TIE, FULL, CROSSED, SHORT]);
     want(Call::PlanDelete, &["emptying"], &table);
     want(Call::PlanDelete, &[], &[RULE, UNKNOWN, SHORT]);
-    want(Call::CarryOut, &["copied", "put in", "emptied", "finished"], &[SHAPE, RECORD, RULE]);
+    want(Call::CarryOut, &["copied", "put in", "emptied", "finished"], &[RECORD, RULE]);
+    want(
+        Call::CarryOut,
+        &["1 rule words, copy", "1 rule words, put-in", "1 rule words, emptying", "1 rule words, finished"],
+        &[],
+    );
     want(Call::CarryOut, &["12 done > total", "12 total > words", "12 copy", "12 put-in", "12 emptying"], &[]);
     want(Call::Save, &["saved"], &table);
     want(Call::Save, &[], &[SHORT]);
     want(Call::Load, &["loaded", "14 at 0", "14 at 2", "14 at an id", "14 at a slot", "14 at an offset", "14 at a body"], &[]);
-    want(Call::Load, &[], &[SHAPE, TWICE, ORDER]);
+    want(Call::Load, &["14 at 2, the other width's length"], &[TWICE, ORDER]);
+    wanted.extend(wanted_of_large());
+    wanted.extend(wanted_of_largest());
+    wanted
+}
+
+/// The answers that every run must reach on tables of many slots.
+fn wanted_of_large() -> Vec<(Call, String)> {
+    let mut wanted = Vec::new();
     let mut want_large = |call: Call, kinds: &[&str], numbers: &[u32]| {
         wanted.extend(kinds.iter().map(|kind| (call, large(kind))));
         wanted.extend(numbers.iter().map(|number| (call, large(&number.to_string()))));
@@ -54,7 +82,14 @@ fn wanted() -> Vec<(Call, String)> {
     want_large(Call::CarryOut, &["copied", "put in", "emptied", "finished"], &[]);
     want_large(Call::Save, &["saved"], &[SHORT]);
     want_large(Call::Load, &["loaded"], &[]);
-    wanted.extend(wanted_of_largest());
+    wanted
+}
+
+/// What every run must reach at each of the other widths.
+fn wanted_at_other_widths() -> Vec<(Call, String)> {
+    let calls = [Call::Lookup, Call::PlanInsert, Call::PlanDelete, Call::CarryOut, Call::Save, Call::Load];
+    let mut wanted = vec![(Call::SlotRecord, "empty part, 1".to_string())];
+    wanted.extend(calls.map(|call| (call, SHAPE.to_string())));
     wanted
 }
 
@@ -99,10 +134,21 @@ fn long(way: &str) -> String {
 const SLOT_SPOTS: [u32; 6] = [RECORD, TWICE, ORDER, KNOWN, TIE, CROSSED];
 
 impl Tally {
+    /// The width and the table of an input, for what is counted of it.
+    pub fn begin(&mut self, input: &Input) {
+        *self.inputs.entry(input.width).or_default() += 1;
+        self.width = input.width;
+        self.slots = input.table.len() / record_words(input.width);
+    }
+
+    fn add(&mut self, call: Call, kind: String) {
+        *self.counts.entry((call, kind)).or_default().entry(self.width).or_default() += 1;
+    }
+
     pub fn count(&mut self, call: Call, kind: &str) {
-        *self.counts.entry((call, kind.to_string())).or_default() += 1;
+        self.add(call, kind.to_string());
         if self.slots > SMALL_MOST {
-            *self.counts.entry((call, large(kind))).or_default() += 1;
+            self.add(call, large(kind));
         }
     }
 
@@ -110,11 +156,24 @@ impl Tally {
     pub fn count_at(&mut self, call: Call, kind: &str, slot: usize) {
         self.count(call, kind);
         if self.slots == SLOTS_MOST && slot == LAST {
-            *self.counts.entry((call, last(kind))).or_default() += 1;
+            self.add(call, last(kind));
         }
     }
 
-    pub fn refusal(&mut self, call: Call, refusal: Refusal) {
+    /// The part of the table that is a slot's record; where it is empty, 1 or 2 may be why.
+    pub fn part(&mut self, input: &Input, words: u64, table: Result<(), Refusal>) {
+        let kind = match (words, table) {
+            (0, Err(refusal)) => format!("empty part, {}", refusal.number),
+            (0, Ok(())) => "empty part".to_string(),
+            _ => "record".to_string(),
+        };
+        self.count_at(Call::SlotRecord, &kind, input.slot as usize);
+    }
+
+    pub fn refusal(&mut self, call: Call, input: &Input, refusal: Refusal) {
+        if refusal.number == SHAPE {
+            return self.count(call, misfit(call, input));
+        }
         let kind = refusal.number.to_string();
         if SLOT_SPOTS.contains(&refusal.number) {
             self.count_at(call, &kind, refusal.spot as usize);
@@ -128,8 +187,10 @@ impl Tally {
         if call == Call::PlanDelete {
             return self.count_at(call, "emptying", to);
         }
-        self.longest = self.longest.max(writes.len());
-        self.lengths[(writes.len() - 1).min(self.lengths.len() - 1)] += 1;
+        let most = self.longest.entry(self.width).or_default();
+        *most = writes.len().max(*most);
+        let lengths = self.lengths.entry(self.width).or_default();
+        lengths[(writes.len() - 1).min(9)] += 1;
         let kind = match writes {
             [_] => return self.count_at(call, "one write", to),
             [copy, ..] if copy / 65_536 < copy % 65_536 => "down",
@@ -137,9 +198,9 @@ impl Tally {
         };
         self.count(call, kind);
         if writes.len() == SLOTS_MOST {
-            *self.counts.entry((call, longest(kind))).or_default() += 1;
+            self.add(call, longest(kind));
         } else if writes.len() >= LONG {
-            *self.counts.entry((call, long(kind))).or_default() += 1;
+            self.add(call, long(kind));
         }
     }
 
@@ -150,7 +211,7 @@ impl Tally {
             (Ok(Carried::Wrote), PUT_IN) => "put in",
             (Ok(Carried::Wrote), EMPTYING) => "emptied",
             (Ok(Carried::Wrote), _) => "copied",
-            (Err(refusal), _) if refusal.number != WRITE => return self.refusal(Call::CarryOut, *refusal),
+            (Err(refusal), _) if refusal.number != WRITE => return self.refusal(Call::CarryOut, input, *refusal),
             (Err(_), _) if input.done > input.total => "12 done > total",
             (Err(_), _) if input.total as usize > input.plan.len() => "12 total > words",
             (Err(_), PUT_IN) => "12 put-in",
@@ -161,13 +222,15 @@ impl Tally {
     }
 
     /// A refused load, by the field that an image was refused at.
-    pub fn loading(&mut self, refusal: Refusal, image: &[u8]) {
+    pub fn loading(&mut self, refusal: Refusal, input: &Input) {
         if refusal.number != IMAGE {
-            return self.refusal(Call::Load, refusal);
+            return self.refusal(Call::Load, input, refusal);
         }
+        let image = &input.image;
         let bodies = image.get(2..4).map_or(4, |count| 4 + 10 * u64::from(u16::from_be_bytes([count[0], count[1]])));
         let kind = match refusal.spot {
             0 => "14 at 0",
+            2 if is_of_other_width(image, input.width) => "14 at 2, the other width's length",
             2 => "14 at 2",
             spot if spot >= bodies => "14 at a body",
             spot => match (spot - 4) % 10 {
@@ -181,15 +244,66 @@ impl Tally {
 
     /// What this run never reached.
     pub fn missing(&self) -> Vec<String> {
-        let reached = |kind: &(Call, String)| self.counts.contains_key(kind);
-        wanted().into_iter().filter(|kind| !reached(kind)).map(|(call, kind)| format!("{call:?} {kind}")).collect()
+        let reached = |call: Call, kind: &String, width: usize| {
+            self.counts.get(&(call, kind.clone())).is_some_and(|at_widths| at_widths.contains_key(&width))
+        };
+        let mut missing = Vec::new();
+        for (widths, kinds) in [(&WIDTHS[..], wanted()), (&OTHER_WIDTHS[..], wanted_at_other_widths())] {
+            for width in widths {
+                let left = kinds.iter().filter(|(call, kind)| !reached(*call, kind, *width));
+                missing.extend(left.map(|(call, kind)| format!("{call:?} {kind} at width {width}")));
+            }
+        }
+        missing
     }
 
     pub fn print(&self) {
-        for ((call, kind), count) in &self.counts {
-            println!("  {:<12} {:<24} {:>10}", format!("{call:?}"), kind, count);
+        println!("  {:<12} {:<36} {:>10} {:>10} {:>10}", "", "", "width 2", "width 5", "another");
+        print_row("inputs", "", &self.inputs);
+        for ((call, kind), at_widths) in &self.counts {
+            print_row(&format!("{call:?}"), kind, at_widths);
         }
-        println!("  insert plans of 1, 2, .. 9 writes and of more: {:?}; longest {}", self.lengths, self.longest);
+        for (width, lengths) in &self.lengths {
+            let longest = self.longest[width];
+            println!("  width {width}: insert plans of 1, 2, .. 9 writes and of more: {lengths:?}; longest {longest}");
+        }
         println!("  lookups between writes: {}", self.lookups_between);
     }
+}
+
+fn print_row(call: &str, kind: &str, at_widths: &BTreeMap<usize, u64>) {
+    let [two, five] = WIDTHS.map(|width| at_widths.get(&width).copied().unwrap_or(0));
+    let others = at_widths.values().sum::<u64>() - two - five;
+    println!("  {call:<12} {kind:<36} {two:>10} {five:>10} {others:>10}");
+}
+
+/// Which words of an input that is refused with 1 are at fault.
+fn misfit(call: Call, input: &Input) -> &'static str {
+    let (words, slot_words) = (input.table.len(), record_words(input.width));
+    if !WIDTHS.contains(&input.width) {
+        return "1";
+    }
+    if words == 0 {
+        return TABLE_WORDS[0];
+    }
+    if words % slot_words != 0 {
+        return TABLE_WORDS[1];
+    }
+    if words / slot_words > SLOTS_MOST {
+        return TABLE_WORDS[2];
+    }
+    match (call, input.plan.get(input.done as usize).map(|write| write / 65_536)) {
+        (Call::Lookup, _) => "1 key words",
+        (Call::CarryOut, _) if input.done >= input.total => "1 rule words, finished",
+        (Call::CarryOut, Some(PUT_IN)) => "1 rule words, put-in",
+        (Call::CarryOut, Some(EMPTYING)) => "1 rule words, emptying",
+        (Call::CarryOut, _) => "1 rule words, copy",
+        _ => "1 rule words",
+    }
+}
+
+/// Whether an image of so many rules would have this length at the other width, and has some rule.
+fn is_of_other_width(image: &[u8], width: usize) -> bool {
+    let rules = usize::from(u16::from_be_bytes([image[2], image[3]]));
+    rules > 0 && WIDTHS.iter().any(|&other| other != width && image.len() == image_bytes(other, rules))
 }

@@ -1,9 +1,10 @@
-// The exhaustive small check: the planned count against the shortest sequence of document 01's comparison class.
+// The exhaustive small check: the planned count against the shortest sequence of document 01's comparison class, at both widths.
 // All tables of up to four slots over two bits and four priorities, and seeded tables of five and six over three bits.
 
 mod shortest;
 
 use crate::shortest::shortest_sequence;
+use reference::bits::{Bits, WIDTHS};
 use reference::carry::{carry_out, Carried, Progress};
 use reference::table::{first_out_of_order, read_slots, read_sound_table, words_of, Rule, Slot};
 use std::collections::BTreeMap;
@@ -14,6 +15,9 @@ const SLOTS_MOST: usize = 4;
 const SEEDED_TABLES: u64 = 60_000;
 const SEED: u64 = 1;
 
+/// The same at each width.
+type Both<T> = [T; WIDTHS.len()];
+
 #[derive(Default)]
 struct Counts {
     tables: u64,
@@ -23,12 +27,25 @@ struct Counts {
     refused: BTreeMap<u32, u64>,
 }
 
+/// A new rule, and its record, at each width.
+struct New {
+    rules: Both<Rule>,
+    records: Both<Vec<u64>>,
+}
+
+impl New {
+    fn of(rules: Both<Rule>) -> New {
+        New { rules, records: [0, 1].map(|at| rules[at].record(WIDTHS[at])) }
+    }
+}
+
 fn main() {
     let start = Instant::now();
     let mut counts = Counts::default();
     let new_rules = every_new_rule();
     for slots in 1..=SLOTS_MOST {
-        each_table(&mut vec![None; slots], 0, &mut |table| check_table(table, &new_rules, &mut counts));
+        let mut tables = [vec![None; slots], vec![None; slots]];
+        each_table(&mut tables, 0, &mut |tables| check_table(tables, &new_rules, &mut counts));
     }
     print("every table of one to four slots over two bits", &counts);
     // All there are: a run that leaves some out does not pass.
@@ -37,9 +54,9 @@ fn main() {
     for number in 0..SEEDED_TABLES {
         let mut random = Random::new(SEED, number);
         let slots = random.between(5, 6);
-        let table = seeded_table(&mut random, slots);
-        let new_rules: Vec<Rule> = (0..4).map(|_| seeded_rule(&mut random, 99)).collect();
-        check_table(&table, &new_rules, &mut counts);
+        let tables = seeded_tables(&mut random, slots);
+        let new_rules: Vec<New> = (0..4).map(|_| New::of(seeded_rules(&mut random, 99))).collect();
+        check_table(&tables, &new_rules, &mut counts);
     }
     print("seeded tables of five and six slots over three bits", &counts);
     assert_eq!(counts.tables, SEEDED_TABLES);
@@ -47,84 +64,103 @@ fn main() {
 }
 
 fn print(what: &str, counts: &Counts) {
-    println!("exhaustive: {what}: {} tables", counts.tables);
-    println!("  inserts planned, by writes, each as short as the search: {:?}", counts.planned);
+    println!("exhaustive: {what}: {} tables, each of two words and of five", counts.tables);
+    println!("  inserts planned at each width, by writes, each as short as the search: {:?}", counts.planned);
     println!("  inserts refused, by number: {:?}", counts.refused);
 }
 
-/// The rule whose pattern's digits to base 3 say 0, 1 or uncared for at the highest bits.
-fn rule_of(id: u32, priority: u64, pattern: usize, bits: usize) -> Rule {
-    let mut rule = Rule { id, priority, value: 0, mask: 0, action: id };
-    for bit in 0..bits {
-        let digit = pattern / 3usize.pow(bit as u32) % 3;
-        if digit < 2 {
-            rule.mask |= 1 << (127 - bit);
-            rule.value |= (digit as u128) << (127 - bit);
+/// The rule whose pattern's digits to base 3 say 0, 1 or uncared for at each of the bits, of which the first stands in the first
+/// word of the value and the last in its last word.
+fn rules_of(id: u32, priority: u64, pattern: usize, bits: usize) -> Both<Rule> {
+    WIDTHS.map(|width| {
+        let mut rule = Rule { id, priority, value: Bits::NONE, mask: Bits::NONE, action: id };
+        for bit in 0..bits {
+            let place = 64 * ((width - 1) * bit).div_ceil(bits - 1) + bit;
+            let digit = pattern / 3usize.pow(bit as u32) % 3;
+            rule.mask |= if digit < 2 { Bits::at(place) } else { Bits::NONE };
+            rule.value |= if digit == 1 { Bits::at(place) } else { Bits::NONE };
         }
-    }
-    rule
+        rule
+    })
 }
 
-/// Every sound table that agrees with `table` below `slot`; the rule in slot k has id k + 1. Priorities are even here and any
+fn set(tables: &mut Both<Vec<Slot>>, slot: usize, rules: Both<Rule>) {
+    tables.iter_mut().zip(rules).for_each(|(table, rule)| table[slot] = Some(rule));
+}
+
+fn empty(tables: &mut Both<Vec<Slot>>, slot: usize) {
+    tables.iter_mut().for_each(|table| table[slot] = None);
+}
+
+/// Every sound table that agrees with `tables` below `slot`; the rule in slot k has id k + 1. Priorities are even here and any
 /// in a new rule, so that there is room between two of them.
-fn each_table(table: &mut Vec<Slot>, slot: usize, check: &mut dyn FnMut(&[Slot])) {
-    if slot == table.len() {
-        return check(table);
+fn each_table(tables: &mut Both<Vec<Slot>>, slot: usize, check: &mut dyn FnMut(&Both<Vec<Slot>>)) {
+    if slot == tables[0].len() {
+        return check(tables);
     }
-    table[slot] = None;
-    each_table(table, slot + 1, check);
+    empty(tables, slot);
+    each_table(tables, slot + 1, check);
     for pattern in 0..9 {
         for priority in 1..=4 {
-            table[slot] = Some(rule_of(slot as u32 + 1, 2 * priority, pattern, 2));
-            if first_out_of_order(&table[..=slot]).is_none() {
-                each_table(table, slot + 1, check);
+            set(tables, slot, rules_of(slot as u32 + 1, 2 * priority, pattern, 2));
+            if first_out_of_order(&tables[0][..=slot]).is_none() {
+                each_table(tables, slot + 1, check);
             }
         }
     }
-    table[slot] = None;
+    empty(tables, slot);
 }
 
 /// New rules of every pattern and of every priority at, between and beside those of the tables.
-fn every_new_rule() -> Vec<Rule> {
-    (0..9).flat_map(|pattern| (1..=9).map(move |priority| rule_of(99, priority, pattern, 2))).collect()
+fn every_new_rule() -> Vec<New> {
+    let new = |pattern: usize, priority: u64| New::of(rules_of(99, priority, pattern, 2));
+    (0..9).flat_map(|pattern| (1..=9).map(move |priority| new(pattern, priority))).collect()
 }
 
-fn seeded_rule(random: &mut Random, id: u32) -> Rule {
-    rule_of(id, random.between(0, 16) as u64, random.below(27), 3)
+fn seeded_rules(random: &mut Random, id: u32) -> Both<Rule> {
+    rules_of(id, random.between(0, 16) as u64, random.below(27), 3)
 }
 
 /// Patterns at random, priorities from the last slot to the first; one or two slots are empty.
-fn seeded_table(random: &mut Random, slots: usize) -> Vec<Slot> {
-    let mut table = vec![None; slots];
+fn seeded_tables(random: &mut Random, slots: usize) -> Both<Vec<Slot>> {
+    let mut tables = [vec![None; slots], vec![None; slots]];
     let empty = [random.below(slots), random.below(slots)];
     for slot in (0..slots).rev().filter(|slot| !empty.contains(slot)) {
-        let mut rule = seeded_rule(random, slot as u32 + 1);
-        let later = table[slot + 1..].iter().flatten().filter(|later: &&Rule| later.overlaps(&rule));
+        let mut rules = seeded_rules(random, slot as u32 + 1);
+        let later = tables[0][slot + 1..].iter().flatten().filter(|later: &&Rule| later.overlaps(&rules[0]));
         let least = later.map(|later| later.priority + 1).max().unwrap_or(1);
-        rule.priority = least + random.below(3) as u64;
-        table[slot] = Some(rule);
+        let priority = least + random.below(3) as u64;
+        rules.iter_mut().for_each(|rule| rule.priority = priority);
+        set(&mut tables, slot, rules);
     }
-    table
+    tables
 }
 
-fn check_table(table: &[Slot], new_rules: &[Rule], counts: &mut Counts) {
+/// The library is asked at each width. The reference is asked, and carries out, at one of them in turn: since the patterns are
+/// the same but for their places, so is the answer. Where no slot is empty and so nothing planned, the library is asked at that one.
+fn check_table(tables: &Both<Vec<Slot>>, new_rules: &[New], counts: &mut Counts) {
+    let at = counts.tables as usize % WIDTHS.len();
     counts.tables += 1;
-    let words = words_of(table);
+    let words = [0, 1].map(|at| words_of(&tables[at], WIDTHS[at]));
+    let has_empty_slot = tables[at].contains(&None);
     for new in new_rules {
-        let planned = support::calls::plan_insert(&words, new);
-        let expected = reference::plan::plan_insert(&words, new, table.len());
-        if planned != expected {
-            fail(table, new, &format!("the library says {planned:x?}, the reference {expected:x?}"));
+        let fail = |what: &str| fail(&tables[at], &new.rules[at], what);
+        let expected = reference::plan::plan_insert(&words[at], WIDTHS[at], &new.records[at], tables[at].len());
+        for (place, width) in WIDTHS.into_iter().enumerate().filter(|(place, _)| has_empty_slot || *place == at) {
+            let planned = support::calls::plan_insert(&words[place], width, &new.records[place]);
+            if planned != expected {
+                fail(&format!("the library says {planned:x?} at width {width}, the reference {expected:x?}"));
+            }
         }
-        match planned {
+        match expected {
             Err(refusal) => *counts.refused.entry(refusal.number).or_default() += 1,
             Ok(plan) => {
-                let shortest = shortest_sequence(table, new);
+                let shortest = shortest_sequence(&tables[at], &new.rules[at]);
                 if shortest != plan.len() {
-                    fail(table, new, &format!("planned {} writes, the search found {shortest}", plan.len()));
+                    fail(&format!("planned {} writes, the search found {shortest}", plan.len()));
                 }
-                if !keeps_order(words.clone(), &plan, new) {
-                    fail(table, new, &format!("the plan {plan:x?} does not fit or leaves the order"));
+                if !keeps_order(words[at].clone(), WIDTHS[at], &new.records[at], &plan) {
+                    fail(&format!("the plan {plan:x?} does not fit or leaves the order"));
                 }
                 *counts.planned.entry(plan.len()).or_default() += 1;
             }
@@ -133,14 +169,14 @@ fn check_table(table: &[Slot], new_rules: &[Rule], counts: &mut Counts) {
 }
 
 /// The plan carried out by the reference: each write fits and leaves the table in order, and the last table is sound.
-fn keeps_order(mut words: Vec<u64>, plan: &[u32], new: &Rule) -> bool {
+fn keeps_order(mut words: Vec<u64>, width: usize, rule: &[u64], plan: &[u32]) -> bool {
     let mut progress = Progress { done: 0, total: plan.len() as u32 };
-    while carry_out(&mut words, plan, new, &mut progress) == Ok(Carried::Wrote) {
-        if read_slots(&words).map_or(true, |slots| first_out_of_order(&slots).is_some()) {
+    while carry_out(&mut words, width, rule, plan, &mut progress) == Ok(Carried::Wrote) {
+        if read_slots(&words, width).map_or(true, |slots| first_out_of_order(&slots).is_some()) {
             return false;
         }
     }
-    progress.done == progress.total && read_sound_table(&words).is_ok()
+    progress.done == progress.total && read_sound_table(&words, width).is_ok()
 }
 
 fn fail(table: &[Slot], new: &Rule, what: &str) -> ! {

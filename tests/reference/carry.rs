@@ -2,7 +2,7 @@
 // A call that declines, and one that answers "finished", changes nothing.
 
 use crate::plan::{EMPTYING, PUT_IN};
-use crate::table::{read_slots, refuse, words_of, Refusal, Rule, Slot, RULE, WRITE};
+use crate::table::{check_shape, check_words, read_slots, record_words, refuse, rule_of, words_of, Refusal, Slot, RULE, WRITE};
 
 #[derive(Clone, Copy, Debug, PartialEq, Eq)]
 pub struct Progress {
@@ -16,8 +16,17 @@ pub enum Carried {
     Finished,
 }
 
-pub fn carry_out(words: &mut [u64], plan: &[u32], new: &Rule, progress: &mut Progress) -> Result<Carried, Refusal> {
-    let mut slots = read_slots(words)?;
+/// The rule is a record, which has its words in a delete and a finished plan too.
+pub fn carry_out(
+    words: &mut [u64],
+    width: usize,
+    rule: &[u64],
+    plan: &[u32],
+    progress: &mut Progress,
+) -> Result<Carried, Refusal> {
+    check_shape(words.len(), width)?;
+    check_words(rule, record_words(width))?;
+    let mut slots = read_slots(words, width)?;
     if progress.done > progress.total || u64::from(progress.total) > plan.len() as u64 {
         return refuse(WRITE, progress.done as usize);
     }
@@ -25,27 +34,30 @@ pub fn carry_out(words: &mut [u64], plan: &[u32], new: &Rule, progress: &mut Pro
         return Ok(Carried::Finished);
     }
     let write = plan[progress.done as usize];
-    let from = write / 65_536;
-    let to = (write % 65_536) as usize;
-    if from == PUT_IN && !new.is_sound() {
+    let new = rule_of(rule, width);
+    if write / 65_536 == PUT_IN && !new.is_sound() {
         return refuse(RULE, 0);
     }
-    let fits = match from {
-        PUT_IN => may_be_overwritten(&slots, to),
-        EMPTYING => is_occupied(&slots, to),
-        _ => from as usize != to && is_occupied(&slots, from as usize) && may_be_overwritten(&slots, to),
-    };
-    if !fits {
+    if !fits(&slots, write) {
         return refuse(WRITE, progress.done as usize);
     }
-    slots[to] = match from {
-        PUT_IN => Some(*new),
+    slots[write as usize % 65_536] = match write / 65_536 {
+        PUT_IN => Some(new),
         EMPTYING => None,
-        _ => slots[from as usize],
+        from => slots[from as usize],
     };
-    words.copy_from_slice(&words_of(&slots));
+    words.copy_from_slice(&words_of(&slots, width));
     progress.done += 1;
     Ok(Carried::Wrote)
+}
+
+fn fits(slots: &[Slot], write: u32) -> bool {
+    let (from, to) = (write / 65_536, write as usize % 65_536);
+    match from {
+        PUT_IN => may_be_overwritten(slots, to),
+        EMPTYING => is_occupied(slots, to),
+        _ => from as usize != to && is_occupied(slots, from as usize) && may_be_overwritten(slots, to),
+    }
 }
 
 fn is_occupied(slots: &[Slot], slot: usize) -> bool {

@@ -1,37 +1,58 @@
 // Document 01's tables at the edge and its traps, and tables for requests of document 02, on the reference.
-// Tables are written as lists of slots with rules by id, priority and pattern.
+// Tables are written as lists of slots with rules by id, priority and pattern; each is asked at both widths, with the same answer.
 
+use crate::bits::{Bits, WIDTHS};
 use crate::carry::{carry_out, Carried, Progress};
 use crate::lookup::{lookup, slot_record, Found};
 use crate::plan::{plan_delete, plan_insert, write_word, EMPTYING, PUT_IN};
 use crate::table::*;
 
+/// A pattern is of `0 1 *`, highest bit first, the rest uncared for.
 pub fn rule(id: u32, priority: u64, pattern: &str) -> Rule {
     let bits = |wanted: &str| {
-        let set = |place: usize| if wanted.contains(&pattern[place..place + 1]) { 1u128 << (127 - place) } else { 0 };
-        (0..pattern.len()).map(set).sum()
+        let is_wanted = |place: &usize| wanted.contains(&pattern[*place..place + 1]);
+        (0..pattern.len()).filter(is_wanted).fold(Bits::NONE, |bits, place| bits | Bits::at(place))
     };
     Rule { id, priority, value: bits("1"), mask: bits("01"), action: id + 100 }
 }
 
-fn refused<T>(number: u32, spot: u64) -> Result<T, Refusal> {
+pub fn refused<T>(number: u32, spot: u64) -> Result<T, Refusal> {
     Err(Refusal { number, spot })
 }
 
-fn put(to: usize) -> u32 {
+pub fn put(to: usize) -> u32 {
     write_word(PUT_IN, to)
+}
+
+/// What is the same at each width.
+pub fn at_each_width<T: PartialEq + std::fmt::Debug>(answer: impl Fn(usize) -> T) -> T {
+    let answers = WIDTHS.map(answer);
+    assert_eq!(answers[0], answers[1], "at two words and at five");
+    answers.into_iter().next().unwrap()
 }
 
 /// The plan for `new`, carried out, with order tested after each write.
 fn plan_of(slots: &[Slot], new: &Rule) -> Result<Vec<u32>, Refusal> {
-    let mut words = words_of(slots);
-    let plan = plan_insert(&words, new, slots.len())?;
+    at_each_width(|width| plan_at(width, slots, new))
+}
+
+pub fn plan_at(width: usize, slots: &[Slot], new: &Rule) -> Result<Vec<u32>, Refusal> {
+    let (mut words, record) = (words_of(slots, width), new.record(width));
+    let plan = plan_insert(&words, width, &record, slots.len())?;
     let mut progress = Progress { done: 0, total: plan.len() as u32 };
-    while carry_out(&mut words, &plan, new, &mut progress)? == Carried::Wrote {
-        assert_eq!(first_out_of_order(&read_slots(&words).unwrap()), None);
+    while carry_out(&mut words, width, &record, &plan, &mut progress)? == Carried::Wrote {
+        assert_eq!(first_out_of_order(&read_slots(&words, width).unwrap()), None);
     }
-    assert!(read_sound_table(&words).is_ok());
+    assert!(read_sound_table(&words, width).is_ok());
     Ok(plan)
+}
+
+fn checks_of(slots: &[Slot]) -> Result<Vec<Slot>, Refusal> {
+    at_each_width(|width| read_sound_table(&words_of(slots, width), width))
+}
+
+fn looked_up(slots: &[Slot], key: Bits) -> Result<Found, Refusal> {
+    at_each_width(|width| lookup(&words_of(slots, width), width, (key & Bits::all(width)).words(width)))
 }
 
 #[test]
@@ -71,31 +92,38 @@ fn slot_of_the_nearest_dependant_is_used() {
 fn priorities_of_apart_rules_are_not_compared() {
     let low = rule(1, 1, "0");
     let high = rule(2, 60_000, "1");
-    assert!(read_sound_table(&words_of(&[Some(low), Some(high)])).is_ok());
+    assert!(checks_of(&[Some(low), Some(high)]).is_ok());
     assert_eq!(plan_of(&[Some(low), None, Some(high)], &rule(3, 30_000, "0")), Ok(vec![write_word(0, 1), put(0)]));
 }
 
 #[test]
 fn short_buffer() {
     let slots = [None, Some(rule(1, 30, "1")), Some(rule(2, 10, "1"))];
-    assert_eq!(plan_insert(&words_of(&slots), &rule(3, 20, "1"), 1), refused(SHORT, 2));
-    assert_eq!(plan_delete(&words_of(&slots), 2, 0), refused(SHORT, 1));
+    for width in WIDTHS {
+        let words = words_of(&slots, width);
+        assert_eq!(plan_insert(&words, width, &rule(3, 20, "1").record(width), 1), refused(SHORT, 2));
+        assert_eq!(plan_delete(&words, width, 2, 0), refused(SHORT, 1));
+    }
 }
 
 #[test]
 fn deletes() {
-    let words = words_of(&[None, Some(rule(1, 30, "1"))]);
-    assert_eq!(plan_delete(&words, 1, 5), Ok(vec![write_word(EMPTYING, 1)]));
-    assert_eq!(plan_delete(&words, 9, 5), refused(UNKNOWN, 0));
-    assert_eq!(plan_delete(&words, 0, 5), refused(RULE, 0));
+    let slots = [None, Some(rule(1, 30, "1"))];
+    let planned = |id: u32| at_each_width(|width| plan_delete(&words_of(&slots, width), width, id, 5));
+    assert_eq!(planned(1), Ok(vec![write_word(EMPTYING, 1)]));
+    assert_eq!(planned(9), refused(UNKNOWN, 0));
+    assert_eq!(planned(0), refused(RULE, 0));
 }
 
 #[test]
 fn slot_counts() {
-    assert_eq!(plan_insert(&[0; 6 * 1024], &rule(1, 1, "1"), 1), Ok(vec![put(0)]));
-    for count in [0, 1, 5, 7, 6 * 1025] {
-        assert_eq!(plan_insert(&vec![0; count], &rule(1, 1, "1"), 1), refused(SHAPE, 0));
-        assert_eq!(lookup(&vec![0; count], 0), refused(SHAPE, 0));
+    for (width, slot_words) in [(2, 6), (5, 12)] {
+        let record = rule(1, 1, "1").record(width);
+        assert_eq!(plan_insert(&vec![0; slot_words * 1024], width, &record, 1), Ok(vec![put(0)]));
+        for count in [0, 1, slot_words - 1, slot_words + 1, slot_words * 1025] {
+            assert_eq!(plan_insert(&vec![0; count], width, &record, 1), refused(SHAPE, 0));
+            assert_eq!(lookup(&vec![0; count], width, &vec![0; width]), refused(SHAPE, 0));
+        }
     }
 }
 
@@ -103,10 +131,9 @@ fn slot_counts() {
 fn priorities_at_the_edge() {
     assert_eq!(plan_of(&[None], &rule(1, 65_535, "1")), Ok(vec![put(0)]));
     assert_eq!(plan_of(&[None], &rule(1, 65_536, "1")), refused(RULE, 0));
-    let mut words = words_of(&[None, Some(rule(1, 65_535, "1"))]);
-    assert!(read_slots(&words).is_ok());
-    words[11] = 65_536;
-    assert_eq!(read_slots(&words), refused(RECORD, 1));
+    assert_eq!(plan_of(&[None], &rule(1, 1 << 32, "1")), refused(RULE, 0));
+    assert!(checks_of(&[None, Some(rule(1, 65_535, "1"))]).is_ok());
+    assert_eq!(checks_of(&[None, Some(rule(1, 65_536, "1"))]), refused(RECORD, 1));
 }
 
 #[test]
@@ -115,13 +142,13 @@ fn mask_of_zero_overlaps_every_rule() {
     for pattern in ["", "0", "1", "*1*0"] {
         assert!(all.overlaps(&rule(2, 5, pattern)) && rule(2, 5, pattern).overlaps(&all));
     }
-    assert!(all.matches(0) && all.matches(u128::MAX));
+    assert!(all.matches(Bits::NONE) && all.matches(Bits::all(5)));
 }
 
 #[test]
 fn unsound_rules() {
     let mut outside = rule(1, 5, "10");
-    outside.value |= 1;
+    outside.value |= Bits::at(127);
     assert_eq!(plan_of(&[None], &outside), refused(RULE, 0));
     assert_eq!(plan_of(&[None], &rule(0, 5, "1")), refused(RULE, 0));
 }
@@ -129,12 +156,11 @@ fn unsound_rules() {
 #[test]
 fn table_checks_name_the_lowest_slot_of_the_first_check() {
     let twice = [Some(rule(1, 9, "1")), Some(rule(2, 9, "1")), Some(rule(1, 5, "0"))];
-    assert_eq!(read_sound_table(&words_of(&twice)), refused(TWICE, 2));
+    assert_eq!(checks_of(&twice), refused(TWICE, 2));
     let order = [Some(rule(1, 9, "1")), Some(rule(2, 9, "1")), Some(rule(3, 99, "1"))];
-    assert_eq!(read_sound_table(&words_of(&order)), refused(ORDER, 1));
-    let mut id_zero = words_of(&twice);
-    id_zero[4] = 7;
-    assert_eq!(read_sound_table(&id_zero), refused(RECORD, 0));
+    assert_eq!(checks_of(&order), refused(ORDER, 1));
+    let id_zero = Rule { id: 0, ..rule(1, 9, "1") };
+    assert_eq!(checks_of(&[Some(id_zero), twice[1], twice[2]]), refused(RECORD, 0));
 }
 
 #[test]
@@ -150,36 +176,41 @@ fn known_tie_crossed() {
 #[test]
 fn an_empty_slot_matches_no_key() {
     let every_key = Rule { action: 7, ..rule(1, 5, "") };
-    let words = words_of(&[None, Some(every_key)]);
-    assert_eq!(lookup(&words, 0), Ok(Found::Hit { slot: 1, id: 1, action: 7 }));
-    assert_eq!(lookup(&words, u128::MAX), Ok(Found::Hit { slot: 1, id: 1, action: 7 }));
-    assert_eq!(lookup(&words[..6], 0), Ok(Found::Miss));
+    let slots = [None, Some(every_key)];
+    assert_eq!(looked_up(&slots, Bits::NONE), Ok(Found::Hit { slot: 1, id: 1, action: 7 }));
+    assert_eq!(looked_up(&slots, Bits::all(5)), Ok(Found::Hit { slot: 1, id: 1, action: 7 }));
+    assert_eq!(looked_up(&slots[..1], Bits::NONE), Ok(Found::Miss));
 }
 
 #[test]
 fn lookup_takes_the_lowest_slot_even_out_of_order() {
-    let words = words_of(&[None, Some(rule(1, 3, "1")), Some(rule(2, 9, "1"))]);
-    assert_eq!(lookup(&words, 1 << 127), Ok(Found::Hit { slot: 1, id: 1, action: 101 }));
-    assert_eq!(lookup(&words, 0), Ok(Found::Miss));
-    assert_eq!(slot_record(&words, 1), 6..12);
-    assert_eq!(slot_record(&words, 0), 0..0);
-    assert_eq!(slot_record(&words, 3), 0..0);
-    assert_eq!(slot_record(&words[1..], 1), 0..0);
+    let slots = [None, Some(rule(1, 3, "1")), Some(rule(2, 9, "1"))];
+    assert_eq!(looked_up(&slots, Bits::at(0)), Ok(Found::Hit { slot: 1, id: 1, action: 101 }));
+    assert_eq!(looked_up(&slots, Bits::NONE), Ok(Found::Miss));
+    for (width, part) in [(2, 6..12), (5, 12..24)] {
+        let words = words_of(&slots, width);
+        assert_eq!(slot_record(&words, width, 1), part);
+        assert_eq!(slot_record(&words, width, 0), 0..0);
+        assert_eq!(slot_record(&words, width, 3), 0..0);
+        assert_eq!(slot_record(&words[1..], width, 1), 0..0);
+    }
 }
 
-/// One call of carrying out, with what it answers and how far it gets.
-fn carried(slots: &[Slot], plan: &[u32], new: &Rule, done: u32, total: u32) -> (Result<Carried, Refusal>, Vec<u64>, u32) {
-    let mut words = words_of(slots);
-    let mut progress = Progress { done, total };
-    let answer = carry_out(&mut words, plan, new, &mut progress);
-    (answer, words, progress.done)
+/// One call of carrying out, with what it answers, the slots after it and how far it gets.
+fn carried(slots: &[Slot], plan: &[u32], new: &Rule, done: u32, total: u32) -> (Result<Carried, Refusal>, Vec<Slot>, u32) {
+    at_each_width(|width| {
+        let mut words = words_of(slots, width);
+        let mut progress = Progress { done, total };
+        let answer = carry_out(&mut words, width, &new.record(width), plan, &mut progress);
+        (answer, read_slots(&words, width).expect("the records stay sound"), progress.done)
+    })
 }
 
 #[test]
 fn progress_is_tested_before_the_write() {
     let slots = [Some(rule(1, 3, "1")), None];
     let new = rule(2, 2, "1");
-    let same = words_of(&slots);
+    let same = slots.to_vec();
     assert_eq!(carried(&slots, &[0], &new, 2, 1), (refused(WRITE, 2), same.clone(), 2));
     assert_eq!(carried(&slots, &[0], &new, 0, 2), (refused(WRITE, 0), same.clone(), 0));
     assert_eq!(carried(&slots, &[9, 9], &new, 1, 1), (Ok(Carried::Finished), same, 1));

@@ -1,18 +1,35 @@
 // The saved image: save gives its bytes, load gives the words of the table meant.
-// Big-endian throughout; the length is 4 + 50 bytes for each rule.
+// Big-endian throughout; each rule has an entry of the contents and a body, whose length is the width's.
 
+use crate::bits::Bits;
 use crate::table::{
-    check_ids_and_order, read_slots, read_sound_table, refuse, words_of, Refusal, Rule, IMAGE, PRIORITY_MOST, RECORD_WORDS,
-    SHAPE, SHORT, SLOTS_MOST,
+    check_ids_and_order, check_shape, read_slots, read_sound_table, refuse, words_of, Refusal, Rule, Slot, IMAGE, PRIORITY_MOST,
+    SHORT,
 };
 
 const HEAD_BYTES: usize = 4;
 const CONTENTS_BYTES: usize = 10;
-const BODY_BYTES: usize = 40;
+
+/// "An image body 16 bytes per word of a value plus 8."
+fn body_bytes(width: usize) -> usize {
+    16 * width + 8
+}
+
+pub fn image_bytes(width: usize, rules: usize) -> usize {
+    HEAD_BYTES + (CONTENTS_BYTES + body_bytes(width)) * rules
+}
 
 /// Checks 1 to 4, then 11; `room` is the length of the lent image buffer, in bytes.
-pub fn save(words: &[u64], room: usize) -> Result<Vec<u8>, Refusal> {
-    let slots = read_sound_table(words)?;
+pub fn save(words: &[u64], width: usize, room: usize) -> Result<Vec<u8>, Refusal> {
+    let image = image_of(&read_sound_table(words, width)?, width);
+    if image.len() > room {
+        return refuse(SHORT, image.len());
+    }
+    Ok(image)
+}
+
+/// The bytes of an image of these slots; where these are no sound table, what they would be.
+pub fn image_of(slots: &[Slot], width: usize) -> Vec<u8> {
     let rules: Vec<(usize, Rule)> = slots.iter().enumerate().filter_map(|(slot, entry)| entry.map(|rule| (slot, rule))).collect();
     let mut image = Vec::new();
     image.extend((slots.len() as u16).to_be_bytes());
@@ -20,55 +37,50 @@ pub fn save(words: &[u64], room: usize) -> Result<Vec<u8>, Refusal> {
     for (place, (slot, rule)) in rules.iter().enumerate() {
         image.extend(rule.id.to_be_bytes());
         image.extend((*slot as u16).to_be_bytes());
-        image.extend((body_offset(rules.len(), place) as u32).to_be_bytes());
+        image.extend((body_offset(width, rules.len(), place) as u32).to_be_bytes());
     }
     for (_, rule) in &rules {
-        image.extend(rule.value.to_be_bytes());
-        image.extend(rule.mask.to_be_bytes());
+        for word in rule.value.words(width).iter().chain(rule.mask.words(width)) {
+            image.extend(word.to_be_bytes());
+        }
         image.extend((rule.priority as u32).to_be_bytes());
         image.extend(rule.action.to_be_bytes());
     }
-    if image.len() > room {
-        return refuse(SHORT, image.len());
-    }
-    Ok(image)
+    image
 }
 
-fn body_offset(rules: usize, place: usize) -> usize {
-    HEAD_BYTES + CONTENTS_BYTES * rules + BODY_BYTES * place
+pub fn body_offset(width: usize, rules: usize, place: usize) -> usize {
+    HEAD_BYTES + CONTENTS_BYTES * rules + body_bytes(width) * place
 }
 
 /// A big-endian number of `count` bytes.
-fn number_at(image: &[u8], at: usize, count: usize) -> u128 {
-    image[at..at + count].iter().fold(0, |number, &byte| number * 256 + u128::from(byte))
+fn number_at(image: &[u8], at: usize, count: usize) -> u64 {
+    image[at..at + count].iter().fold(0, |number, &byte| number * 256 + u64::from(byte))
 }
 
 /// The words of the table that the image means, for a lent table of `table_words` words; only its length counts.
-pub fn load(image: &[u8], table_words: usize) -> Result<Vec<u64>, Refusal> {
-    let count = table_words / RECORD_WORDS;
-    if table_words % RECORD_WORDS != 0 || count < 1 || count > SLOTS_MOST {
-        return refuse(SHAPE, 0);
-    }
-    if image.len() < HEAD_BYTES || number_at(image, 0, 2) != count as u128 {
+pub fn load(image: &[u8], table_words: usize, width: usize) -> Result<Vec<u64>, Refusal> {
+    let count = check_shape(table_words, width)?;
+    if image.len() < HEAD_BYTES || number_at(image, 0, 2) != count as u64 {
         return refuse(IMAGE, 0);
     }
     let rules = number_at(image, 2, 2) as usize;
-    if rules > count || image.len() != HEAD_BYTES + (CONTENTS_BYTES + BODY_BYTES) * rules {
+    if rules > count || image.len() != image_bytes(width, rules) {
         return refuse(IMAGE, 2);
     }
-    let places = read_contents(image, count, rules)?;
+    let places = read_contents(image, width, count, rules)?;
     let mut slots = vec![None; count];
     for (place, (id, slot)) in places.iter().enumerate() {
-        slots[*slot] = Some(read_body(image, body_offset(rules, place), *id)?);
+        slots[*slot] = Some(read_body(image, width, body_offset(width, rules, place), *id)?);
     }
     check_ids_and_order(&slots)?;
-    let words = words_of(&slots);
-    assert!(read_slots(&words).is_ok());
+    let words = words_of(&slots, width);
+    assert!(read_slots(&words, width).is_ok());
     Ok(words)
 }
 
 /// Id and slot of each contents entry.
-fn read_contents(image: &[u8], count: usize, rules: usize) -> Result<Vec<(u32, usize)>, Refusal> {
+fn read_contents(image: &[u8], width: usize, count: usize, rules: usize) -> Result<Vec<(u32, usize)>, Refusal> {
     let mut places: Vec<(u32, usize)> = Vec::new();
     for place in 0..rules {
         let entry = HEAD_BYTES + CONTENTS_BYTES * place;
@@ -82,7 +94,7 @@ fn read_contents(image: &[u8], count: usize, rules: usize) -> Result<Vec<(u32, u
         if slot >= count || !rises {
             return refuse(IMAGE, entry + 4);
         }
-        if offset != body_offset(rules, place) as u128 {
+        if offset != body_offset(width, rules, place) as u64 {
             return refuse(IMAGE, entry + 6);
         }
         places.push((id, slot));
@@ -90,16 +102,22 @@ fn read_contents(image: &[u8], count: usize, rules: usize) -> Result<Vec<(u32, u
     Ok(places)
 }
 
-fn read_body(image: &[u8], start: usize, id: u32) -> Result<Rule, Refusal> {
+fn read_body(image: &[u8], width: usize, start: usize, id: u32) -> Result<Rule, Refusal> {
+    let numbers = start + 16 * width;
     let rule = Rule {
         id,
-        value: number_at(image, start, 16),
-        mask: number_at(image, start + 16, 16),
-        priority: number_at(image, start + 32, 4) as u64,
-        action: number_at(image, start + 36, 4) as u32,
+        value: words_at(image, start, width),
+        mask: words_at(image, start + 8 * width, width),
+        priority: number_at(image, numbers, 4),
+        action: number_at(image, numbers + 4, 4) as u32,
     };
-    if rule.value & !rule.mask != 0 || rule.priority > PRIORITY_MOST {
+    if !(rule.value & !rule.mask).is_none() || rule.priority > PRIORITY_MOST {
         return refuse(IMAGE, start);
     }
     Ok(rule)
+}
+
+fn words_at(image: &[u8], start: usize, width: usize) -> Bits {
+    let words: Vec<u64> = (0..width).map(|word| number_at(image, start + 8 * word, 8)).collect();
+    Bits::of_words(&words)
 }

@@ -1,6 +1,7 @@
-// A second implementation of document 01, written from the paper alone: plain rather than fast.
+// A second implementation of documents 01 and 02, written from the papers alone: plain rather than fast.
 // The differential test, the exhaustive check and the bench compare the library with it.
 
+pub mod bits;
 pub mod carry;
 pub mod image;
 pub mod lookup;
@@ -14,3 +15,5 @@ mod edge_test;
 mod image_test;
 #[cfg(test)]
 mod script_test;
+#[cfg(test)]
+mod widths_test;

@@ -1,7 +1,8 @@
 // Lookup of a key, and the record of a slot as a part of the lent table.
 // Both make checks 1 and 2 only.
 
-use crate::table::{read_slots, Refusal, RECORD_WORDS};
+use crate::bits::Bits;
+use crate::table::{check_shape, check_words, read_slots, record_words, Refusal};
 use std::ops::Range;
 
 #[derive(Clone, Copy, Debug, PartialEq, Eq)]
@@ -20,10 +21,12 @@ impl Found {
     }
 }
 
-pub fn lookup(words: &[u64], key: u128) -> Result<Found, Refusal> {
-    for (slot, entry) in read_slots(words)?.iter().enumerate() {
+pub fn lookup(words: &[u64], width: usize, key: &[u64]) -> Result<Found, Refusal> {
+    check_shape(words.len(), width)?;
+    check_words(key, width)?;
+    for (slot, entry) in read_slots(words, width)?.iter().enumerate() {
         if let Some(rule) = entry {
-            if rule.matches(key) {
+            if rule.matches(Bits::of_words(key)) {
                 return Ok(Found::Hit { slot, id: rule.id, action: rule.action });
             }
         }
@@ -33,11 +36,11 @@ pub fn lookup(words: &[u64], key: u128) -> Result<Found, Refusal> {
 
 /// The words of the table that are the slot's record; the empty part at the table's start if checks 1 or 2 fail
 /// or the slot is absent or empty.
-pub fn slot_record(words: &[u64], slot: u64) -> Range<usize> {
-    match read_slots(words) {
+pub fn slot_record(words: &[u64], width: usize, slot: u64) -> Range<usize> {
+    match read_slots(words, width) {
         Ok(slots) if slot < slots.len() as u64 && slots[slot as usize].is_some() => {
-            let start = slot as usize * RECORD_WORDS;
-            start..start + RECORD_WORDS
+            let start = slot as usize * record_words(width);
+            start..start + record_words(width)
         }
         _ => 0..0,
     }

@@ -1,7 +1,10 @@
 // How a plan is found: A, B, down and up costs, the choice, the chain, and the plan's words.
 // The costs are written as the paper defines them, for one slot from those of the slots on its far side.
 
-use crate::table::{read_sound_table, refuse, Refusal, Rule, Slot, CROSSED, FULL, KNOWN, RULE, SHORT, TIE, UNKNOWN};
+use crate::table::{
+    check_shape, check_words, read_sound_table, record_words, refuse, rule_of, Refusal, Rule, Slot, CROSSED, FULL, KNOWN, RULE,
+    SHORT, TIE, UNKNOWN,
+};
 
 pub const PUT_IN: u32 = 65_535;
 pub const EMPTYING: u32 = 65_534;
@@ -139,9 +142,20 @@ fn writes_of_chain(chain: &[usize]) -> Vec<u32> {
     writes
 }
 
-/// Checks 1 to 11 and the plan's words; `room` is the length of the lent plan buffer, in words.
-pub fn plan_insert(words: &[u64], new: &Rule, room: usize) -> Result<Vec<u32>, Refusal> {
-    let slots = read_sound_table(words)?;
+/// Checks 1 to 11 and the plan's words; the new rule is a record, `room` is the length of the lent plan buffer, in words.
+pub fn plan_insert(words: &[u64], width: usize, rule: &[u64], room: usize) -> Result<Vec<u32>, Refusal> {
+    check_shape(words.len(), width)?;
+    check_words(rule, record_words(width))?;
+    let slots = read_sound_table(words, width)?;
+    let writes = insert_writes(&slots, &rule_of(rule, width))?;
+    if writes.len() > room {
+        return refuse(SHORT, writes.len());
+    }
+    Ok(writes)
+}
+
+/// Checks 5 to 10 and the plan's words, for a sound table.
+fn insert_writes(slots: &[Slot], new: &Rule) -> Result<Vec<u32>, Refusal> {
     if !new.is_sound() {
         return refuse(RULE, 0);
     }
@@ -155,20 +169,16 @@ pub fn plan_insert(words: &[u64], new: &Rule, room: usize) -> Result<Vec<u32>, R
     if slots.iter().all(|entry| entry.is_some()) {
         return refuse(FULL, 0);
     }
-    let (a, b) = neighbours(&slots, new);
+    let (a, b) = neighbours(slots, new);
     if a > b {
         return refuse(CROSSED, a as usize);
     }
-    let writes = writes_of_chain(&insert_chain(&slots, a, b));
-    if writes.len() > room {
-        return refuse(SHORT, writes.len());
-    }
-    Ok(writes)
+    Ok(writes_of_chain(&insert_chain(slots, a, b)))
 }
 
 /// Checks 1 to 4, 5, 7 and 11: "a delete is one emptying write".
-pub fn plan_delete(words: &[u64], id: u32, room: usize) -> Result<Vec<u32>, Refusal> {
-    let slots = read_sound_table(words)?;
+pub fn plan_delete(words: &[u64], width: usize, id: u32, room: usize) -> Result<Vec<u32>, Refusal> {
+    let slots = read_sound_table(words, width)?;
     if id == 0 {
         return refuse(RULE, 0);
     }

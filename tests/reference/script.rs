@@ -1,18 +1,23 @@
 // The script program as a function from input bytes to output bytes.
 // Each line is read whole, then answered; after a refusal the next line is read.
 
+use crate::bits::Bits;
 use crate::carry::{carry_out, Carried, Progress};
 use crate::lookup::{lookup, Found};
 use crate::plan::{plan_delete, plan_insert, EMPTYING, PUT_IN};
-use crate::table::{refuse, Refusal, Rule, LINE, RECORD_WORDS, SHAPE, SLOTS_MOST};
+use crate::table::{record_words, refuse, Refusal, Rule, LINE, SHAPE, SLOTS_MOST};
 
 const LINE_BYTES_MOST: usize = 256;
+
+/// "The script program stays at two."
+const WIDTH: usize = 2;
+const BITS: usize = 64 * WIDTH;
 
 enum Command {
     Table { slots: u32 },
     Insert(Rule),
     Delete { id: u32 },
-    Lookup { key: u128 },
+    Lookup { key: Bits },
 }
 
 pub fn run_script(input: &[u8]) -> Vec<u8> {
@@ -73,14 +78,14 @@ fn read_number(field: &[u8]) -> Option<u32> {
 }
 
 /// "A pattern has 1 to 128 of `0 1 *`, highest bit first, the rest uncared for."
-fn read_pattern(field: &[u8]) -> Option<(u128, u128)> {
-    if field.is_empty() || field.len() > 128 {
+fn read_pattern(field: &[u8]) -> Option<(Bits, Bits)> {
+    if field.is_empty() || field.len() > BITS {
         return None;
     }
-    let mut value = 0;
-    let mut mask = 0;
+    let mut value = Bits::NONE;
+    let mut mask = Bits::NONE;
     for (place, byte) in field.iter().enumerate() {
-        let bit = 1u128 << (127 - place);
+        let bit = Bits::at(place);
         match byte {
             b'0' => mask |= bit,
             b'1' => {
@@ -95,7 +100,7 @@ fn read_pattern(field: &[u8]) -> Option<(u128, u128)> {
 }
 
 /// "A key 1 to 128 of `0 1`, the rest 0."
-fn read_key(field: &[u8]) -> Option<u128> {
+fn read_key(field: &[u8]) -> Option<Bits> {
     if field.contains(&b'*') {
         return None;
     }
@@ -108,19 +113,20 @@ fn answer_to(command: Command, words: &mut Vec<u64>) -> Result<String, Refusal> 
             if slots < 1 || slots as usize > SLOTS_MOST {
                 return refuse(SHAPE, 0);
             }
-            *words = vec![0; slots as usize * RECORD_WORDS];
+            *words = vec![0; slots as usize * record_words(WIDTH)];
             Ok(format!("N {slots}\n"))
         }
         Command::Insert(rule) => {
-            let plan = plan_insert(words, &rule, words.len() / RECORD_WORDS)?;
-            Ok(carried_out(words, &plan, &rule))
+            let record = rule.record(WIDTH);
+            let plan = plan_insert(words, WIDTH, &record, words.len() / record_words(WIDTH))?;
+            Ok(carried_out(words, &record, &plan))
         }
         Command::Delete { id } => {
-            let plan = plan_delete(words, id, 1)?;
-            let no_rule = Rule { id: 0, priority: 0, value: 0, mask: 0, action: 0 };
-            Ok(carried_out(words, &plan, &no_rule))
+            let plan = plan_delete(words, WIDTH, id, 1)?;
+            let no_rule = vec![0; record_words(WIDTH)];
+            Ok(carried_out(words, &no_rule, &plan))
         }
-        Command::Lookup { key } => Ok(match lookup(words, key)? {
+        Command::Lookup { key } => Ok(match lookup(words, WIDTH, key.words(WIDTH))? {
             Found::Hit { slot, id, action } => format!("A {slot} {id} {action}\n"),
             Found::Miss => "M\n".to_string(),
         }),
@@ -128,9 +134,9 @@ fn answer_to(command: Command, words: &mut Vec<u64>) -> Result<String, Refusal> 
 }
 
 /// Carries the whole plan out and gives the lines that print it.
-fn carried_out(words: &mut [u64], plan: &[u32], rule: &Rule) -> String {
+fn carried_out(words: &mut [u64], rule: &[u64], plan: &[u32]) -> String {
     let mut progress = Progress { done: 0, total: plan.len() as u32 };
-    while carry_out(words, plan, rule, &mut progress) == Ok(Carried::Wrote) {}
+    while carry_out(words, WIDTH, rule, plan, &mut progress) == Ok(Carried::Wrote) {}
     assert_eq!(progress.done, progress.total, "our own plan is carried out in full");
     let mut text = format!("P {}\n", plan.len());
     for write in plan {

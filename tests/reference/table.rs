@@ -1,7 +1,8 @@
 // Rules, slot records, and the checks 1 to 4 of a table, with the refusal each gives.
-// A table is the lent words themselves; the checks read it into a list of slots.
+// A table is the lent words themselves; the checks read it, at the width told, into a list of slots.
 
-pub const RECORD_WORDS: usize = 6;
+use crate::bits::{Bits, WIDTHS};
+
 pub const SLOTS_MOST: usize = 1024;
 pub const PRIORITY_MOST: u64 = 65_535;
 
@@ -31,31 +32,35 @@ pub fn refuse<T>(number: u32, spot: usize) -> Result<T, Refusal> {
     Err(Refusal { number, spot: spot as u64 })
 }
 
-/// Value and mask are one number of 128 bits here; in a record they are two words, high word first.
+/// "A record has twice the words of a value plus two more."
+pub fn record_words(width: usize) -> usize {
+    2 * width + 2
+}
+
 #[derive(Clone, Copy, Debug, PartialEq, Eq)]
 pub struct Rule {
     pub id: u32,
     pub priority: u64,
-    pub value: u128,
-    pub mask: u128,
+    pub value: Bits,
+    pub mask: Bits,
     pub action: u32,
 }
 
 impl Rule {
     pub fn is_sound(&self) -> bool {
-        self.id != 0 && self.priority <= PRIORITY_MOST && self.value & !self.mask == 0
+        self.id != 0 && self.priority <= PRIORITY_MOST && (self.value & !self.mask).is_none()
     }
 
     /// "A key matches when it equals the value at all bits cared for."
-    pub fn matches(&self, key: u128) -> bool {
-        (0..128).all(|bit| !bit_of(self.mask, bit) || bit_of(key, bit) == bit_of(self.value, bit))
+    pub fn matches(&self, key: Bits) -> bool {
+        ((key ^ self.value) & self.mask).is_none()
     }
 
     /// "Two rules overlap when no bit position is cared for by both with different values."
     pub fn overlaps(&self, other: &Rule) -> bool {
         let cared_for_by_both = self.mask & other.mask;
         let different = self.value ^ other.value;
-        cared_for_by_both & different == 0
+        (cared_for_by_both & different).is_none()
     }
 
     /// "The higher of an overlapping pair precedes the other."
@@ -67,58 +72,62 @@ impl Rule {
         other.precedes(self)
     }
 
-    pub fn record(&self) -> [u64; RECORD_WORDS] {
-        [
-            (self.value >> 64) as u64,
-            self.value as u64,
-            (self.mask >> 64) as u64,
-            self.mask as u64,
-            u64::from(self.id) << 32 | u64::from(self.action),
-            self.priority,
-        ]
+    pub fn record(&self, width: usize) -> Vec<u64> {
+        words_of(&[Some(*self)], width)
     }
 }
 
-fn bit_of(word: u128, bit: u32) -> bool {
-    word >> bit & 1 == 1
-}
-
-pub fn number_of(high: u64, low: u64) -> u128 {
-    u128::from(high) << 64 | u128::from(low)
-}
-
-/// The rule that the six words of a record stand for, sound or not.
-pub fn rule_of(record: &[u64]) -> Rule {
+/// The rule that the words of a record stand for, sound or not.
+pub fn rule_of(record: &[u64], width: usize) -> Rule {
+    let (value, rest) = record.split_at(width);
+    let (mask, rest) = rest.split_at(width);
     Rule {
-        id: (record[4] >> 32) as u32,
-        priority: record[5],
-        value: number_of(record[0], record[1]),
-        mask: number_of(record[2], record[3]),
-        action: record[4] as u32,
+        id: (rest[0] >> 32) as u32,
+        priority: rest[1],
+        value: Bits::of_words(value),
+        mask: Bits::of_words(mask),
+        action: rest[0] as u32,
     }
 }
 
 /// What a slot holds; `None` is an empty slot.
 pub type Slot = Option<Rule>;
 
+/// Check 1 for a table: one of the two widths, and the words of 1 to 1,024 slots, whose number is given back.
+pub fn check_shape(table_words: usize, width: usize) -> Result<usize, Refusal> {
+    if !WIDTHS.contains(&width) || table_words % record_words(width) != 0 {
+        return refuse(SHAPE, 0);
+    }
+    let slots = table_words / record_words(width);
+    if slots < 1 || slots > SLOTS_MOST {
+        return refuse(SHAPE, 0);
+    }
+    Ok(slots)
+}
+
+/// Check 1 for a key or a rule that is lent beside a table of a shape that passed: it has as many words as the width asks for.
+pub fn check_words(lent: &[u64], wanted: usize) -> Result<(), Refusal> {
+    if lent.len() == wanted {
+        Ok(())
+    } else {
+        refuse(SHAPE, 0)
+    }
+}
+
 /// Checks 1 and 2: the slots of a table whose words have the shape and whose records are empty or sound.
-pub fn read_slots(words: &[u64]) -> Result<Vec<Slot>, Refusal> {
-    if words.len() % RECORD_WORDS != 0 {
-        return refuse(SHAPE, 0);
-    }
-    let count = words.len() / RECORD_WORDS;
-    if count < 1 || count > SLOTS_MOST {
-        return refuse(SHAPE, 0);
-    }
-    let mut slots = Vec::new();
-    for (slot, record) in words.chunks(RECORD_WORDS).enumerate() {
+pub fn read_slots(words: &[u64], width: usize) -> Result<Vec<Slot>, Refusal> {
+    check_shape(words.len(), width)?;
+    let mut slots = Vec::with_capacity(words.len() / record_words(width));
+    for (slot, record) in words.chunks(record_words(width)).enumerate() {
         if record.iter().all(|&word| word == 0) {
             slots.push(None);
-        } else if rule_of(record).is_sound() {
-            slots.push(Some(rule_of(record)));
-        } else {
+            continue;
+        }
+        let rule = rule_of(record, width);
+        if !rule.is_sound() {
             return refuse(RECORD, slot);
         }
+        slots.push(Some(rule));
     }
     Ok(slots)
 }
@@ -153,18 +162,22 @@ pub fn first_out_of_order(slots: &[Slot]) -> Option<usize> {
 }
 
 /// Checks 1 to 4: "a table that passes 1 to 4 is sound".
-pub fn read_sound_table(words: &[u64]) -> Result<Vec<Slot>, Refusal> {
-    let slots = read_slots(words)?;
+pub fn read_sound_table(words: &[u64], width: usize) -> Result<Vec<Slot>, Refusal> {
+    let slots = read_slots(words, width)?;
     check_ids_and_order(&slots)?;
     Ok(slots)
 }
 
-pub fn words_of(slots: &[Slot]) -> Vec<u64> {
-    let mut words = Vec::new();
+pub fn words_of(slots: &[Slot], width: usize) -> Vec<u64> {
+    let mut words = Vec::with_capacity(slots.len() * record_words(width));
     for slot in slots {
         match slot {
-            Some(rule) => words.extend(rule.record()),
-            None => words.extend([0; RECORD_WORDS]),
+            Some(rule) => {
+                words.extend_from_slice(rule.value.words(width));
+                words.extend_from_slice(rule.mask.words(width));
+                words.extend([u64::from(rule.id) << 32 | u64::from(rule.action), rule.priority]);
+            }
+            None => words.resize(words.len() + record_words(width), 0),
         }
     }
     words

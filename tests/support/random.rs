@@ -1,6 +1,8 @@
 // A seeded generator of numbers, so that every input of a run can be made again from its seed and its number.
 // The steps are those of splitmix64.
 
+use reference::bits::Bits;
+
 pub struct Random {
     state: u64,
 }
@@ -34,8 +36,10 @@ impl Random {
         self.below(count) == 0
     }
 
-    pub fn wide(&mut self) -> u128 {
-        u128::from(self.word()) << 64 | u128::from(self.word())
+    /// Any bits of a value of so many words.
+    pub fn bits(&mut self, width: usize) -> Bits {
+        let words: Vec<u64> = (0..width).map(|_| self.word()).collect();
+        Bits::of_words(&words)
     }
 
     /// Any word, often one at the edge of a range.
