@@ -1,5 +1,6 @@
-// What the Rust versions share: refusals, rules, the progress record, and the form in which their calls cross to C.
-// `export_calls` turns lent pointers into slices and answers into numbers and cells; all else is the versions' own.
+// What the Rust versions share: refusals, records, the progress record, and the form in which their calls cross to C.
+// `export_calls` turns lent pointers into slices and answers into numbers and cells, and chooses the width; all else is the
+// versions' own.
 
 pub use reference::plan::{EMPTYING, PUT_IN};
 pub use reference::table::{
@@ -16,8 +17,54 @@ pub fn refuse<T>(number: u32, spot: usize) -> Result<T, Refusal> {
     Err(Refusal { number, spot: spot as u32 })
 }
 
-/// A slot's six words; those of a rule to be inserted too.
-pub type Record = [u64; 6];
+/// A slot's record, of W words of value and as many of mask; that of a rule to be inserted too.
+#[derive(Clone, Copy)]
+#[repr(C)]
+pub struct Record<const W: usize> {
+    pub value: [u64; W],
+    pub mask: [u64; W],
+    /// Id and action.
+    pub owner: u64,
+    pub rank: u64,
+}
+
+impl<const W: usize> Record<W> {
+    pub const WORDS: usize = 2 * W + 2;
+    pub const EMPTY: Record<W> = Record { value: [0; W], mask: [0; W], owner: 0, rank: 0 };
+
+    /// Check 1: the slots of a table of so many words.
+    fn slots(words: usize) -> Result<usize, Refusal> {
+        let slots = words / Self::WORDS;
+        if words % Self::WORDS != 0 || slots < 1 || slots > SLOTS_MOST {
+            return refuse(SHAPE, 0);
+        }
+        Ok(slots)
+    }
+
+    /// Check 1: a table's records, which are its words and nothing else.
+    pub fn all(table: &[u64]) -> Result<&[Record<W>], Refusal> {
+        let slots = Self::slots(table.len())?;
+        Ok(unsafe { std::slice::from_raw_parts(table.as_ptr().cast(), slots) })
+    }
+
+    pub fn all_mut(table: &mut [u64]) -> Result<&mut [Record<W>], Refusal> {
+        let slots = Self::slots(table.len())?;
+        Ok(unsafe { std::slice::from_raw_parts_mut(table.as_mut_ptr().cast(), slots) })
+    }
+
+    /// Check 1 of a rule: the words of one record.
+    pub fn one(rule: &[u64]) -> Result<&Record<W>, Refusal> {
+        if rule.len() != Self::WORDS {
+            return refuse(SHAPE, 0);
+        }
+        Ok(unsafe { &*rule.as_ptr().cast() })
+    }
+}
+
+/// Check 1 of a key.
+pub fn key_of<const W: usize>(key: &[u64]) -> Result<&[u64; W], Refusal> {
+    key.try_into().or_else(|_| refuse(SHAPE, 0))
+}
 
 pub struct Hit {
     pub slot: u32,
@@ -29,10 +76,6 @@ pub struct Hit {
 pub struct Progress {
     pub done: u32,
     pub total: u32,
-}
-
-pub fn record_of(id: u32, priority: u32, value: [u64; 2], mask: [u64; 2], action: u32) -> Record {
-    [value[0], value[1], mask[0], mask[1], u64::from(id) << 32 | u64::from(action), u64::from(priority)]
 }
 
 /// # Safety
@@ -93,6 +136,18 @@ pub fn step_number(answer: Result<bool, Refusal>) -> u64 {
     }
 }
 
+/// A call at the width given, as a constant: the compiler makes a copy for each. Any other width is refused.
+#[macro_export]
+macro_rules! at_width {
+    ($width:expr, $module:ident::$call:ident($($given:expr),*)) => {
+        match $width {
+            2 => $module::$call::<2>($($given),*),
+            5 => $module::$call::<5>($($given),*),
+            _ => refuse(SHAPE, 0),
+        }
+    };
+}
+
 /// The seven calls under the names given, with the signatures of include/tcam.h.
 #[macro_export]
 macro_rules! export_calls {
@@ -101,91 +156,99 @@ macro_rules! export_calls {
         unsafe extern "C" fn $lookup(
             table: *const u64,
             words: usize,
-            key_high: u64,
-            key_low: u64,
+            width: u32,
+            key: *const u64,
+            key_words: usize,
             slot: &mut u32,
             id: &mut u32,
             action: &mut u32,
             spot: &mut u32,
         ) -> u32 {
-            spread_hit(lookups::lookup(lent(table, words), [key_high, key_low]), slot, id, action, spot)
+            let (table, key) = (lent(table, words), lent(key, key_words));
+            spread_hit($crate::at_width!(width, lookups::lookup(table, key)), slot, id, action, spot)
         }
 
         #[no_mangle]
-        unsafe extern "C" fn $slot_record(table: *const u64, words: usize, slot: u32, first: &mut u32) -> u32 {
-            let part = lookups::slot_record(lent(table, words), slot as usize);
-            *first = if part.is_empty() { 0 } else { slot * 6 };
-            part.len() as u32
+        unsafe extern "C" fn $slot_record(table: *const u64, words: usize, width: u32, slot: u32, first: &mut u32) -> u32 {
+            let table = lent(table, words);
+            let held = $crate::at_width!(width, lookups::holds_rule(table, slot as usize));
+            let record_words = if held.unwrap_or(false) { 2 * width + 2 } else { 0 };
+            *first = slot.wrapping_mul(record_words);
+            record_words
         }
 
         #[no_mangle]
         unsafe extern "C" fn $plan_insert(
             table: *const u64,
             words: usize,
-            id: u32,
-            priority: u32,
-            value_high: u64,
-            value_low: u64,
-            mask_high: u64,
-            mask_low: u64,
-            action: u32,
+            width: u32,
+            rule: *const u64,
+            rule_words: usize,
             plan: *mut u32,
             plan_words: usize,
             count: &mut u32,
             spot: &mut u32,
         ) -> u32 {
-            let new = record_of(id, priority, [value_high, value_low], [mask_high, mask_low], action);
-            spread(plans::plan_insert(lent(table, words), &new, lent_mut(plan, plan_words)), count, spot)
+            let (table, rule, plan) = (lent(table, words), lent(rule, rule_words), lent_mut(plan, plan_words));
+            spread($crate::at_width!(width, plans::plan_insert(table, rule, plan)), count, spot)
         }
 
         #[no_mangle]
         unsafe extern "C" fn $plan_delete(
             table: *const u64,
             words: usize,
+            width: u32,
             id: u32,
             plan: *mut u32,
             plan_words: usize,
             count: &mut u32,
             spot: &mut u32,
         ) -> u32 {
-            spread(plans::plan_delete(lent(table, words), id, lent_mut(plan, plan_words)), count, spot)
+            let (table, plan) = (lent(table, words), lent_mut(plan, plan_words));
+            spread($crate::at_width!(width, plans::plan_delete(table, id, plan)), count, spot)
         }
 
         #[no_mangle]
         unsafe extern "C" fn $carry_out(
             table: *mut u64,
             words: usize,
+            width: u32,
+            rule: *const u64,
+            rule_words: usize,
             plan: *const u32,
             plan_words: usize,
-            id: u32,
-            priority: u32,
-            value_high: u64,
-            value_low: u64,
-            mask_high: u64,
-            mask_low: u64,
-            action: u32,
             progress: &mut Progress,
         ) -> u64 {
-            let new = record_of(id, priority, [value_high, value_low], [mask_high, mask_low], action);
-            step_number(steps::carry_out(lent_mut(table, words), lent(plan, plan_words), &new, progress))
+            let (table, rule, plan) = (lent_mut(table, words), lent(rule, rule_words), lent(plan, plan_words));
+            step_number($crate::at_width!(width, steps::carry_out(table, rule, plan, progress)))
         }
 
         #[no_mangle]
         unsafe extern "C" fn $save(
             table: *const u64,
             words: usize,
+            width: u32,
             image: *mut u8,
             image_bytes: usize,
             bytes: &mut u32,
             spot: &mut u32,
         ) -> u32 {
-            spread(images::save(lent(table, words), lent_mut(image, image_bytes)), bytes, spot)
+            let (table, image) = (lent(table, words), lent_mut(image, image_bytes));
+            spread($crate::at_width!(width, images::save(table, image)), bytes, spot)
         }
 
         #[no_mangle]
-        unsafe extern "C" fn $load(image: *const u8, image_bytes: usize, table: *mut u64, words: usize, spot: &mut u32) -> u32 {
+        unsafe extern "C" fn $load(
+            image: *const u8,
+            image_bytes: usize,
+            table: *mut u64,
+            words: usize,
+            width: u32,
+            spot: &mut u32,
+        ) -> u32 {
+            let (image, table) = (lent(image, image_bytes), lent_mut(table, words));
             let mut loaded = 0;
-            spread(images::load(lent(image, image_bytes), lent_mut(table, words)).map(|()| 0), &mut loaded, spot)
+            spread($crate::at_width!(width, images::load(image, table)).map(|()| 0), &mut loaded, spot)
         }
     };
 }

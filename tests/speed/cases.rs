@@ -6,6 +6,8 @@ use crate::inputs::{inputs_of, perform, Input, Lent};
 use crate::tables::{every_kind, make, Kind};
 use crate::versions::{versions, Call, OURS, SAFE};
 use crate::{SIZES, SMALL_SIZES};
+use reference::bits::WIDTHS;
+use reference::table::record_words;
 use std::hint::black_box;
 
 /// What a case measures: a call that is accepted, or a planned insert that ends early.
@@ -26,6 +28,7 @@ pub enum Measured {
 
 #[derive(Clone, Copy, Debug, PartialEq, Eq, PartialOrd, Ord)]
 pub struct Case {
+    pub width: usize,
     pub slots: usize,
     pub kind: Kind,
     pub measured: Measured,
@@ -42,42 +45,49 @@ pub const PAIR_CALLS: [Call; 4] = [Call::PlanInsert, Call::PlanDelete, Call::Sav
 pub const DRAWN_KIND: Kind = Kind::Sparse;
 
 pub fn for_each_case(mut visit: impl FnMut(Case, &Input)) {
-    for slots in SIZES {
-        for kind in every_kind() {
-            let inputs = inputs_of(&make(kind, slots));
-            for input in &inputs {
-                for version in 0..versions().len() {
-                    visit(Case { slots, kind, measured: Measured::Whole(input.call), version }, input);
+    for width in WIDTHS {
+        for slots in SIZES {
+            for kind in every_kind(width) {
+                let inputs = inputs_of(&make(kind, width, slots));
+                for input in &inputs {
+                    for version in 0..versions().len() {
+                        visit(Case { width, slots, kind, measured: Measured::Whole(input.call), version }, input);
+                    }
+                }
+                if slots == SIZES[SIZES.len() - 1] {
+                    for_each_part(kind, slots, &inputs[0], &mut visit);
                 }
             }
-            if slots == SIZES[SIZES.len() - 1] {
-                for (measured, input) in parts(kind, &inputs[0]) {
-                    for version in PARTS_VERSIONS {
-                        visit(Case { slots, kind, measured, version }, &input);
-                    }
+        }
+        for_each_small(width, &mut visit);
+    }
+}
+
+fn for_each_small(width: usize, visit: &mut impl FnMut(Case, &Input)) {
+    for slots in SMALL_SIZES {
+        for kind in SMALL_KINDS {
+            for input in inputs_of(&make(kind, width, slots)).iter().filter(|input| PAIR_CALLS.contains(&input.call)) {
+                for version in PARTS_VERSIONS {
+                    visit(Case { width, slots, kind, measured: Measured::Whole(input.call), version }, input);
                 }
             }
         }
     }
-    for_each_small(visit);
 }
 
-fn for_each_small(mut visit: impl FnMut(Case, &Input)) {
-    for slots in SMALL_SIZES {
-        for kind in SMALL_KINDS {
-            for input in inputs_of(&make(kind, slots)).iter().filter(|input| PAIR_CALLS.contains(&input.call)) {
-                for version in PARTS_VERSIONS {
-                    visit(Case { slots, kind, measured: Measured::Whole(input.call), version }, input);
-                }
-            }
+fn for_each_part(kind: Kind, slots: usize, plan: &Input, visit: &mut impl FnMut(Case, &Input)) {
+    for (measured, input) in parts(kind, plan) {
+        for version in PARTS_VERSIONS {
+            visit(Case { width: plan.width, slots, kind, measured, version }, &input);
         }
     }
 }
 
 fn parts(kind: Kind, plan: &Input) -> Vec<(Measured, Input)> {
-    let twice = |table: Vec<u64>| Input { table: repeat_first(table), ..plan.clone() };
+    let width = plan.width;
+    let twice = |table: Vec<u64>| Input { table: repeat_first(table, width), ..plan.clone() };
     let mut order = plan.clone();
-    order.rule.id = 0;
+    order.rule[2 * width] &= 0xffff_ffff;
     let mut parts = vec![
         (Measured::Records, Input { call: Call::SlotRecord, slot: u32::MAX, ..plan.clone() }),
         (Measured::Ids, twice(plan.table.clone())),
@@ -85,7 +95,7 @@ fn parts(kind: Kind, plan: &Input) -> Vec<(Measured, Input)> {
         (Measured::Short, Input { room: 0, ..plan.clone() }),
     ];
     if kind == DRAWN_KIND {
-        parts.extend(DRAWS.map(|way| (Measured::IdsDrawn(way), twice(draw(way, &plan.table)))));
+        parts.extend(DRAWS.map(|way| (Measured::IdsDrawn(way), twice(draw(way, &plan.table, width)))));
     }
     parts
 }
@@ -105,7 +115,7 @@ pub fn make_calls() {
         let mut lent = Lent::new(input);
         let result = made_call(perform(&versions[case.version], input, &mut lent));
         let expected = match case.measured {
-            Measured::Whole(Call::SlotRecord) => 6,
+            Measured::Whole(Call::SlotRecord) => record_words(case.width) as u64,
             Measured::Whole(_) | Measured::Records => 0,
             Measured::Ids | Measured::IdsDrawn(_) => 3,
             Measured::Order => 5,

@@ -2,78 +2,107 @@
 // An edit changes one or two things; many inputs stay accepted.
 
 use crate::inputs::{occupied_slots, Input};
+use reference::image::{body_offset, image_bytes};
+use reference::table::record_words;
 use support::random::Random;
+
+/// Widths that are given: those that tables have, and others.
+const WIDTHS_GIVEN: [u32; 10] = [2, 5, 2, 5, 0, 1, 3, 4, 6, u32::MAX];
 
 pub fn edit(input: &Input, random: &mut Random) -> Input {
     let mut edited = input.clone();
     for _ in 0..random.between(1, 2) {
-        match random.below(12) {
-            0..=2 => edit_table(&mut edited.table, random),
+        match random.below(13) {
+            0..=2 => edit_table(&mut edited.table, edited.width, random),
             3 | 4 => edit_rule(&mut edited, random),
             5 => edit_key(&mut edited, random),
             6 => edited.room = random.below(edited.room + 1) * random.below(2),
             7 => edit_id(&mut edited, random),
             8 | 9 => edit_plan(&mut edited, random),
-            _ => edit_image(&mut edited.image, random),
+            10 | 11 => edit_image(&mut edited.image, edited.width, random),
+            _ => edit_shape(&mut edited, random),
         }
     }
     edited
 }
 
-fn edit_table(table: &mut Vec<u64>, random: &mut Random) {
-    let slots = table.len() / 6;
+/// Another width given, or another number of words of a rule or a key.
+fn edit_shape(input: &mut Input, random: &mut Random) {
+    match random.below(3) {
+        0 => input.given = random.pick(&WIDTHS_GIVEN),
+        1 => input.rule.resize(random.below(14), 0),
+        _ => input.key.resize(random.below(7), 0),
+    }
+}
+
+fn edit_table(table: &mut Vec<u64>, width: usize, random: &mut Random) {
+    let words = record_words(width);
+    let slots = table.len() / words;
     if slots == 0 {
         return;
     }
     let (one, other) = (random.below(slots), random.below(slots));
     match random.below(6) {
-        0 => table[random.below(6 * slots)] = random.any_word(),
-        1 => table.copy_within(6 * one..6 * one + 6, 6 * other),
-        2 => (0..6).for_each(|word| table.swap(6 * one + word, 6 * other + word)),
-        3 => copy_pattern(table, one, other),
+        0 => table[random.below(words * slots)] = random.any_word(),
+        1 => table.copy_within(words * one..words * (one + 1), words * other),
+        2 => (0..words).for_each(|word| table.swap(words * one + word, words * other + word)),
+        3 => copy_pattern(table, width, one, other),
         4 => table.truncate(random.below(table.len())),
-        _ => fill_empty_slots(table),
+        _ => fill_empty_slots(table, width),
     }
 }
 
 /// The other slot gets the one's words, but an id of its own.
-fn copy_pattern(table: &mut [u64], one: usize, other: usize) {
-    let id = table[6 * other + 4];
-    table.copy_within(6 * one..6 * one + 6, 6 * other);
-    table[6 * other + 4] = id;
+fn copy_pattern(table: &mut [u64], width: usize, one: usize, other: usize) {
+    let words = record_words(width);
+    let owner = table[words * other + 2 * width];
+    table.copy_within(words * one..words * (one + 1), words * other);
+    table[words * other + 2 * width] = owner;
 }
 
 /// Puts a rule of the lowest priority, apart from the others where they care for the second word, into each empty slot.
-fn fill_empty_slots(table: &mut [u64]) {
-    let occupied = occupied_slots(table);
-    for slot in (0..table.len() / 6).filter(|slot| !occupied.contains(slot)) {
-        let record = [u64::MAX, slot as u64, u64::MAX, u64::MAX, (slot as u64 + 1) << 32, 0];
-        table[6 * slot..6 * slot + 6].copy_from_slice(&record);
+fn fill_empty_slots(table: &mut [u64], width: usize) {
+    let occupied = occupied_slots(table, width);
+    for (slot, record) in table.chunks_exact_mut(record_words(width)).enumerate() {
+        if !occupied.contains(&slot) {
+            record[..2 * width].fill(u64::MAX);
+            record[1] = slot as u64;
+            record[2 * width] = (slot as u64 + 1) << 32;
+        }
     }
 }
 
 fn edit_rule(input: &mut Input, random: &mut Random) {
-    let occupied = occupied_slots(&input.table);
-    let rule = &mut input.rule;
+    let width = input.width;
+    if input.rule.len() != record_words(width) {
+        return;
+    }
+    let occupied = occupied_slots(&input.table, width);
+    let (owner, rank) = (2 * width, 2 * width + 1);
     match random.below(6) {
-        0 => rule.id = 0,
-        1 => rule.priority = 65_535 + random.below(3) as u64,
-        2 => rule.value |= 1 << random.below(128),
+        0 => input.rule[owner] &= 0xffff_ffff,
+        1 => input.rule[rank] = random.pick(&[65_535, 65_536, 65_537, 1 << 32, u64::MAX]),
+        2 => input.rule[random.below(width)] |= 1 << random.below(64),
         3 | 4 if !occupied.is_empty() => {
-            let record = reference::table::rule_of(&input.table[6 * random.pick(&occupied)..][..6]);
-            (rule.value, rule.mask, rule.priority) = (record.value, record.mask, record.priority);
-            if random.one_in(3) {
-                rule.id = record.id;
+            let record = &input.table[record_words(width) * random.pick(&occupied)..][..record_words(width)];
+            let own = input.rule[owner];
+            input.rule.copy_from_slice(record);
+            if !random.one_in(3) {
+                input.rule[owner] = own;
             }
-            rule.priority = (rule.priority + random.below(2) as u64) & 0xffff_ffff;
+            input.rule[rank] = (input.rule[rank] + random.below(2) as u64) & 0xffff_ffff;
         }
-        _ => (rule.value, rule.mask, rule.priority) = (0, 0, random.below(65_536) as u64),
+        _ => {
+            input.rule[..owner].fill(0);
+            input.rule[rank] = random.below(65_536) as u64;
+        }
     }
 }
 
 fn edit_key(input: &mut Input, random: &mut Random) {
-    input.key = random.wide();
-    input.slot = if random.one_in(4) { u32::MAX } else { random.below(input.table.len() / 6 + 2) as u32 };
+    input.key.iter_mut().for_each(|word| *word = random.word());
+    let slots = input.table.len() / record_words(input.width);
+    input.slot = if random.one_in(4) { u32::MAX } else { random.below(slots + 2) as u32 };
 }
 
 fn edit_id(input: &mut Input, random: &mut Random) {
@@ -81,7 +110,7 @@ fn edit_id(input: &mut Input, random: &mut Random) {
 }
 
 fn edit_plan(input: &mut Input, random: &mut Random) {
-    let slots = input.table.len() / 6 + 1;
+    let slots = input.table.len() / record_words(input.width) + 1;
     match random.below(5) {
         0 => input.total = input.done,
         1 => input.done = input.total + random.below(2) as u32,
@@ -95,11 +124,11 @@ fn edit_plan(input: &mut Input, random: &mut Random) {
     }
 }
 
-fn edit_image(image: &mut Vec<u8>, random: &mut Random) {
+fn edit_image(image: &mut Vec<u8>, width: usize, random: &mut Random) {
     if image.len() < 4 {
         return;
     }
-    let rules = (image.len() - 4) / 50;
+    let rules = (image.len() - 4) / (image_bytes(width, 1) - 4);
     match random.below(5) {
         0 => image.truncate(random.below(image.len())),
         1 => image.push(0),
@@ -109,8 +138,8 @@ fn edit_image(image: &mut Vec<u8>, random: &mut Random) {
         }
         3 if rules > 0 => {
             let (one, other) = (random.below(rules), random.below(rules));
-            let bodies = 4 + 10 * rules;
-            image.copy_within(bodies + 40 * one..bodies + 40 * one + 40, bodies + 40 * other);
+            let body = |place: usize| body_offset(width, rules, place);
+            image.copy_within(body(one)..body(one + 1), body(other));
         }
         _ => {
             let place = random.below(image.len());

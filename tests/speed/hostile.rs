@@ -1,57 +1,80 @@
 // The patterns of the tables made to be hostile to the pass over the pairs, and their new rules.
 // What costs the pass time: pairs that the maps don't tell apart, and blocks whose lowest priority says nothing.
 
-use crate::tables::{falling, Kind, DENSE_BITS};
+use crate::tables::{dense_mask, drawn, falling, from_last, Kind, Size};
+use reference::bits::Bits;
 use support::random::Random;
 
 /// Value of all bits wanted, mask, and priority.
-pub type Pattern = (u128, u128, u64);
+pub type Pattern = (Bits, Bits, u64);
+
+const LOWER: u64 = 30_000;
+/// One-hot rules: so many chains, at places that are spread over all words.
+const CHAINS: usize = 128;
+/// The words in turn of what the sampled slots have.
+const ALIKE: [u64; 2] = [0x6b8b_4567_327b_23c6, 0x643c_9869_6633_4873];
 
 /// The bit that tells the two groups apart: 1 in the one with the high priorities.
-const GROUP: u128 = 1 << 127;
-const LOWER: u64 = 30_000;
-/// What the sampled slots have.
-const ALIKE: u128 = 0x6b8b_4567_327b_23c6_643c_9869_6633_4873;
+fn group() -> Bits {
+    Bits::at(0)
+}
+
+fn alike(width: usize) -> Bits {
+    let words: Vec<u64> = ALIKE.into_iter().cycle().take(width).collect();
+    Bits::of_words(&words)
+}
+
+/// How many bits a rule of the last table but two cares for: such that as many pairs overlap at either width.
+fn more_bits(width: usize) -> usize {
+    if width == 2 {
+        12
+    } else {
+        19
+    }
+}
 
 /// How far apart the slots are that the choice of places looks at.
 pub fn sample_step(slots: usize) -> usize {
     slots / 32 + 1
 }
 
-pub fn pattern(kind: Kind, slots: usize, slot: usize, random: &mut Random) -> Pattern {
+pub fn pattern(kind: Kind, (width, slots): Size, slot: usize, random: &mut Random) -> Pattern {
     match kind {
-        Kind::TwoGroups => of_group(slot % 2 == 0, slot, random),
-        Kind::LowInBlocks => of_group(slot % 64 != 0, slot, random),
-        Kind::OneHot => (GROUP >> (slot % 128), u128::MAX, falling(slot)),
-        Kind::TwoBits => (random.wide(), some_bits(2, random), falling(slot)),
-        Kind::TwelveBits => (random.wide(), some_bits(12, random), falling(slot)),
-        _ if slot % sample_step(slots) == 0 => (ALIKE, u128::MAX, falling(slot)),
-        _ => (random.wide(), random.wide(), falling(slot)),
+        Kind::TwoGroups => of_group(slot % 2 == 0, width, slot, random),
+        Kind::LowInBlocks => of_group(slot % 64 != 0, width, slot, random),
+        Kind::OneHot => (Bits::at(slot % CHAINS * width / 2), Bits::all(width), falling(slot)),
+        Kind::TwoBits => (drawn(width, random), some_bits(2, width, random), falling(slot)),
+        Kind::MoreBits => (drawn(width, random), some_bits(more_bits(width), width, random), falling(slot)),
+        _ if slot % sample_step(slots) == 0 => (alike(width), Bits::all(width), falling(slot)),
+        _ => (drawn(width, random), drawn(width, random), falling(slot)),
     }
 }
 
-fn of_group(high: bool, slot: usize, random: &mut Random) -> Pattern {
-    let mask = GROUP | 1 << random.below(DENSE_BITS);
+fn of_group(high: bool, width: usize, slot: usize, random: &mut Random) -> Pattern {
+    let mask = group() | dense_mask(width, random);
     if high {
-        return (random.wide() | GROUP, mask, falling(slot));
+        return (drawn(width, random) | group(), mask, falling(slot));
     }
-    (random.wide() & !GROUP, mask, falling(slot) - LOWER)
+    (drawn(width, random) & !group(), mask, falling(slot) - LOWER)
 }
 
-fn some_bits(count: u32, random: &mut Random) -> u128 {
-    let mut mask: u128 = 0;
-    while mask.count_ones() < count {
-        mask |= 1 << random.below(128);
+fn some_bits(count: usize, width: usize, random: &mut Random) -> Bits {
+    let mut mask = Bits::NONE;
+    let mut left = count;
+    while left > 0 {
+        let bit = from_last(width, random.below(64 * width));
+        left -= usize::from((mask & bit).is_none());
+        mask |= bit;
     }
     mask
 }
 
 /// A rule that belongs where the empty slot is.
-pub fn new_pattern(kind: Kind, slots: usize, random: &mut Random) -> Pattern {
+pub fn new_pattern(kind: Kind, (width, slots): Size, random: &mut Random) -> Pattern {
     let here = falling(slots / 2) + 1;
     match kind {
-        Kind::TwoGroups | Kind::LowInBlocks => (GROUP, GROUP, here),
-        Kind::TwoBits | Kind::TwelveBits => (0, 0, here),
-        _ => (random.wide(), u128::MAX, here),
+        Kind::TwoGroups | Kind::LowInBlocks => (group(), group(), here),
+        Kind::TwoBits | Kind::MoreBits => (Bits::NONE, Bits::NONE, here),
+        _ => (drawn(width, random), Bits::all(width), here),
     }
 }

@@ -1,6 +1,7 @@
 // Ids of a table drawn in several ways, for check 3, which compares ids only where their last 13 bits are alike.
 
 use crate::inputs::occupied_slots;
+use reference::table::record_words;
 use support::random::Random;
 
 #[derive(Clone, Copy, Debug, PartialEq, Eq, PartialOrd, Ord)]
@@ -36,11 +37,11 @@ pub fn id_of_place(place: usize) -> u32 {
 }
 
 /// A table with other ids, all different.
-pub fn draw(way: Draw, table: &[u64]) -> Vec<u64> {
+pub fn draw(way: Draw, table: &[u64], width: usize) -> Vec<u64> {
     let mut drawn = table.to_vec();
     let mut random = Random::new(SEED, way as u64);
     let mut taken = Vec::new();
-    for slot in occupied_slots(table) {
+    for slot in occupied_slots(table, width) {
         let id = loop {
             let id = match way {
                 Draw::Rising => slot as u32 + 1,
@@ -53,20 +54,24 @@ pub fn draw(way: Draw, table: &[u64]) -> Vec<u64> {
             }
         };
         taken.push(id);
-        put_id(&mut drawn, slot, id);
+        put_id(&mut drawn, width, slot, id);
     }
     drawn
 }
 
-fn put_id(table: &mut [u64], slot: usize, id: u32) {
-    let word = &mut table[6 * slot + 4];
+fn owner(width: usize, slot: usize) -> usize {
+    record_words(width) * slot + 2 * width
+}
+
+fn put_id(table: &mut [u64], width: usize, slot: usize, id: u32) {
+    let word = &mut table[owner(width, slot)];
     *word = u64::from(id) << 32 | *word & 0xffff_ffff;
 }
 
 /// The table with the first rule's id in the last rule too: check 3 has then asked all slots.
-pub fn repeat_first(mut table: Vec<u64>) -> Vec<u64> {
-    let occupied = occupied_slots(&table);
-    let first = (table[6 * occupied[0] + 4] >> 32) as u32;
-    put_id(&mut table, occupied[occupied.len() - 1], first);
+pub fn repeat_first(mut table: Vec<u64>, width: usize) -> Vec<u64> {
+    let occupied = occupied_slots(&table, width);
+    let first = (table[owner(width, occupied[0])] >> 32) as u32;
+    put_id(&mut table, width, occupied[occupied.len() - 1], first);
     table
 }

@@ -1,21 +1,26 @@
 // What one call is given, and the buffers and cells that it is lent.
 // An input has a field for everything that some call takes; each call reads its own.
 
+use crate::answers::Progress;
 use crate::tables::RuleTable;
 use crate::versions::{Call, Version, CALLS};
-use reference::image::save;
+use reference::image::{image_bytes, save};
 use reference::plan::plan_insert;
-use reference::table::{rule_of, Rule};
-use support::calls::{halves, ProgressRecord};
+use reference::table::record_words;
 
 #[derive(Clone, Debug)]
 pub struct Input {
     pub call: Call,
+    /// The width at which the table is made.
+    pub width: usize,
+    /// The width that is given.
+    pub given: u32,
     pub table: Vec<u64>,
-    pub key: u128,
+    pub key: Vec<u64>,
     pub slot: u32,
     pub id: u32,
-    pub rule: Rule,
+    /// A rule's record.
+    pub rule: Vec<u64>,
     /// Words of the plan buffer, or bytes of the image buffer, that the call may write.
     pub room: usize,
     pub plan: Vec<u32>,
@@ -60,107 +65,67 @@ impl Lent {
 
 /// Makes the call of a version and gives its result.
 pub fn perform(version: &Version, input: &Input, lent: &mut Lent) -> u64 {
-    let (table, words) = (lent.table.as_mut_ptr(), lent.table.len());
+    let (table, words, width) = (lent.table.as_mut_ptr(), lent.table.len(), input.given);
     let (plan, plan_words) = (lent.plan.as_mut_ptr(), lent.plan.len());
     let (image, image_bytes) = (lent.image.as_mut_ptr(), lent.image.len());
+    let (key, key_words) = (input.key.as_ptr(), input.key.len());
+    let (rule, rule_words) = (input.rule.as_ptr(), input.rule.len());
     let [first, second, third, fourth] = &mut lent.cells;
-    let (key_high, key_low) = halves(input.key);
     let number = unsafe {
         match input.call {
-            Call::Lookup => (version.lookup)(table, words, key_high, key_low, first, second, third, fourth),
-            Call::SlotRecord => (version.slot_record)(table, words, input.slot, first),
-            Call::PlanDelete => (version.plan_delete)(table, words, input.id, plan, plan_words, first, second),
-            Call::Save => (version.save)(table, words, image, image_bytes, first, second),
-            Call::Load => (version.load)(image, image_bytes, table, words, first),
-            Call::PlanInsert => return perform_plan_insert(version, input, lent),
+            Call::Lookup => (version.lookup)(table, words, width, key, key_words, first, second, third, fourth),
+            Call::SlotRecord => (version.slot_record)(table, words, width, input.slot, first),
+            Call::PlanInsert => (version.plan_insert)(table, words, width, rule, rule_words, plan, plan_words, first, second),
+            Call::PlanDelete => (version.plan_delete)(table, words, width, input.id, plan, plan_words, first, second),
+            Call::Save => (version.save)(table, words, width, image, image_bytes, first, second),
+            Call::Load => (version.load)(image, image_bytes, table, words, width, first),
             Call::CarryOut => return perform_carry_out(version, input, lent),
         }
     };
     u64::from(number)
 }
 
-fn perform_plan_insert(version: &Version, input: &Input, lent: &mut Lent) -> u64 {
-    let rule = &input.rule;
-    let (value_high, value_low) = halves(rule.value);
-    let (mask_high, mask_low) = halves(rule.mask);
-    let (plan, plan_words) = (lent.plan.as_mut_ptr(), lent.plan.len());
-    let [count, spot, ..] = &mut lent.cells;
-    let (table, words) = (lent.table.as_ptr(), lent.table.len());
-    let priority = rule.priority as u32;
-    let number = unsafe {
-        (version.plan_insert)(
-            table,
-            words,
-            rule.id,
-            priority,
-            value_high,
-            value_low,
-            mask_high,
-            mask_low,
-            rule.action,
-            plan,
-            plan_words,
-            count,
-            spot,
-        )
-    };
-    u64::from(number)
-}
-
 fn perform_carry_out(version: &Version, input: &Input, lent: &mut Lent) -> u64 {
-    let rule = &input.rule;
-    let (value_high, value_low) = halves(rule.value);
-    let (mask_high, mask_low) = halves(rule.mask);
-    let (plan, plan_words) = (lent.plan.as_ptr(), lent.plan.len());
-    let mut progress = ProgressRecord { done: lent.done, total: lent.total };
     let (table, words) = (lent.table.as_mut_ptr(), lent.table.len());
-    let priority = rule.priority as u32;
-    let number = unsafe {
-        (version.carry_out)(
-            table,
-            words,
-            plan,
-            plan_words,
-            rule.id,
-            priority,
-            value_high,
-            value_low,
-            mask_high,
-            mask_low,
-            rule.action,
-            &mut progress,
-        )
-    };
+    let (rule, rule_words) = (input.rule.as_ptr(), input.rule.len());
+    let (plan, plan_words) = (lent.plan.as_ptr(), lent.plan.len());
+    let mut progress = Progress { done: lent.done, total: lent.total };
+    let step = version.carry_out;
+    let number = unsafe { step(table, words, input.given, rule, rule_words, plan, plan_words, &mut progress) };
     lent.done = progress.done;
     lent.total = progress.total;
     number
 }
 
 /// The slots of a table that are not empty.
-pub fn occupied_slots(table: &[u64]) -> Vec<usize> {
-    (0..table.len() / 6).filter(|slot| table[6 * slot..6 * slot + 6].iter().any(|&word| word != 0)).collect()
+pub fn occupied_slots(table: &[u64], width: usize) -> Vec<usize> {
+    let records = table.chunks_exact(record_words(width)).enumerate();
+    records.filter(|(_, record)| record.iter().any(|&word| word != 0)).map(|(slot, _)| slot).collect()
 }
 
 /// The seven inputs of a table: the last rule's key, record and delete; the new rule's plan and its first write.
 /// The plan and the image are the reference's.
 pub fn inputs_of(table: &RuleTable) -> Vec<Input> {
-    let slots = table.words.len() / 6;
-    let slot = occupied_slots(&table.words).last().copied().unwrap_or(0);
-    let last = rule_of(&table.words[6 * slot..6 * slot + 6]);
-    let plan = plan_insert(&table.words, &table.new, slots).unwrap_or_default();
-    let total = plan.len() as u32;
-    let image = save(&table.words, 4 + 50 * slots).expect("a sound table");
+    let (width, words) = (table.width, &table.words);
+    let slots = words.len() / record_words(width);
+    let slot = occupied_slots(words, width).last().copied().unwrap_or(0);
+    let last = &words[slot * record_words(width)..][..record_words(width)];
+    let rule = table.new.record(width);
+    let plan = plan_insert(words, width, &rule, slots).unwrap_or_default();
+    let image = save(words, width, image_bytes(width, slots)).expect("a sound table");
     let input = |call: Call| Input {
         call,
-        table: table.words.clone(),
-        key: last.value,
+        width,
+        given: width as u32,
+        table: words.clone(),
+        key: last[..width].to_vec(),
         slot: slot as u32,
-        id: last.id,
-        rule: table.new,
+        id: (last[2 * width] >> 32) as u32,
+        rule: rule.clone(),
         room: if call == Call::Save { image.len() } else { slots },
         plan: plan.clone(),
         done: 0,
-        total,
+        total: plan.len() as u32,
         image: image.clone(),
     };
     CALLS.into_iter().map(input).collect()

@@ -4,6 +4,7 @@
 // the numbers of refusals are for the versions that make the checks themselves
 #[allow(dead_code, unused_imports)]
 mod answers;
+mod before;
 mod cases;
 mod edits;
 mod hostile;
@@ -14,6 +15,7 @@ mod properties;
 mod reference_calls;
 mod report;
 mod self_check;
+mod shapes;
 mod tables;
 mod targets;
 mod times;

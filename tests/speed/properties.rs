@@ -2,7 +2,7 @@
 // The self-check holds each table to it; the instruction counts are printed with it.
 
 use crate::hostile::sample_step;
-use crate::tables::{every_kind, make, Kind};
+use crate::tables::{every_kind, make, Kind, Size};
 use reference::plan::plan_insert;
 use reference::table::{read_sound_table, Rule, Slot};
 
@@ -10,32 +10,35 @@ pub struct Properties {
     pub rules: usize,
     pub pairs: usize,
     pub overlapping: usize,
-    pub apart_by_first_word: usize,
+    /// For each word the pairs that it tells apart and no word before it does.
+    pub apart_by_word: Vec<usize>,
     pub falling: bool,
     /// Whether the slots that the choice of places looks at have one pattern.
     pub sampled_alike: bool,
     pub writes: usize,
 }
 
-pub fn properties(kind: Kind, slots: usize) -> Properties {
-    let table = make(kind, slots);
-    let entries = read_sound_table(&table.words).expect("a sound table");
+pub fn properties(kind: Kind, (width, slots): Size) -> Properties {
+    let table = make(kind, width, slots);
+    let entries = read_sound_table(&table.words, width).expect("a sound table");
     let sampled_alike = are_sampled_alike(&entries);
     let rules: Vec<Rule> = entries.into_iter().flatten().collect();
     let mut counted = Properties {
         rules: rules.len(),
         pairs: rules.len() * (rules.len() - 1) / 2,
         overlapping: 0,
-        apart_by_first_word: 0,
+        apart_by_word: vec![0; width],
         falling: rules.windows(2).all(|pair| pair[0].priority > pair[1].priority),
         sampled_alike,
-        writes: plan_insert(&table.words, &table.new, slots).map_or(0, |plan| plan.len()),
+        writes: plan_insert(&table.words, width, &table.new.record(width), slots).map_or(0, |plan| plan.len()),
     };
     for (place, rule) in rules.iter().enumerate() {
         for earlier in &rules[..place] {
             let apart = (earlier.value ^ rule.value) & earlier.mask & rule.mask;
-            counted.overlapping += usize::from(apart == 0);
-            counted.apart_by_first_word += usize::from(apart >> 64 != 0);
+            match apart.words(width).iter().position(|&word| word != 0) {
+                Some(word) => counted.apart_by_word[word] += 1,
+                None => counted.overlapping += 1,
+            }
         }
     }
     counted
@@ -47,10 +50,11 @@ fn are_sampled_alike(entries: &[Slot]) -> bool {
 }
 
 /// Whether a table is what its kind says.
-pub fn hold(kind: Kind, slots: usize) -> bool {
-    let counted = properties(kind, slots);
+pub fn hold(kind: Kind, (width, slots): Size) -> bool {
+    let counted = properties(kind, (width, slots));
     let share = |count: usize| count as f64 / counted.pairs as f64;
-    let (overlapping, apart) = (share(counted.overlapping), share(counted.apart_by_first_word));
+    let (overlapping, apart) = (share(counted.overlapping), share(counted.apart_by_word[0]));
+    let all_apart_by = |word: usize| counted.apart_by_word[word] == counted.pairs;
     let of_kind = match kind {
         Kind::Sparse | Kind::HalfEmpty => overlapping < 0.001 && apart > 0.99 && !counted.falling,
         Kind::Sorted => overlapping < 0.001 && apart > 0.99 && counted.falling,
@@ -58,31 +62,32 @@ pub fn hold(kind: Kind, slots: usize) -> bool {
         Kind::DenseDown | Kind::DenseUp => overlapping > 0.99 && counted.falling && 10 * counted.writes > 8 * slots,
         Kind::Prefixes => counted.overlapping > 0 && overlapping < 0.01 && apart > 0.99,
         Kind::Undecided => counted.overlapping == 0 && apart > 0.45 && apart < 0.55 && !counted.falling,
-        Kind::SecondWord => counted.overlapping == 0 && counted.apart_by_first_word == 0 && !counted.falling,
+        Kind::SecondWord => all_apart_by(1) && !counted.falling,
+        Kind::LastWord => all_apart_by(width - 1) && !counted.falling,
         Kind::TwoGroups => overlapping > 0.45 && overlapping < 0.55 && !counted.falling,
         Kind::LowInBlocks => overlapping > 0.95 && !counted.falling,
         Kind::OneHot => counted.overlapping > 0 && overlapping < 0.01 && counted.falling,
         Kind::TwoBits => overlapping > 0.95 && counted.falling,
-        Kind::TwelveBits => overlapping > 0.4 && overlapping < 0.7 && counted.falling,
+        Kind::MoreBits => overlapping > 0.4 && overlapping < 0.7 && counted.falling,
         Kind::Unsampled => overlapping < 0.02 && counted.sampled_alike && counted.falling,
     };
     let rules = if kind == Kind::HalfEmpty { slots / 2 } else { slots - 1 };
     of_kind && counted.rules == rules && counted.writes > 0
 }
 
-pub fn print(slots: usize) {
+pub fn print((width, slots): Size) {
     println!("### The tables, {slots} slots\n");
     println!("| Table | rules | pairs | of them overlapping | apart by the first word | writes of the plan |");
     println!("|---|---|---|---|---|---|");
-    for kind in every_kind() {
-        let counted = properties(kind, slots);
+    for kind in every_kind(width) {
+        let counted = properties(kind, (width, slots));
         println!(
             "| {} | {} | {} | {} | {} | {} |",
-            kind.name(),
+            kind.name(width),
             counted.rules,
             counted.pairs,
             counted.overlapping,
-            counted.apart_by_first_word,
+            counted.apart_by_word[0],
             counted.writes
         );
     }

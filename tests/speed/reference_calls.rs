@@ -18,41 +18,43 @@ fn copied<T: Copy>(answer: Result<Vec<T>, reference::table::Refusal>, buffer: &m
 mod lookups {
     use super::{narrow, Hit, Refusal};
     use reference::lookup::Found;
-    use reference::table::number_of;
 
-    pub fn lookup(table: &[u64], key: [u64; 2]) -> Result<Option<Hit>, Refusal> {
-        match reference::lookup::lookup(table, number_of(key[0], key[1])).map_err(narrow)? {
+    pub fn lookup<const W: usize>(table: &[u64], key: &[u64]) -> Result<Option<Hit>, Refusal> {
+        match reference::lookup::lookup(table, W, key).map_err(narrow)? {
             Found::Hit { slot, id, action } => Ok(Some(Hit { slot: slot as u32, id, action })),
             Found::Miss => Ok(None),
         }
     }
 
-    pub fn slot_record(table: &[u64], slot: usize) -> &[u64] {
-        &table[reference::lookup::slot_record(table, slot as u64)]
+    pub fn holds_rule<const W: usize>(table: &[u64], slot: usize) -> Result<bool, Refusal> {
+        Ok(!reference::lookup::slot_record(table, W, slot as u64).is_empty())
     }
 }
 
 mod plans {
-    use super::{copied, Record, Refusal};
-    use reference::table::rule_of;
+    use super::{copied, Refusal};
 
-    pub fn plan_insert(table: &[u64], new: &Record, plan: &mut [u32]) -> Result<u32, Refusal> {
-        copied(reference::plan::plan_insert(table, &rule_of(new), plan.len()), plan)
+    pub fn plan_insert<const W: usize>(table: &[u64], rule: &[u64], plan: &mut [u32]) -> Result<u32, Refusal> {
+        copied(reference::plan::plan_insert(table, W, rule, plan.len()), plan)
     }
 
-    pub fn plan_delete(table: &[u64], id: u32, plan: &mut [u32]) -> Result<u32, Refusal> {
-        copied(reference::plan::plan_delete(table, id, plan.len()), plan)
+    pub fn plan_delete<const W: usize>(table: &[u64], id: u32, plan: &mut [u32]) -> Result<u32, Refusal> {
+        copied(reference::plan::plan_delete(table, W, id, plan.len()), plan)
     }
 }
 
 mod steps {
-    use super::{narrow, Progress, Record, Refusal};
+    use super::{narrow, Progress, Refusal};
     use reference::carry::Carried;
-    use reference::table::rule_of;
 
-    pub fn carry_out(table: &mut [u64], plan: &[u32], new: &Record, progress: &mut Progress) -> Result<bool, Refusal> {
+    pub fn carry_out<const W: usize>(
+        table: &mut [u64],
+        rule: &[u64],
+        plan: &[u32],
+        progress: &mut Progress,
+    ) -> Result<bool, Refusal> {
         let mut record = reference::carry::Progress { done: progress.done, total: progress.total };
-        let carried = reference::carry::carry_out(table, plan, &rule_of(new), &mut record).map_err(narrow)?;
+        let carried = reference::carry::carry_out(table, W, rule, plan, &mut record).map_err(narrow)?;
         progress.done = record.done;
         Ok(carried == Carried::Wrote)
     }
@@ -61,12 +63,12 @@ mod steps {
 mod images {
     use super::{copied, Refusal};
 
-    pub fn save(table: &[u64], image: &mut [u8]) -> Result<u32, Refusal> {
-        copied(reference::image::save(table, image.len()), image)
+    pub fn save<const W: usize>(table: &[u64], image: &mut [u8]) -> Result<u32, Refusal> {
+        copied(reference::image::save(table, W, image.len()), image)
     }
 
-    pub fn load(image: &[u8], table: &mut [u64]) -> Result<(), Refusal> {
-        copied(reference::image::load(image, table.len()), table).map(|_| ())
+    pub fn load<const W: usize>(image: &[u8], table: &mut [u64]) -> Result<(), Refusal> {
+        copied(reference::image::load(image, table.len(), W), table).map(|_| ())
     }
 }
 

@@ -2,14 +2,16 @@
 // target met or missed.
 // A ratio is ours divided by the other version's count at the largest size; growth is the larger of the two doublings.
 
+use crate::before;
 use crate::cases::{Case, Measured, DRAWN_KIND, PAIR_CALLS, SMALL_KINDS};
 use crate::ids::DRAWS;
 use crate::instructions::{Counts, Functions};
 use crate::properties;
-use crate::tables::{every_kind, Kind, HOSTILE, KINDS};
+use crate::tables::{every_kind, kinds, Kind, HOSTILE};
 use crate::targets::{self, Target};
 use crate::versions::{Call, CALLS, GCC, OURS, REFERENCE, SAFE, UNCHECKED};
 use crate::{SIZES, SMALL_SIZES};
+use reference::bits::WIDTHS;
 use std::collections::BTreeSet;
 
 pub const LARGEST: usize = SIZES[SIZES.len() - 1];
@@ -17,35 +19,64 @@ pub const LARGEST: usize = SIZES[SIZES.len() - 1];
 const OTHERS: [usize; 4] = [SAFE, GCC, UNCHECKED, REFERENCE];
 const OTHERS_HEAD: &str = "/ safe Rust | / gcc -O3 | / unchecked Rust | / reference";
 
-/// The count of an accepted call.
-pub fn count(counts: &Counts, slots: usize, kind: Kind, call: Call, version: usize) -> f64 {
-    counts[&Case { slots, kind, measured: Measured::Whole(call), version }] as f64
+/// What was counted at one width.
+pub struct Found<'a> {
+    pub width: usize,
+    counts: &'a Counts,
 }
 
-pub fn ratio(counts: &Counts, kind: Kind, call: Call, other: usize) -> f64 {
-    count(counts, LARGEST, kind, call, OURS) / count(counts, LARGEST, kind, call, other)
-}
+impl Found<'_> {
+    fn of(&self, slots: usize, kind: Kind, measured: Measured, version: usize) -> f64 {
+        self.counts[&Case { width: self.width, slots, kind, measured, version }] as f64
+    }
 
-pub fn growth(counts: &Counts, kind: Kind, call: Call) -> f64 {
-    let of_size = |slots: usize| count(counts, slots, kind, call, OURS);
-    SIZES.windows(2).map(|pair| of_size(pair[1]) / of_size(pair[0])).fold(0.0, f64::max)
+    /// The count of an accepted call.
+    pub fn count(&self, slots: usize, kind: Kind, call: Call, version: usize) -> f64 {
+        self.of(slots, kind, Measured::Whole(call), version)
+    }
+
+    pub fn ratio(&self, kind: Kind, call: Call, other: usize) -> f64 {
+        self.count(LARGEST, kind, call, OURS) / self.count(LARGEST, kind, call, other)
+    }
+
+    pub fn growth(&self, kind: Kind, call: Call) -> f64 {
+        let of_size = |slots: usize| self.count(slots, kind, call, OURS);
+        SIZES.windows(2).map(|pair| of_size(pair[1]) / of_size(pair[0])).fold(0.0, f64::max)
+    }
+
+    /// Ours beside what it was before, at its worst over the sizes; at two words.
+    pub fn now_to_before(&self, kind: Kind, call: Call) -> f64 {
+        let of_size = |slots: usize| self.count(slots, kind, call, OURS) / before::count(slots, kind, call);
+        SIZES.into_iter().map(of_size).fold(0.0, f64::max)
+    }
 }
 
 pub fn print(counts: &Counts, functions: &Functions, every_table: bool) {
     println!("Instructions of one call, by callgrind. Ratios are ours / other at {} slots.\n", grouped(LARGEST as u64));
-    properties::print(LARGEST);
-    print_tables(counts, &[Call::PlanInsert], &KINDS, "Planning an insert");
-    print_worst(counts);
-    print_tables(counts, &PAIR_CALLS, &HOSTILE, "Tables made to be hostile: the last two are not judged");
-    print_small(counts);
+    for width in WIDTHS {
+        println!("## Values of {width} words\n");
+        print_width(&Found { width, counts }, functions, every_table);
+    }
+}
+
+fn print_width(found: &Found, functions: &Functions, every_table: bool) {
+    let kinds = kinds(found.width);
+    properties::print((found.width, LARGEST));
+    print_tables(found, &[Call::PlanInsert], &kinds, "Planning an insert");
+    print_worst(found);
+    print_tables(found, &PAIR_CALLS, &HOSTILE, "Tables made to be hostile: the last two are not judged");
+    print_small(found);
     if every_table {
         let others: Vec<Call> = CALLS.into_iter().filter(|&call| call != Call::PlanInsert).collect();
-        print_tables(counts, &others, &KINDS, "The other calls, by table");
+        print_tables(found, &others, &kinds, "The other calls, by table");
     }
-    print_parts(counts);
-    print_ids(counts);
-    print_functions(functions);
-    print_targets(&targets::all(counts));
+    if found.width == before::WIDTH {
+        print_before(found);
+    }
+    print_parts(found);
+    print_ids(found);
+    print_functions(found.width, functions);
+    print_targets(&targets::all(found));
 }
 
 /// Digits in groups of three.
@@ -60,44 +91,55 @@ fn ratios_of(one: impl Fn(usize) -> f64) -> String {
     ratios.join(" | ")
 }
 
-fn print_tables(counts: &Counts, calls: &[Call], kinds: &[Kind], title: &str) {
+fn print_tables(found: &Found, calls: &[Call], kinds: &[Kind], title: &str) {
     println!("### {title}\n");
     let sizes: Vec<String> = SIZES.iter().map(|&slots| format!("{} slots", grouped(slots as u64))).collect();
     println!("| Call | Table | {} | growth | {OTHERS_HEAD} |", sizes.join(" | "));
     println!("|---|---|{}---|---|---|---|---|", "---|".repeat(SIZES.len()));
     for &call in calls {
         for &kind in kinds {
-            let of_sizes: Vec<String> =
-                SIZES.iter().map(|&slots| grouped(count(counts, slots, kind, call, OURS) as u64)).collect();
-            let ratios = ratios_of(|other| ratio(counts, kind, call, other));
-            let growth = growth(counts, kind, call);
-            println!("| {} | {} | {} | {growth:.2} | {ratios} |", call.name(), kind.name(), of_sizes.join(" | "));
+            let of_sizes: Vec<String> = SIZES.iter().map(|&slots| grouped(found.count(slots, kind, call, OURS) as u64)).collect();
+            let ratios = ratios_of(|other| found.ratio(kind, call, other));
+            let growth = found.growth(kind, call);
+            println!("| {} | {} | {} | {growth:.2} | {ratios} |", call.name(), kind.name(found.width), of_sizes.join(" | "));
         }
     }
     println!();
 }
 
 /// The largest of a number over the tables, the hostile ones apart.
-pub fn most(number: impl Fn(Kind) -> f64) -> f64 {
-    KINDS.into_iter().map(number).fold(0.0, f64::max)
+fn most(width: usize, number: impl Fn(Kind) -> f64) -> f64 {
+    kinds(width).into_iter().map(number).fold(0.0, f64::max)
 }
 
-fn print_worst(counts: &Counts) {
+fn print_worst(found: &Found) {
     println!("### Every call at its worst: the most over the tables, the hostile ones apart, each column for itself\n");
     println!("| Call | ours at {} slots | a slot | growth | {OTHERS_HEAD} |", grouped(LARGEST as u64));
     println!("|---|---|---|---|---|---|---|---|");
     for call in CALLS {
-        let ours = most(|kind| count(counts, LARGEST, kind, call, OURS));
-        let ratios = ratios_of(|other| most(|kind| ratio(counts, kind, call, other)));
-        let growth = most(|kind| growth(counts, kind, call));
+        let ours = most(found.width, |kind| found.count(LARGEST, kind, call, OURS));
+        let ratios = ratios_of(|other| most(found.width, |kind| found.ratio(kind, call, other)));
+        let growth = most(found.width, |kind| found.growth(kind, call));
         let a_slot = ours / LARGEST as f64;
         println!("| {} | {} | {a_slot:.1} | {growth:.2} | {ratios} |", call.name(), grouped(ours as u64));
     }
     println!();
 }
 
+/// Ours beside what it was before the width was given, each call and table.
+fn print_before(found: &Found) {
+    println!("### Beside what it was before tables of five words: now / before\n");
+    println!("| Table | {} |", CALLS.map(Call::name).join(" | "));
+    println!("|---|{}", "---|".repeat(CALLS.len()));
+    for kind in every_kind(found.width) {
+        let cells = CALLS.map(|call| format!("{:.4}", found.now_to_before(kind, call)));
+        println!("| {} | {} |", kind.name(found.width), cells.join(" | "));
+    }
+    println!();
+}
+
 /// Ours, and its ratio to safe Rust, where no growth is judged.
-fn print_small(counts: &Counts) {
+fn print_small(found: &Found) {
     println!("### Small tables: ours (ratio to safe Rust)\n");
     let sizes: Vec<String> = SMALL_SIZES.iter().map(|slots| format!("{slots} slots")).collect();
     println!("| Call | Table | {} |", sizes.join(" | "));
@@ -105,27 +147,27 @@ fn print_small(counts: &Counts) {
     for call in PAIR_CALLS {
         for kind in SMALL_KINDS {
             let cell = |slots: &usize| {
-                let (ours, safe) = (count(counts, *slots, kind, call, OURS), count(counts, *slots, kind, call, SAFE));
+                let (ours, safe) = (found.count(*slots, kind, call, OURS), found.count(*slots, kind, call, SAFE));
                 format!("{} ({:.2})", grouped(ours as u64), ours / safe)
             };
             let cells: Vec<String> = SMALL_SIZES.iter().map(cell).collect();
-            println!("| {} | {} | {} |", call.name(), kind.name(), cells.join(" | "));
+            println!("| {} | {} | {} |", call.name(), kind.name(found.width), cells.join(" | "));
         }
     }
     println!();
 }
 
 /// Check 3 on one table whose ids are drawn in several ways.
-fn print_ids(counts: &Counts) {
+fn print_ids(found: &Found) {
     println!(
         "### Check 3 by how ids are drawn, {}, {} slots: ours (ratio to safe Rust)\n",
-        DRAWN_KIND.name(),
+        DRAWN_KIND.name(found.width),
         grouped(LARGEST as u64)
     );
     println!("| Ids | check 3 |");
     println!("|---|---|");
     for way in DRAWS {
-        let of = |measured, version| counts[&Case { slots: LARGEST, kind: DRAWN_KIND, measured, version }] as f64;
+        let of = |measured, version| found.of(LARGEST, DRAWN_KIND, measured, version);
         let spent = |version| of(Measured::IdsDrawn(way), version) - of(Measured::Records, version);
         println!("| {} | {} ({:.2}) |", way.name(), grouped(spent(OURS) as u64), spent(OURS) / spent(SAFE));
     }
@@ -133,12 +175,12 @@ fn print_ids(counts: &Counts) {
 }
 
 /// The cost per part, by differences of calls that end early.
-fn print_parts(counts: &Counts) {
+fn print_parts(found: &Found) {
     println!("### Cost per part of a planned insert, {} slots: ours (ratio to safe Rust)\n", grouped(LARGEST as u64));
     println!("| Table | checks 1, 2 | check 3 | check 4 | checks 5 to 11, windows, costs, choice | chain and words | whole |");
     println!("|---|---|---|---|---|---|---|");
-    for kind in every_kind() {
-        let of = |measured: Measured, version: usize| counts[&Case { slots: LARGEST, kind, measured, version }] as f64;
+    for kind in every_kind(found.width) {
+        let of = |measured: Measured, version: usize| found.of(LARGEST, kind, measured, version);
         let ends = [Measured::Records, Measured::Ids, Measured::Order, Measured::Short, Measured::Whole(Call::PlanInsert)];
         let part =
             |place: usize, version: usize| of(ends[place], version) - if place == 0 { 0.0 } else { of(ends[place - 1], version) };
@@ -148,18 +190,19 @@ fn print_parts(counts: &Counts) {
             cells.push(format!("{} ({:.2})", grouped(ours.max(0.0) as u64), ours / safe));
         }
         cells.push(grouped(of(ends[4], OURS) as u64));
-        println!("| {} | {} |", kind.name(), cells.join(" | "));
+        println!("| {} | {} |", kind.name(found.width), cells.join(" | "));
     }
     println!();
 }
 
 /// Our functions that the compiler left apart; what was inlined into a function counts as its own.
-fn print_functions(functions: &Functions) {
+fn print_functions(width: usize, functions: &Functions) {
     println!("### What our functions that stay apart spend themselves in a planned insert, {} slots\n", grouped(LARGEST as u64));
-    let of_largest: Vec<_> = functions.iter().filter(|(case, _)| case.slots == LARGEST && KINDS.contains(&case.kind)).collect();
+    let is_shown = |case: &Case| case.width == width && case.slots == LARGEST && !HOSTILE.contains(&case.kind);
+    let of_largest: Vec<_> = functions.iter().filter(|(case, _)| is_shown(case)).collect();
     let is_spender = |name: &&String| of_largest.iter().any(|(_, spent)| spent.get(*name).is_some_and(|&count| count > 0));
     let names: BTreeSet<&String> = of_largest.iter().flat_map(|(_, spent)| spent.keys()).filter(is_spender).collect();
-    let kinds: Vec<&str> = of_largest.iter().map(|(case, _)| case.kind.name()).collect();
+    let kinds: Vec<&str> = of_largest.iter().map(|(case, _)| case.kind.name(width)).collect();
     println!("| Function | {} |", kinds.join(" | "));
     println!("|---|{}", "---|".repeat(kinds.len()));
     for name in names {

@@ -4,22 +4,26 @@
 use crate::edits::edit;
 use crate::inputs::{inputs_of, perform, Input, Lent};
 use crate::properties;
-use crate::tables::{every_kind, make, Kind};
+use crate::shapes;
+use crate::tables::{every_kind, make, Kind, Size};
 use crate::versions::{versions, Call, Version};
 use crate::SIZES;
+use reference::bits::WIDTHS;
+use reference::table::record_words;
 use std::collections::BTreeSet;
 use support::random::Random;
 
 const EDITED_SIZES: [usize; 11] = [1, 2, 3, 5, 8, 13, 21, 40, 64, 65, 150];
-const EDITS: u64 = 1000;
+const EDITS: u64 = 500;
 const SEED: u64 = 11;
 
-/// The results that each call must have had: refusals by number, and 2^32 - 1 for a finished plan.
+/// The results that each call must have had at each width: refusals by number, and 2^32 - 1 for a finished plan. Beside them a
+/// slot's record has had its words.
 const RESULTS: [(Call, &[u64]); 7] = [
     (Call::PlanInsert, &[0, 1, 2, 3, 4, 5, 6, 8, 9, 10, 11]),
     (Call::PlanDelete, &[0, 1, 2, 3, 4, 5, 7, 11]),
     (Call::Lookup, &[0, 1, 2]),
-    (Call::SlotRecord, &[0, 6]),
+    (Call::SlotRecord, &[0]),
     (Call::CarryOut, &[0, 1, 2, 5, 12, 0xffff_ffff]),
     (Call::Save, &[0, 1, 2, 3, 4, 11]),
     (Call::Load, &[0, 1, 3, 4, 14]),
@@ -29,7 +33,7 @@ const RESULTS: [(Call, &[u64]); 7] = [
 struct Tally {
     compared: usize,
     different: usize,
-    reached: BTreeSet<(Call, u64)>,
+    reached: BTreeSet<(usize, Call, u64)>,
 }
 
 /// Whether all is as it should be.
@@ -37,37 +41,71 @@ pub fn run() -> bool {
     let versions = versions();
     let mut tally = Tally::default();
     let mut sound = true;
-    for slots in SIZES {
-        for kind in every_kind() {
-            if !properties::hold(kind, slots) {
-                println!("speed: the table of {slots} slots, {}, is not what it says", kind.name());
-                sound = false;
-            }
-            for input in inputs_of(&make(kind, slots)) {
-                sound &= is_accepted(&versions, &input, slots, kind, &mut tally);
+    for width in WIDTHS {
+        for slots in SIZES {
+            for kind in every_kind(width) {
+                sound &= is_as_made(&versions, kind, (width, slots), &mut tally);
             }
         }
-    }
-    for slots in EDITED_SIZES {
-        for kind in every_kind() {
-            let inputs = inputs_of(&make(kind, slots));
-            for number in 0..EDITS {
-                let mut random = Random::new(SEED + slots as u64, number);
-                for input in &inputs {
-                    compare(&versions, &edit(input, &mut random), &mut tally);
-                }
+        for slots in EDITED_SIZES {
+            sound &= are_refused(&versions, (width, slots), &mut tally);
+            for kind in every_kind(width) {
+                compare_edited(&versions, kind, (width, slots), &mut tally);
             }
         }
     }
     sound & tally.told(versions.len())
 }
 
-/// Compares an input that every version must accept.
-fn is_accepted(versions: &[Version], input: &Input, slots: usize, kind: Kind, tally: &mut Tally) -> bool {
-    let wanted = if input.call == Call::SlotRecord { 6 } else { 0 };
+/// Whether a table is what its kind says, and each call is accepted.
+fn is_as_made(versions: &[Version], kind: Kind, (width, slots): Size, tally: &mut Tally) -> bool {
+    let mut sound = properties::hold(kind, (width, slots));
+    if !sound {
+        println!("speed: the table of {slots} slots, {}, width {width}, is not what it says", kind.name(width));
+    }
+    for input in inputs_of(&make(kind, width, slots)) {
+        let wanted = if input.call == Call::SlotRecord { record_words(width) as u64 } else { 0 };
+        sound &= gives(versions, &input, wanted, tally);
+    }
+    sound
+}
+
+/// Whether each call is refused at other widths and with other numbers of words, and a load of the other width's image.
+fn are_refused(versions: &[Version], (width, slots): Size, tally: &mut Tally) -> bool {
+    let mut sound = true;
+    let inputs = inputs_of(&make(Kind::Sparse, width, slots));
+    let others = inputs_of(&make(Kind::Sparse, shapes::other_width(width), slots));
+    for input in &inputs {
+        for misshaped in shapes::misshaped(input) {
+            sound &= gives(versions, &misshaped, shapes::wanted(input.call), tally);
+        }
+        if input.call == Call::Load && slots > 1 {
+            sound &= gives(versions, &shapes::other_image(input, &others), 14, tally);
+        }
+    }
+    sound
+}
+
+fn compare_edited(versions: &[Version], kind: Kind, (width, slots): Size, tally: &mut Tally) {
+    let inputs = inputs_of(&make(kind, width, slots));
+    for number in 0..EDITS {
+        let mut random = Random::new(SEED + slots as u64, number);
+        for input in &inputs {
+            compare(versions, &edit(input, &mut random), tally);
+        }
+    }
+}
+
+/// Compares an input to which every version must answer so.
+fn gives(versions: &[Version], input: &Input, wanted: u64, tally: &mut Tally) -> bool {
     let result = compare(versions, input, tally);
     if result != wanted {
-        println!("speed: {} on {slots} slots, {}: result {result:#x}", input.call.name(), kind.name());
+        let (width, slots) = (input.width, input.table.len() / record_words(input.width));
+        println!(
+            "speed: {} on {slots} slots of width {width}, width {} given: result {result:#x}",
+            input.call.name(),
+            input.given
+        );
     }
     result == wanted
 }
@@ -87,12 +125,14 @@ fn compare(versions: &[Version], input: &Input, tally: &mut Tally) -> u64 {
             }
         }
     }
-    tally.reached.insert((input.call, if input.call == Call::CarryOut { result & 0xffff_ffff } else { result }));
+    let number = if input.call == Call::CarryOut { result & 0xffff_ffff } else { result };
+    tally.reached.insert((input.width, input.call, number));
     result
 }
 
 fn report(version: &Version, input: &Input, ours: (u64, &Lent), other: (u64, &Lent)) {
-    println!("speed: {} of {} differs, {} slots:", input.call.name(), version.name, input.table.len() / 6);
+    let (words, width) = (input.table.len(), input.width);
+    println!("speed: {} of {} differs, {words} words, made at width {width}:", input.call.name(), version.name);
     println!("  ours {:#x}, cells {:x?}, done {}", ours.0, ours.1.cells, ours.1.done);
     println!("  this {:#x}, cells {:x?}, done {}", other.0, other.1.cells, other.1.done);
     let parts = [
@@ -107,10 +147,10 @@ fn report(version: &Version, input: &Input, ours: (u64, &Lent), other: (u64, &Le
 impl Tally {
     fn told(&self, versions: usize) -> bool {
         let mut missing = 0;
-        for (call, results) in RESULTS {
-            for result in results {
-                if !self.reached.contains(&(call, *result)) {
-                    println!("speed: {} never gave {result:#x}", call.name());
+        for (width, (call, results)) in WIDTHS.into_iter().flat_map(|width| RESULTS.map(|row| (width, row))) {
+            for result in results.iter().copied().chain((call == Call::SlotRecord).then(|| record_words(width) as u64)) {
+                if !self.reached.contains(&(width, call, result)) {
+                    println!("speed: {} at width {width} never gave {result:#x}", call.name());
                     missing += 1;
                 }
             }

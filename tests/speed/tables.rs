@@ -1,8 +1,9 @@
-// The rule tables of the comparison, at any number of slots, each with a new rule that it accepts.
+// The rule tables of the comparison, at any width and number of slots, each with a new rule that it accepts.
 // All are sound: of two overlapping rules the one in the lower slot has the higher priority.
 
 use crate::hostile;
 use crate::ids::id_of_place;
+use reference::bits::Bits;
 use reference::table::{words_of, Rule, Slot};
 use support::random::Random;
 
@@ -35,13 +36,15 @@ pub enum Kind {
     OneHot,
     /// Rules that care for 2 bits, at random.
     TwoBits,
-    /// Rules that care for 12 bits, at random.
-    TwelveBits,
+    /// Rules that care for more bits, at random: 12 of 128, or so many of 320 that as many pairs overlap.
+    MoreBits,
     /// Sparse rules, but those that the choice of places samples have one pattern: no place tells them apart.
     Unsampled,
+    /// Only the last word tells pairs apart, and it tells all; at two words that is the second.
+    LastWord,
 }
 
-pub const KINDS: [Kind; 9] = [
+const KINDS: [Kind; 10] = [
     Kind::Sparse,
     Kind::Dense,
     Kind::DenseDown,
@@ -50,20 +53,25 @@ pub const KINDS: [Kind; 9] = [
     Kind::Prefixes,
     Kind::Undecided,
     Kind::SecondWord,
+    Kind::LastWord,
     Kind::HalfEmpty,
 ];
 
+/// The kinds at a width, the hostile ones apart.
+pub fn kinds(width: usize) -> Vec<Kind> {
+    KINDS.into_iter().filter(|&kind| width > 2 || kind != Kind::LastWord).collect()
+}
+
 /// Tables made to be hostile to the pass over the pairs; the first of them are judged by a target, the last two reported.
-pub const HOSTILE: [Kind; 6] =
-    [Kind::TwoGroups, Kind::OneHot, Kind::TwoBits, Kind::TwelveBits, Kind::LowInBlocks, Kind::Unsampled];
+pub const HOSTILE: [Kind; 6] = [Kind::TwoGroups, Kind::OneHot, Kind::TwoBits, Kind::MoreBits, Kind::LowInBlocks, Kind::Unsampled];
 pub const HOSTILE_JUDGED: usize = 4;
 
-pub fn every_kind() -> impl Iterator<Item = Kind> {
-    KINDS.into_iter().chain(HOSTILE)
+pub fn every_kind(width: usize) -> impl Iterator<Item = Kind> {
+    kinds(width).into_iter().chain(HOSTILE)
 }
 
 impl Kind {
-    pub fn name(self) -> &'static str {
+    pub fn name(self, width: usize) -> &'static str {
         match self {
             Kind::Sparse => "sparse",
             Kind::Dense => "dense",
@@ -73,12 +81,15 @@ impl Kind {
             Kind::Prefixes => "prefixes",
             Kind::Undecided => "first word undecided",
             Kind::SecondWord => "second word decides",
+            Kind::LastWord => "last word decides",
             Kind::HalfEmpty => "half-empty",
             Kind::TwoGroups => "two dense groups",
             Kind::LowInBlocks => "dense, a low rule in each block",
             Kind::OneHot => "one-hot chains",
-            Kind::TwoBits => "2 of 128 bits",
-            Kind::TwelveBits => "12 of 128 bits",
+            Kind::TwoBits if width == 2 => "2 of 128 bits",
+            Kind::TwoBits => "2 of 320 bits",
+            Kind::MoreBits if width == 2 => "12 of 128 bits",
+            Kind::MoreBits => "19 of 320 bits",
             Kind::Unsampled => "sampled slots alike",
         }
     }
@@ -94,21 +105,25 @@ impl Kind {
 }
 
 pub struct RuleTable {
+    pub width: usize,
     pub words: Vec<u64>,
     pub new: Rule,
 }
 
+/// A width and a number of slots.
+pub type Size = (usize, usize);
+
 const SEED: u64 = 20_261_116;
-/// Bits of which a dense rule cares for one: two rules in 208 are then apart.
-pub const DENSE_BITS: usize = 104;
+/// For each word of a value so many bits, of which a dense rule cares for one: at two words two rules in 208 are then apart.
+const DENSE_BITS: usize = 52;
 const DENSE_PRIORITY: u64 = 60_000;
 const LEVELS: usize = 60_000;
 
-pub fn make(kind: Kind, slots: usize) -> RuleTable {
+pub fn make(kind: Kind, width: usize, slots: usize) -> RuleTable {
     let mut random = Random::new(SEED, kind as u64);
     let mut rules: Vec<Rule> = Vec::new();
     for slot in 0..slots {
-        let rule = fitting_rule(kind, slots, slot, &rules, &mut random);
+        let rule = fitting_rule(kind, (width, slots), slot, &rules, &mut random);
         rules.push(rule);
     }
     if kind == Kind::Prefixes {
@@ -116,13 +131,13 @@ pub fn make(kind: Kind, slots: usize) -> RuleTable {
     }
     let entry = |(slot, rule): (usize, &Rule)| if kind.is_empty_at(slots, slot) { None } else { Some(*rule) };
     let entries: Vec<Slot> = rules.iter().enumerate().map(entry).collect();
-    RuleTable { words: words_of(&entries), new: new_rule(kind, slots, &mut random) }
+    RuleTable { width, words: words_of(&entries, width), new: new_rule(kind, (width, slots), &mut random) }
 }
 
 /// A rule that may stand after those before it.
-fn fitting_rule(kind: Kind, slots: usize, slot: usize, before: &[Rule], random: &mut Random) -> Rule {
+fn fitting_rule(kind: Kind, size: Size, slot: usize, before: &[Rule], random: &mut Random) -> Rule {
     loop {
-        let rule = any_rule(kind, slots, slot, random);
+        let rule = any_rule(kind, size, slot, random);
         let clash = |earlier: &Rule| match kind {
             Kind::Prefixes => earlier.value == rule.value && earlier.mask == rule.mask,
             _ => earlier.overlaps(&rule) && earlier.priority <= rule.priority,
@@ -138,37 +153,65 @@ pub fn falling(slot: usize) -> u64 {
     DENSE_PRIORITY - 2 * slot as u64
 }
 
-fn any_rule(kind: Kind, slots: usize, slot: usize, random: &mut Random) -> Rule {
+/// A value of so many words, drawn at random.
+pub fn drawn(width: usize, random: &mut Random) -> Bits {
+    let words: Vec<u64> = (0..width).map(|_| random.word()).collect();
+    Bits::of_words(&words)
+}
+
+/// One bit, counted from the last.
+pub fn from_last(width: usize, bit: usize) -> Bits {
+    Bits::at(64 * width - 1 - bit)
+}
+
+/// The one bit that a dense rule cares for.
+pub fn dense_mask(width: usize, random: &mut Random) -> Bits {
+    from_last(width, random.below(DENSE_BITS * width))
+}
+
+fn prefix(length: usize) -> Bits {
+    Bits::number(0, length, (1 << length) - 1)
+}
+
+/// All bits of one word.
+fn word_mask(word: usize) -> Bits {
+    Bits::number(64 * word, 64, usize::MAX)
+}
+
+/// One bit of the first word, all of the second.
+fn undecided_mask() -> Bits {
+    Bits::at(0) | word_mask(1)
+}
+
+fn any_rule(kind: Kind, (width, slots): Size, slot: usize, random: &mut Random) -> Rule {
     let (wanted, mask, priority) = match kind {
-        Kind::Sparse | Kind::HalfEmpty => (random.wide(), random.wide(), random.below(LEVELS) as u64),
-        Kind::Sorted => (random.wide(), random.wide(), falling(slot)),
-        Kind::Dense | Kind::DenseDown | Kind::DenseUp => (random.wide(), 1 << random.below(DENSE_BITS), falling(slot)),
+        Kind::Sparse | Kind::HalfEmpty => (drawn(width, random), drawn(width, random), random.below(LEVELS) as u64),
+        Kind::Sorted => (drawn(width, random), drawn(width, random), falling(slot)),
+        Kind::Dense | Kind::DenseDown | Kind::DenseUp => (drawn(width, random), dense_mask(width, random), falling(slot)),
         Kind::Prefixes => {
             let length = random.between(8, 32);
-            (random.wide(), u128::MAX << (128 - length), 100 * length as u64)
+            (drawn(width, random), prefix(length), 100 * length as u64)
         }
-        Kind::Undecided => (random.wide(), UNDECIDED_MASK, random.below(LEVELS) as u64),
-        Kind::SecondWord => (random.wide(), SECOND_WORD, random.below(LEVELS) as u64),
-        _ => hostile::pattern(kind, slots, slot, random),
+        Kind::Undecided => (drawn(width, random), undecided_mask(), random.below(LEVELS) as u64),
+        Kind::SecondWord => (drawn(width, random), word_mask(1), random.below(LEVELS) as u64),
+        Kind::LastWord => (drawn(width, random), word_mask(width - 1), random.below(LEVELS) as u64),
+        _ => hostile::pattern(kind, (width, slots), slot, random),
     };
     Rule { id: id_of_place(slot), priority, value: wanted & mask, mask, action: slot as u32 ^ 0x5a5a }
 }
 
-/// One bit of the first word, all of the second.
-const UNDECIDED_MASK: u128 = 1 << 127 | SECOND_WORD;
-const SECOND_WORD: u128 = u64::MAX as u128;
-
-fn new_rule(kind: Kind, slots: usize, random: &mut Random) -> Rule {
+fn new_rule(kind: Kind, (width, slots): Size, random: &mut Random) -> Rule {
     let id = id_of_place(slots + 7);
     let (wanted, mask, priority) = match kind {
-        Kind::Sparse | Kind::Sorted | Kind::HalfEmpty => (random.wide(), u128::MAX, 30_001),
-        Kind::Dense => (0, 0, falling(slots / 2) + 1),
-        Kind::DenseDown => (0, 0, falling(0) + 1),
-        Kind::DenseUp => (0, 0, falling(slots) + 1),
-        Kind::Prefixes => (random.wide(), u128::MAX << (128 - 20), 2000),
-        Kind::Undecided => (random.wide(), UNDECIDED_MASK, 30_001),
-        Kind::SecondWord => (random.wide(), SECOND_WORD, 30_001),
-        _ => hostile::new_pattern(kind, slots, random),
+        Kind::Sparse | Kind::Sorted | Kind::HalfEmpty => (drawn(width, random), Bits::all(width), 30_001),
+        Kind::Dense => (Bits::NONE, Bits::NONE, falling(slots / 2) + 1),
+        Kind::DenseDown => (Bits::NONE, Bits::NONE, falling(0) + 1),
+        Kind::DenseUp => (Bits::NONE, Bits::NONE, falling(slots) + 1),
+        Kind::Prefixes => (drawn(width, random), prefix(20), 2000),
+        Kind::Undecided => (drawn(width, random), undecided_mask(), 30_001),
+        Kind::SecondWord => (drawn(width, random), word_mask(1), 30_001),
+        Kind::LastWord => (drawn(width, random), word_mask(width - 1), 30_001),
+        _ => hostile::new_pattern(kind, (width, slots), random),
     };
     Rule { id, priority, value: wanted & mask, mask, action: 5 }
 }

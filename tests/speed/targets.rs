@@ -1,10 +1,11 @@
 // The targets of the comparison, each with what was found at its worst and where.
-// Ratios hold for safe Rust and for gcc -O3; the other versions are reported only.
+// Ratios hold for safe Rust and for gcc -O3; the other versions are reported only. At two words ours is held to what it was
+// before, too.
 
+use crate::before;
 use crate::cases::PAIR_CALLS;
-use crate::instructions::Counts;
-use crate::report::{count, growth, ratio, LARGEST};
-use crate::tables::{Kind, HOSTILE, HOSTILE_JUDGED, KINDS};
+use crate::report::{Found, LARGEST};
+use crate::tables::{every_kind, kinds, Kind, HOSTILE, HOSTILE_JUDGED};
 use crate::versions::{Call, CALLS, GCC, OURS, SAFE};
 
 const PAIRS_RATIO: f64 = 1.05;
@@ -14,7 +15,22 @@ const HOSTILE_MOST: f64 = 7_000_000.0;
 const LOOKUP_A_SLOT: f64 = 30.0;
 const PAIRS_GROWTH: f64 = 2.8;
 const CALL_GROWTH: f64 = 2.2;
+/// Of what it was before, at two words: planning, delete, save, load and carrying out; lookup and a slot's record.
+const BEFORE_RATIO: f64 = 1.03;
+const BEFORE_SHORT_RATIO: f64 = 1.05;
 
+/// At five words: planning, an insert or a delete, and every other call; then planning an insert and a load by themselves.
+const WIDE_PLAN_RATIO: f64 = 1.10;
+const WIDE_CALL_RATIO: f64 = 1.15;
+const WIDE_PLAN_MOST: f64 = 2_700_000.0;
+const WIDE_LOAD_MOST: f64 = 2_800_000.0;
+/// Lookups at five words where only the last word decides, and on half-empty tables.
+const LAST_WORD_RATIO: f64 = 1.4;
+const HALF_EMPTY_RATIO: f64 = 1.8;
+
+const OTHERS: [(usize, &str); 2] = [(SAFE, "safe Rust"), (GCC, "gcc -O3")];
+
+#[derive(Clone)]
 pub struct Target {
     pub name: String,
     pub most: f64,
@@ -24,17 +40,12 @@ pub struct Target {
 }
 
 impl Target {
-    /// The worst of the tables for a number, the hostile ones apart.
-    fn new(name: String, most: f64, number: impl Fn(Kind) -> f64) -> Target {
-        Target::among(&KINDS, name, most, number)
-    }
-
-    /// The worst of some tables for a number.
-    fn among(kinds: &[Kind], name: String, most: f64, number: impl Fn(Kind) -> f64) -> Target {
+    /// The worst of some tables at a width for a number.
+    fn among(kinds: &[Kind], width: usize, name: String, most: f64, number: impl Fn(Kind) -> f64) -> Target {
         let mut target = Target { name, most, found: 0.0, place: "" };
         for &kind in kinds {
             if number(kind) > target.found {
-                (target.found, target.place) = (number(kind), kind.name());
+                (target.found, target.place) = (number(kind), kind.name(width));
             }
         }
         target
@@ -50,7 +61,15 @@ impl Target {
     }
 }
 
-/// Ratios: all calls that compare rules in pairs are held to safe Rust alike; beside gcc -O3 planning is.
+pub fn all(found: &Found) -> Vec<Target> {
+    if found.width == before::WIDTH {
+        [at_two(found), beside_before(found)].concat()
+    } else {
+        at_five(found)
+    }
+}
+
+/// Ratios at two words: all calls that compare rules in pairs are held to safe Rust alike; beside gcc -O3 planning is.
 fn ratio_most(call: Call, other: usize) -> f64 {
     match call {
         Call::PlanInsert | Call::PlanDelete => PAIRS_RATIO,
@@ -59,27 +78,72 @@ fn ratio_most(call: Call, other: usize) -> f64 {
     }
 }
 
-pub fn all(counts: &Counts) -> Vec<Target> {
+fn at_two(found: &Found) -> Vec<Target> {
+    let kinds = kinds(found.width);
+    let worst = |name, most, number: &dyn Fn(Kind) -> f64| Target::among(&kinds, found.width, name, most, number);
+    let ours = |kind, call| found.count(LARGEST, kind, call, OURS);
     let mut targets = Vec::new();
     for call in CALLS {
-        for (other, name) in [(SAFE, "safe Rust"), (GCC, "gcc -O3")] {
+        for (other, name) in OTHERS {
             let title = format!("{} / {name}", call.name());
-            targets.push(Target::new(title, ratio_most(call, other), |kind| ratio(counts, kind, call, other)));
+            targets.push(worst(title, ratio_most(call, other), &|kind| found.ratio(kind, call, other)));
         }
     }
-    let ours = |kind, call| count(counts, LARGEST, kind, call, OURS);
     for call in PAIR_CALLS {
-        targets.push(Target::new(format!("{}, instructions", call.name()), PAIRS_MOST, |kind| ours(kind, call)));
+        targets.push(worst(format!("{}, instructions", call.name()), PAIRS_MOST, &|kind| ours(kind, call)));
     }
     for call in PAIR_CALLS {
         let title = format!("{}, instructions, hostile tables", call.name());
-        targets.push(Target::among(&HOSTILE[..HOSTILE_JUDGED], title, HOSTILE_MOST, |kind| ours(kind, call)));
+        let judged = &HOSTILE[..HOSTILE_JUDGED];
+        targets.push(Target::among(judged, found.width, title, HOSTILE_MOST, |kind| ours(kind, call)));
     }
     let lookup = |kind| ours(kind, Call::Lookup) / LARGEST as f64;
-    targets.push(Target::new("lookup, instructions a slot".to_string(), LOOKUP_A_SLOT, lookup));
+    targets.push(worst("lookup, instructions a slot".to_string(), LOOKUP_A_SLOT, &lookup));
     for call in CALLS {
         let most = if PAIR_CALLS.contains(&call) { PAIRS_GROWTH } else { CALL_GROWTH };
-        targets.push(Target::new(format!("{}, growth per doubling", call.name()), most, |kind| growth(counts, kind, call)));
+        targets.push(worst(format!("{}, growth per doubling", call.name()), most, &|kind| found.growth(kind, call)));
+    }
+    targets
+}
+
+/// Each call on every table, hostile ones too, at every size, beside what it was before.
+fn beside_before(found: &Found) -> Vec<Target> {
+    let kinds: Vec<Kind> = every_kind(found.width).collect();
+    let target = |call: Call| {
+        let most = if matches!(call, Call::Lookup | Call::SlotRecord) { BEFORE_SHORT_RATIO } else { BEFORE_RATIO };
+        let title = format!("{} / before", call.name());
+        Target::among(&kinds, found.width, title, most, |kind| found.now_to_before(kind, call))
+    };
+    CALLS.into_iter().map(target).collect()
+}
+
+/// Ratios at five words; lookups apart, since two kinds of tables are held to ratios of their own.
+fn at_five(found: &Found) -> Vec<Target> {
+    let kinds = kinds(found.width);
+    let worst = |name, most, number: &dyn Fn(Kind) -> f64| Target::among(&kinds, found.width, name, most, number);
+    let mut targets = Vec::new();
+    for call in CALLS.into_iter().filter(|&call| call != Call::Lookup) {
+        let most = if matches!(call, Call::PlanInsert | Call::PlanDelete) { WIDE_PLAN_RATIO } else { WIDE_CALL_RATIO };
+        for (other, name) in OTHERS {
+            targets.push(worst(format!("{} / {name}", call.name()), most, &|kind| found.ratio(kind, call, other)));
+        }
+    }
+    for (other, name) in OTHERS {
+        let of = |some: &[Kind], which: &str, most| {
+            let title = format!("lookup / {name}{which}");
+            Target::among(some, found.width, title, most, |kind| found.ratio(kind, Call::Lookup, other))
+        };
+        let is_plain = |kind: &Kind| !matches!(kind, Kind::LastWord | Kind::HalfEmpty);
+        let plain: Vec<Kind> = kinds.iter().copied().filter(is_plain).collect();
+        targets.extend([
+            of(&plain, "", WIDE_CALL_RATIO),
+            of(&[Kind::LastWord], ", where only the last word decides", LAST_WORD_RATIO),
+            of(&[Kind::HalfEmpty], ", half-empty", HALF_EMPTY_RATIO),
+        ]);
+    }
+    for (call, most) in [(Call::PlanInsert, WIDE_PLAN_MOST), (Call::Load, WIDE_LOAD_MOST)] {
+        let ours = |kind| found.count(LARGEST, kind, call, OURS);
+        targets.push(worst(format!("{}, instructions", call.name()), most, &ours));
     }
     targets
 }

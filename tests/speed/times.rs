@@ -2,9 +2,10 @@
 // A ratio is ours divided by the other version, medians of the same rounds; below 1 ours is the faster.
 
 use crate::inputs::{inputs_of, perform, Input, Lent};
-use crate::tables::{every_kind, make, Kind, HOSTILE};
+use crate::tables::{every_kind, make, Kind, Size, HOSTILE};
 use crate::versions::{versions, Call, Version, CALLS, GCC, OURS, REFERENCE, SAFE, UNCHECKED};
 use crate::SIZES;
+use reference::bits::WIDTHS;
 use std::hint::black_box;
 use std::time::Instant;
 
@@ -27,15 +28,15 @@ impl Timed {
 pub fn run(rounds: usize) {
     let versions = versions();
     println!("Medians of {rounds} rounds, all versions in turn. Ratios are ours / other.\n");
-    for slots in SIZES {
+    for (width, slots) in WIDTHS.into_iter().flat_map(|width| SIZES.map(|slots| (width, slots))) {
         let mut rows = Vec::new();
-        for kind in every_kind() {
-            for input in inputs_of(&make(kind, slots)) {
+        for kind in every_kind(width) {
+            for input in inputs_of(&make(kind, width, slots)) {
                 rows.push(Timed { call: input.call, kind, medians: medians(&versions, &input, rounds) });
             }
         }
-        print_planning(slots, &rows);
-        print_calls(slots, &rows);
+        print_planning((width, slots), &rows);
+        print_calls((width, slots), &rows);
     }
 }
 
@@ -71,20 +72,21 @@ fn median(mut times: Vec<f64>) -> f64 {
     times[times.len() / 2]
 }
 
-fn print_planning(slots: usize, rows: &[Timed]) {
-    println!("### Planning an insert, {slots} slots\n");
+fn print_planning((width, slots): Size, rows: &[Timed]) {
+    println!("### Planning an insert, {slots} slots, values of {width} words\n");
     println!("| Table | ours, µs | / reference | / safe Rust | / unchecked Rust | / gcc -O3 |");
     println!("|---|---|---|---|---|---|");
     for row in rows.iter().filter(|row| row.call == Call::PlanInsert) {
         let ratios: Vec<String> = OTHERS.iter().map(|&other| format!("{:.2}", row.ratio(other))).collect();
-        println!("| {} | {:.0} | {} |", row.kind.name(), row.medians[OURS] / 1000.0, ratios.join(" | "));
+        println!("| {} | {:.0} | {} |", row.kind.name(width), row.medians[OURS] / 1000.0, ratios.join(" | "));
     }
     println!();
 }
 
 /// Every call over the tables, the hostile ones apart: the range of ours, and of each ratio the geometric mean and the range.
-fn print_calls(slots: usize, rows: &[Timed]) {
-    println!("### Every call, {slots} slots: geometric mean over the tables, the hostile ones apart (least to most)\n");
+fn print_calls((width, slots): Size, rows: &[Timed]) {
+    println!("### Every call, {slots} slots, values of {width} words\n");
+    println!("Geometric mean over the tables, the hostile ones apart (least to most).\n");
     println!("| Call | ours, µs | / reference | / safe Rust | / unchecked Rust | / gcc -O3 |");
     println!("|---|---|---|---|---|---|");
     for call in CALLS {

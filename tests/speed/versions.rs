@@ -1,7 +1,7 @@
 // The versions that are compared, each as its seven calls, and the calls' names.
 // All have the signatures of include/tcam.h; the symbols are those that callgrind is told of.
 
-use support::calls::ProgressRecord;
+use crate::answers::Progress;
 
 extern crate safe as _;
 extern crate unchecked as _;
@@ -36,14 +36,13 @@ impl Call {
 
 type Word = *const u64;
 type Cell = *mut u32;
-pub type PlanInsert = unsafe extern "C" fn(Word, usize, u32, u32, u64, u64, u64, u64, u32, Cell, usize, Cell, Cell) -> u32;
-pub type PlanDelete = unsafe extern "C" fn(Word, usize, u32, Cell, usize, Cell, Cell) -> u32;
-pub type Lookup = unsafe extern "C" fn(Word, usize, u64, u64, Cell, Cell, Cell, Cell) -> u32;
-pub type SlotRecord = unsafe extern "C" fn(Word, usize, u32, Cell) -> u32;
-pub type CarryOut =
-    unsafe extern "C" fn(*mut u64, usize, *const u32, usize, u32, u32, u64, u64, u64, u64, u32, *mut ProgressRecord) -> u64;
-pub type Save = unsafe extern "C" fn(Word, usize, *mut u8, usize, Cell, Cell) -> u32;
-pub type Load = unsafe extern "C" fn(*const u8, usize, *mut u64, usize, Cell) -> u32;
+pub type PlanInsert = unsafe extern "C" fn(Word, usize, u32, Word, usize, Cell, usize, Cell, Cell) -> u32;
+pub type PlanDelete = unsafe extern "C" fn(Word, usize, u32, u32, Cell, usize, Cell, Cell) -> u32;
+pub type Lookup = unsafe extern "C" fn(Word, usize, u32, Word, usize, Cell, Cell, Cell, Cell) -> u32;
+pub type SlotRecord = unsafe extern "C" fn(Word, usize, u32, u32, Cell) -> u32;
+pub type CarryOut = unsafe extern "C" fn(*mut u64, usize, u32, Word, usize, *const u32, usize, *mut Progress) -> u64;
+pub type Save = unsafe extern "C" fn(Word, usize, u32, *mut u8, usize, Cell, Cell) -> u32;
+pub type Load = unsafe extern "C" fn(*const u8, usize, *mut u64, usize, u32, Cell) -> u32;
 
 pub struct Version {
     pub name: &'static str,
@@ -67,40 +66,13 @@ impl Version {
 macro_rules! version {
     ($name:literal $prefix:literal: $insert:ident $delete:ident $lookup:ident $record:ident $carry:ident $save:ident $load:ident) => {{
         extern "C" {
-            fn $insert(
-                _: Word,
-                _: usize,
-                _: u32,
-                _: u32,
-                _: u64,
-                _: u64,
-                _: u64,
-                _: u64,
-                _: u32,
-                _: Cell,
-                _: usize,
-                _: Cell,
-                _: Cell,
-            ) -> u32;
-            fn $delete(_: Word, _: usize, _: u32, _: Cell, _: usize, _: Cell, _: Cell) -> u32;
-            fn $lookup(_: Word, _: usize, _: u64, _: u64, _: Cell, _: Cell, _: Cell, _: Cell) -> u32;
-            fn $record(_: Word, _: usize, _: u32, _: Cell) -> u32;
-            fn $carry(
-                _: *mut u64,
-                _: usize,
-                _: *const u32,
-                _: usize,
-                _: u32,
-                _: u32,
-                _: u64,
-                _: u64,
-                _: u64,
-                _: u64,
-                _: u32,
-                _: *mut ProgressRecord,
-            ) -> u64;
-            fn $save(_: Word, _: usize, _: *mut u8, _: usize, _: Cell, _: Cell) -> u32;
-            fn $load(_: *const u8, _: usize, _: *mut u64, _: usize, _: Cell) -> u32;
+            fn $insert(_: Word, _: usize, _: u32, _: Word, _: usize, _: Cell, _: usize, _: Cell, _: Cell) -> u32;
+            fn $delete(_: Word, _: usize, _: u32, _: u32, _: Cell, _: usize, _: Cell, _: Cell) -> u32;
+            fn $lookup(_: Word, _: usize, _: u32, _: Word, _: usize, _: Cell, _: Cell, _: Cell, _: Cell) -> u32;
+            fn $record(_: Word, _: usize, _: u32, _: u32, _: Cell) -> u32;
+            fn $carry(_: *mut u64, _: usize, _: u32, _: Word, _: usize, _: *const u32, _: usize, _: *mut Progress) -> u64;
+            fn $save(_: Word, _: usize, _: u32, _: *mut u8, _: usize, _: Cell, _: Cell) -> u32;
+            fn $load(_: *const u8, _: usize, _: *mut u64, _: usize, _: u32, _: Cell) -> u32;
         }
         Version {
             name: $name,

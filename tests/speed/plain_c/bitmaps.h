@@ -6,23 +6,20 @@
 #include "table.h"
 
 /* Row 2 k + v is words 16 (2 k + v) and the 15 after it: the slots that care for place k with value v, a word for each block. */
-enum { PLACES_MOST = 64, MAP_WORDS = 32 * PLACES_MOST };
+enum { BITS = 64 * WIDTH, PLACES_MOST = 64, PLACES_FEW = 8, PLACE_WORDS = 32 };
 
-/* Chosen places as bits of two words, with the first row of each by its place. */
+/* Chosen places, how many and as bits of words, with the first row of each by its place. */
 typedef struct spread {
-    uint64_t chosen[2];
-    size_t starts[128];
+    size_t count;
+    uint64_t chosen[WIDTH];
+    size_t starts[BITS];
 } spread;
-
-/* A record's bit at a place of its value (from 0) or of its mask (from 2). */
-static inline uint64_t bit_at(const uint64_t *record, size_t from, size_t place)
-{
-    return record[from + place / 64] >> place % 64 & 1;
-}
 
 /* The slots of a block that one of the rows has. Two rows a turn: the loop's own instructions are paid once for both. */
 static inline uint64_t apart_in(const uint64_t *maps, const size_t *rows, size_t used, size_t block)
 {
+    if (used == 0)
+        return 0;
     const uint64_t *words = maps + block; /* at the start of a row: its word for the block */
     uint64_t apart = 0;
     size_t k = 0;
@@ -44,7 +41,7 @@ static inline void note_rows(uint64_t *maps, const size_t *own, size_t used, siz
 static inline size_t fill_word(const uint64_t *record, size_t word, const spread *picked, size_t *others, size_t *own,
                                size_t used)
 {
-    for (uint64_t left = record[2 + word] & picked->chosen[word]; left != 0; left &= left - 1) {
+    for (uint64_t left = record[WIDTH + word] & picked->chosen[word]; left != 0; left &= left - 1) {
         size_t bit = (size_t)__builtin_ctzll(left);
         size_t value = record[word] >> bit & 1;
         size_t row = picked->starts[64 * word + bit];
@@ -58,34 +55,61 @@ static inline size_t fill_word(const uint64_t *record, size_t word, const spread
 /* For each chosen place that a record cares for, the row with the other value and the row with its own; how many. */
 static inline size_t fill_rows(const uint64_t *record, const spread *picked, size_t *others, size_t *own)
 {
-    size_t first = fill_word(record, 0, picked, others, own, 0);
-    return fill_word(record, 1, picked, others, own, first);
+    size_t used = 0;
+    if (picked->count == 0)
+        return 0;
+    for (size_t word = 0; word < WIDTH; word++)
+        used = fill_word(record, word, picked, others, own, used);
+    return used;
 }
 
-/* How well a place tells apart 32 slots: those with value 1 there times those that care with value 0. At most 256. */
-static inline uint32_t score_at(const uint64_t *table, size_t slots, size_t place)
+/* The bits of a word added to the counts of its 64 places. Bit k of a count stands in plane k: 64 counts are added to at once. */
+static inline void count_bits(uint64_t *planes, uint64_t word)
 {
-    uint32_t ones = 0, zeros = 0, left = 32;
+    uint64_t carry = word;
+    for (size_t k = 0; k < 6; k++) {
+        uint64_t both = planes[k] & carry;
+        planes[k] ^= carry;
+        carry = both;
+    }
+}
+
+/* The count of one place. */
+static inline uint32_t count_at(const uint64_t *planes, size_t bit)
+{
+    uint32_t count = 0;
+    for (size_t k = 0; k < 6; k++)
+        count += (uint32_t)(planes[k] >> bit & 1) << k;
+    return count;
+}
+
+/* How well each place of a word tells apart 32 slots: those with value 1 there times those that care with value 0. At most 256. */
+static inline void score_word(const uint64_t *table, size_t slots, size_t word, uint32_t *scores)
+{
+    uint64_t ones[6] = {0}, zeros[6] = {0};
+    uint32_t left = 32;
     for (size_t slot = 0; left > 0 && slot < slots; slot += slots / 32 + 1, left--) {
         const uint64_t *record = table + slot * WORDS;
-        uint32_t value = (uint32_t)bit_at(record, 0, place);
-        ones += value;
-        zeros += (uint32_t)bit_at(record, 2, place) ^ value;
+        count_bits(ones, record[word]);
+        count_bits(zeros, record[WIDTH + word] ^ record[word]);
     }
-    return ones * zeros < 256 ? ones * zeros : 256;
+    for (size_t bit = 0; bit < 64; bit++) {
+        uint32_t score = count_at(ones, bit) * count_at(zeros, bit);
+        scores[bit] = score < 256 ? score : 256;
+    }
 }
 
 /* Up to 64 places that tell many of a table's rules apart, those of the highest scores first; how many.
    They are taken while more than a hundredth of 2^30 pairs is expected to be left together. */
 static inline size_t choose_places(const uint64_t *table, size_t slots, size_t *places)
 {
-    uint32_t scores[128], left = 1u << 30, level = 256;
+    uint32_t scores[BITS], left = 1u << 30, level = 256;
     size_t count = 0;
-    for (size_t place = 0; place < 128; place++)
-        scores[place] = score_at(table, slots, place);
-    while (level > 0) {
+    for (size_t word = 0; word < WIDTH; word++)
+        score_word(table, slots, word, scores + 64 * word);
+    while (level > 0 && left > 10737418 && count < PLACES_MOST) {
         level /= 2;
-        for (size_t place = 0; place < 128; place++)
+        for (size_t place = 0; place < BITS; place++)
             if (scores[place] > level && left > 10737418 && count < PLACES_MOST) {
                 places[count++] = place;
                 left -= left / 1024 * (2 * scores[place]);
@@ -97,10 +121,10 @@ static inline size_t choose_places(const uint64_t *table, size_t slots, size_t *
 
 static inline spread spread_places(const size_t *places, size_t count)
 {
-    spread picked = {{0}, {0}};
+    spread picked = {count, {0}, {0}};
     for (size_t k = 0; k < count; k++) {
         picked.chosen[places[k] / 64] |= (uint64_t)1 << places[k] % 64;
-        picked.starts[places[k]] = 32 * k;
+        picked.starts[places[k]] = PLACE_WORDS * k;
     }
     return picked;
 }

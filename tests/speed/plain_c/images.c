@@ -1,6 +1,8 @@
-/* Saving a table as an image and loading an image in C: entries of ten bytes, bodies of forty, big-endian.
+/* Saving a table as an image and loading an image in C: entries of ten bytes, bodies of 16 a word and 8, big-endian.
    A load builds the table meant apart, checks it there, and then copies it. */
 #include "checks.h"
+
+enum { BODY = 16 * WIDTH + 8 };
 
 static void put_16(uint8_t *at, size_t number)
 {
@@ -43,12 +45,10 @@ static uint64_t number_64(const uint8_t *at)
 
 static void put_body(uint8_t *body, const uint64_t *record)
 {
-    put_64(body, record[0]);
-    put_64(body + 8, record[1]);
-    put_64(body + 16, record[2]);
-    put_64(body + 24, record[3]);
-    put_32(body + 32, record[5]);
-    put_32(body + 36, record[4]);
+    for (size_t word = 0; word < 2 * WIDTH; word++)
+        put_64(body + 8 * word, record[word]);
+    put_32(body + 16 * WIDTH, record[RANK]);
+    put_32(body + 16 * WIDTH + 4, record[OWNER]);
 }
 
 static void put_rules(const uint64_t *table, size_t slots, size_t rules, uint8_t *image)
@@ -63,11 +63,11 @@ static void put_rules(const uint64_t *table, size_t slots, size_t rules, uint8_t
         put_32(image + entry + 6, body);
         put_body(image + body, record);
         entry += 10;
-        body += 40;
+        body += BODY;
     }
 }
 
-uint32_t c_save(const uint64_t *table, size_t words, uint8_t *image, size_t image_bytes, uint32_t *bytes, uint32_t *spot)
+uint32_t CALL(save)(const uint64_t *table, size_t words, uint8_t *image, size_t image_bytes, uint32_t *bytes, uint32_t *spot)
 {
     size_t slots = words / WORDS, rules = 0;
     check sound = check_table(table, words);
@@ -77,14 +77,14 @@ uint32_t c_save(const uint64_t *table, size_t words, uint8_t *image, size_t imag
     }
     for (size_t slot = 0; slot < slots; slot++)
         rules += id_of(table + slot * WORDS) != 0;
-    if (image_bytes < 4 + 50 * rules) {
-        *spot = (uint32_t)(4 + 50 * rules);
+    if (image_bytes < 4 + (10 + BODY) * rules) {
+        *spot = (uint32_t)(4 + (10 + BODY) * rules);
         return SHORT;
     }
     put_16(image, slots);
     put_16(image + 2, rules);
     put_rules(table, slots, rules, image);
-    *bytes = (uint32_t)(4 + 50 * rules);
+    *bytes = (uint32_t)(4 + (10 + BODY) * rules);
     return OK;
 }
 
@@ -94,7 +94,7 @@ static check check_head(const uint8_t *image, size_t image_bytes, size_t slots)
     if (image_bytes < 4 || number_16(image) != slots)
         return fail(IMAGE, 0);
     size_t rules = number_16(image + 2);
-    return rules > slots || image_bytes != 4 + 50 * rules ? fail(IMAGE, 2) : pass();
+    return rules > slots || image_bytes != 4 + (10 + BODY) * rules ? fail(IMAGE, 2) : pass();
 }
 
 static check check_entries(const uint8_t *image, size_t slots, size_t rules)
@@ -109,7 +109,7 @@ static check check_entries(const uint8_t *image, size_t slots, size_t rules)
         if (number_32(image + entry + 6) != body)
             return fail(IMAGE, entry + 6);
         lowest = slot + 1;
-        body += 40;
+        body += BODY;
     }
     return pass();
 }
@@ -118,15 +118,13 @@ static check check_entries(const uint8_t *image, size_t slots, size_t rules)
 static check fill(const uint8_t *image, size_t rules, uint64_t *table)
 {
     const uint8_t *entry = image + 4, *body = image + 4 + 10 * rules;
-    for (size_t place = 0; place < rules; place++, entry += 10, body += 40) {
+    for (size_t place = 0; place < rules; place++, entry += 10, body += BODY) {
         uint64_t *record = table + number_16(entry + 4) * WORDS;
-        uint64_t last = number_64(body + 32);
-        record[0] = number_64(body);
-        record[1] = number_64(body + 8);
-        record[2] = number_64(body + 16);
-        record[3] = number_64(body + 24);
-        record[4] = (uint64_t)number_32(entry) << 32 | (uint32_t)last;
-        record[5] = last >> 32;
+        uint64_t last = number_64(body + 16 * WIDTH);
+        for (size_t word = 0; word < 2 * WIDTH; word++)
+            record[word] = number_64(body + 8 * word);
+        record[OWNER] = (uint64_t)number_32(entry) << 32 | (uint32_t)last;
+        record[RANK] = last >> 32;
         if (!is_sound(record))
             return fail(IMAGE, (size_t)(body - image));
     }
@@ -145,7 +143,7 @@ static check load_checked(const uint8_t *image, size_t rules, uint64_t *table, s
     return made;
 }
 
-uint32_t c_load(const uint8_t *image, size_t image_bytes, uint64_t *table, size_t words, uint32_t *spot)
+uint32_t CALL(load)(const uint8_t *image, size_t image_bytes, uint64_t *table, size_t words, uint32_t *spot)
 {
     size_t slots = words / WORDS;
     check made = check_shape(words);

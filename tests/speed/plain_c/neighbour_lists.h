@@ -44,7 +44,7 @@ static inline bool ask_pair(const uint64_t *table, uint16_t *near, marks *noted,
     const uint64_t *first = table + slot * WORDS, *second = table + later * WORDS;
     if (!rules_overlap(first, second))
         return false;
-    if (first[5] <= second[5])
+    if (first[RANK] <= second[RANK])
         return true;
     keep_pair(near, noted, slot, later);
     return false;
@@ -54,7 +54,7 @@ static inline bool ask_pair(const uint64_t *table, uint16_t *near, marks *noted,
 static inline bool quiet(const uint64_t *table, const uint16_t *near, size_t slot, size_t later)
 {
     const uint64_t *first = table + slot * WORDS, *second = table + later * WORDS;
-    bool settled = near[2 * later + 1] != NONE && first[5] > second[5] && near[2 * slot] != NONE;
+    bool settled = near[2 * later + 1] != NONE && first[RANK] > second[RANK] && near[2 * slot] != NONE;
     return settled || !overlap(first, second);
 }
 
@@ -74,7 +74,7 @@ static inline uint64_t skip_quiet(const uint64_t *table, const uint16_t *near, s
 /* The slots of a block whose bits are left, asked from the highest on; whether a pair is out of order. */
 static inline bool ask_block(const uint64_t *table, uint16_t *near, marks *noted, size_t block, uint64_t some, size_t later)
 {
-    uint64_t left = some, rank = table[later * WORDS + 5];
+    uint64_t left = some, rank = table[later * WORDS + RANK];
     bool bad = false;
     while (left != 0) {
         size_t top = 63 - (size_t)__builtin_clzll(left);
@@ -91,7 +91,7 @@ static inline bool ask_row(const uint64_t *table, uint16_t *near, marks *noted, 
 {
     bool bad = false;
     for (size_t block = later / 64 + 1; block-- > 0;) {
-        uint64_t some = needed(near, noted, block, later, table[later * WORDS + 5]);
+        uint64_t some = needed(near, noted, block, later, table[later * WORDS + RANK]);
         if (some != 0)
             bad |= ask_block(table, near, noted, block, some & ~apart_in(maps, rows, used, block), later);
     }
@@ -120,7 +120,7 @@ static size_t pass_with(const uint64_t *table, size_t slots, uint16_t *near, uin
             size_t used = fill_rows(record, picked, others, own);
             bad = ask_row(table, near, &noted, maps, others, used, slot);
             note_rows(maps, own, used, slot);
-            note_rule(&noted, slot, record[5]);
+            note_rule(&noted, slot, record[RANK]);
         }
         first += first == slot && !bad;
     }
@@ -129,10 +129,15 @@ static size_t pass_with(const uint64_t *table, size_t slots, uint16_t *near, uin
 
 static inline size_t pass_screened(const uint64_t *table, size_t slots, uint16_t *near)
 {
-    uint64_t maps[MAP_WORDS] = {0};
     size_t places[PLACES_MOST];
     size_t count = choose_places(table, slots, places);
     spread picked = spread_places(places, count);
+    /* large maps cost more to clear than they save where few places are chosen */
+    if (count <= PLACES_FEW) {
+        uint64_t few[PLACE_WORDS * PLACES_FEW] = {0};
+        return pass_with(table, slots, near, few, &picked);
+    }
+    uint64_t maps[PLACE_WORDS * PLACES_MOST] = {0};
     return pass_with(table, slots, near, maps, &picked);
 }
 

@@ -138,12 +138,12 @@ static check plan_between(const uint64_t *table, size_t slots, const uint16_t *n
     return pass();
 }
 
-static check plan_new(const uint64_t *table, size_t words, const uint64_t *new, uint32_t *plan, size_t plan_words,
-                      uint32_t *count)
+static check plan_new(const uint64_t *table, size_t words, const uint64_t *new, size_t rule_words, uint32_t *plan,
+                      size_t plan_words, uint32_t *count)
 {
     uint16_t near[NEAR_MOST];
     size_t slots = words / WORDS, after, dependant;
-    check made = check_listed(table, words, near);
+    check made = rule_words == WORDS ? check_listed(table, words, near) : fail(SHAPE, 0);
     if (made.number == OK)
         made = check_rule(table, slots, new);
     if (made.number == OK)
@@ -153,12 +153,10 @@ static check plan_new(const uint64_t *table, size_t words, const uint64_t *new, 
     return made;
 }
 
-uint32_t c_plan_insert(const uint64_t *table, size_t words, uint32_t id, uint32_t priority, uint64_t value_high,
-                       uint64_t value_low, uint64_t mask_high, uint64_t mask_low, uint32_t action, uint32_t *plan,
-                       size_t plan_words, uint32_t *count, uint32_t *spot)
+uint32_t CALL(plan_insert)(const uint64_t *table, size_t words, const uint64_t *rule, size_t rule_words, uint32_t *plan,
+                           size_t plan_words, uint32_t *count, uint32_t *spot)
 {
-    const uint64_t new[WORDS] = {value_high, value_low, mask_high, mask_low, (uint64_t)id << 32 | action, priority};
-    check made = plan_new(table, words, new, plan, plan_words, count);
+    check made = plan_new(table, words, rule, rule_words, plan, plan_words, count);
     if (made.number != OK)
         *spot = made.spot;
     return made.number;
@@ -180,8 +178,8 @@ static check plan_emptying(const uint64_t *table, size_t words, uint32_t id, uin
     return pass();
 }
 
-uint32_t c_plan_delete(const uint64_t *table, size_t words, uint32_t id, uint32_t *plan, size_t plan_words, uint32_t *count,
-                       uint32_t *spot)
+uint32_t CALL(plan_delete)(const uint64_t *table, size_t words, uint32_t id, uint32_t *plan, size_t plan_words, uint32_t *count,
+                           uint32_t *spot)
 {
     check made = plan_emptying(table, words, id, plan, plan_words);
     if (made.number == OK)

@@ -41,13 +41,11 @@ static uint64_t refusal(uint32_t number, uint32_t spot)
     return (uint64_t)spot << 32 | number;
 }
 
-uint64_t c_carry_out(uint64_t *table, size_t words, const uint32_t *plan, size_t plan_words, uint32_t id, uint32_t priority,
-                     uint64_t value_high, uint64_t value_low, uint64_t mask_high, uint64_t mask_low, uint32_t action,
-                     progress_record *progress)
+uint64_t CALL(carry_out)(uint64_t *table, size_t words, const uint64_t *new, size_t rule_words, const uint32_t *plan,
+                         size_t plan_words, progress_record *progress)
 {
-    const uint64_t new[WORDS] = {value_high, value_low, mask_high, mask_low, (uint64_t)id << 32 | action, priority};
     static const uint64_t vacant[WORDS] = {0};
-    check slots_check = check_slots(table, words);
+    check slots_check = rule_words == WORDS ? check_slots(table, words) : fail(SHAPE, 0);
     if (slots_check.number != OK)
         return refusal(slots_check.number, slots_check.spot);
     if (progress->done > progress->total || progress->total > plan_words)

@@ -1,5 +1,6 @@
 /* Checks 1 and 2 of a table and the tests of one record or two, for the C version of the library's algorithms.
-   Everything is static, so that each file of calls has the loops inlined. After check 2 an id of 0 tells an empty slot. */
+   Everything is static, so that each file of calls has the loops inlined. After check 2 an id of 0 tells an empty slot.
+   The files of calls are compiled once for each width, a constant WIDTH; CALL names a call at that width. */
 #ifndef SPEED_TABLE_H
 #define SPEED_TABLE_H
 
@@ -8,7 +9,14 @@
 #include <stdint.h>
 #include <string.h>
 
-enum { WORDS = 6, SLOTS_MOST = 1024, PRIORITY_MOST = 65535, PUT_IN = 65535, EMPTYING = 65534 };
+#define PASTED(width, name) width_##width##_##name
+#define AT(width, name) PASTED(width, name)
+#define CALL(name) AT(WIDTH, name)
+
+/* A record is WIDTH words of value and as many of mask, the word of id and action, and the priority. */
+enum { WORDS = 2 * WIDTH + 2, OWNER = 2 * WIDTH, RANK = 2 * WIDTH + 1 };
+
+enum { SLOTS_MOST = 1024, PRIORITY_MOST = 65535, PUT_IN = 65535, EMPTYING = 65534 };
 
 enum { OK, SHAPE, RECORD, TWICE, ORDER, RULE, KNOWN, UNKNOWN, TIE, FULL, CROSSED, SHORT, WRITE, LINE, IMAGE };
 
@@ -30,17 +38,25 @@ static inline check fail(uint32_t number, size_t spot)
 
 static inline bool is_empty(const uint64_t *record)
 {
-    return (record[0] | record[1] | record[2] | record[3] | record[4] | record[5]) == 0;
+    uint64_t some = 0;
+    for (size_t word = 0; word < WORDS; word++)
+        some |= record[word];
+    return some == 0;
 }
 
 static inline uint32_t id_of(const uint64_t *record)
 {
-    return (uint32_t)(record[4] >> 32);
+    return (uint32_t)(record[OWNER] >> 32);
 }
 
 static inline bool rest_is_sound(const uint64_t *record)
 {
-    return record[5] <= PRIORITY_MOST && (record[0] & ~record[2]) == 0 && (record[1] & ~record[3]) == 0;
+    if (record[RANK] > PRIORITY_MOST)
+        return false;
+    for (size_t word = 0; word < WIDTH; word++)
+        if ((record[word] & ~record[WIDTH + word]) != 0)
+            return false;
+    return true;
 }
 
 static inline bool is_sound(const uint64_t *record)
@@ -54,14 +70,28 @@ static inline bool is_fit(const uint64_t *record)
     return id_of(record) != 0 ? rest_is_sound(record) : is_empty(record);
 }
 
-static inline bool matches(const uint64_t *record, uint64_t key_high, uint64_t key_low)
+static inline bool word_matches(const uint64_t *record, const uint64_t *key, size_t word)
 {
-    return ((key_high ^ record[0]) & record[2]) == 0 && ((key_low ^ record[1]) & record[3]) == 0 && id_of(record) != 0;
+    return ((key[word] ^ record[word]) & record[WIDTH + word]) == 0;
+}
+
+/* Of most records the first two words of a key tell, of an empty one its id: the further words are asked last. */
+static inline bool matches(const uint64_t *record, const uint64_t *key)
+{
+    if (!word_matches(record, key, 0) || !word_matches(record, key, 1) || id_of(record) == 0)
+        return false;
+    for (size_t word = 2; word < WIDTH; word++)
+        if (!word_matches(record, key, word))
+            return false;
+    return true;
 }
 
 static inline bool overlap(const uint64_t *first, const uint64_t *second)
 {
-    return ((first[0] ^ second[0]) & first[2] & second[2]) == 0 && ((first[1] ^ second[1]) & first[3] & second[3]) == 0;
+    for (size_t word = 0; word < WIDTH; word++)
+        if (((first[word] ^ second[word]) & first[WIDTH + word] & second[WIDTH + word]) != 0)
+            return false;
+    return true;
 }
 
 static inline bool distinct(const uint64_t *first, const uint64_t *second)
@@ -77,12 +107,12 @@ static inline bool rules_overlap(const uint64_t *first, const uint64_t *second)
 
 static inline bool tied(const uint64_t *first, const uint64_t *second)
 {
-    return overlap(first, second) && first[5] == second[5] && distinct(first, second);
+    return first[RANK] == second[RANK] && overlap(first, second) && distinct(first, second);
 }
 
 static inline bool precedes(const uint64_t *first, const uint64_t *second)
 {
-    return overlap(first, second) && first[5] > second[5] && distinct(first, second);
+    return first[RANK] > second[RANK] && overlap(first, second) && distinct(first, second);
 }
 
 static inline check check_shape(size_t words)

@@ -1,5 +1,5 @@
-// A safe Rust version of the library's algorithms, on records of six words from `as_chunks::<6>`.
-// `unsafe` stands only where lent pointers become slices, in answers.rs.
+// A safe Rust version of the library's algorithms, on records at a constant width.
+// `unsafe` stands only where lent pointers become slices and lent words become records, in answers.rs.
 
 #[path = "../answers.rs"]
 mod answers;

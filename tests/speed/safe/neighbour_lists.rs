@@ -2,12 +2,14 @@
 // earlier ones, in blocks of 64 going down, the highest slot of a block first, and noted for the later ones.
 
 use crate::answers::Record;
-use crate::bitmaps::{apart_in, choose_places, fill_rows, note_rows, spread_places, Maps, Spread, NO_PLACES, PLACES_MOST};
+use crate::bitmaps::{apart_in, choose_places, fill_rows, note_rows, spread_places, Spread, PLACES_MOST, PLACE_WORDS};
 use crate::records::{id_of, overlap, rules_overlap};
 
 pub const NONE: u16 = 65_535;
 /// Below so many slots no maps are used.
 const MAPS_FROM: usize = 160;
+/// For up to so many places smaller maps are used: large ones cost more to clear than they save.
+const PLACES_FEW: usize = 8;
 
 /// The nearest slot after a rule whose rule depends on it, and the nearest before it whose rule precedes it; 65,535 for none.
 #[derive(Clone, Copy)]
@@ -54,12 +56,12 @@ impl Marks {
     }
 
     /// One pair asked: its numbers are kept, and whether it is out of order is told.
-    fn ask_pair(&mut self, records: &[Record], near: &mut [Near], slot: usize, later: usize) -> bool {
+    fn ask_pair<const W: usize>(&mut self, records: &[Record<W>], near: &mut [Near], slot: usize, later: usize) -> bool {
         let (first, second) = (&records[slot], &records[later]);
         if !rules_overlap(first, second) {
             return false;
         }
-        if first[5] <= second[5] {
+        if first.rank <= second.rank {
             return true;
         }
         self.keep_pair(near, slot, later);
@@ -67,23 +69,37 @@ impl Marks {
     }
 
     /// The slots of a block whose bits are left, asked from the highest on; whether a pair is out of order.
-    fn ask_block(&mut self, records: &[Record], near: &mut [Near], block: usize, some: u64, later: usize) -> bool {
+    fn ask_block<const W: usize>(
+        &mut self,
+        records: &[Record<W>],
+        near: &mut [Near],
+        block: usize,
+        some: u64,
+        later: usize,
+    ) -> bool {
         let mut left = some;
         let mut bad = false;
         while left != 0 {
             let top = 63 - left.leading_zeros() as usize;
             bad |= self.ask_pair(records, near, 64 * block + top, later);
-            let rest = (left - (1 << top)) & self.needed(&near[later], block, records[later][5]);
+            let rest = (left - (1 << top)) & self.needed(&near[later], block, records[later].rank);
             left = skip_quiet(records, near, block, rest, later);
         }
         bad
     }
 
     /// A slot against all earlier ones, those not asked that need not be or that the maps tell apart.
-    fn ask_row(&mut self, records: &[Record], near: &mut [Near], maps: &[u64], rows: &[usize], later: usize) -> bool {
+    fn ask_row<const W: usize>(
+        &mut self,
+        records: &[Record<W>],
+        near: &mut [Near],
+        maps: &[u64],
+        rows: &[usize],
+        later: usize,
+    ) -> bool {
         let mut bad = false;
         for block in (0..later / 64 + 1).rev() {
-            let some = self.needed(&near[later], block, records[later][5]);
+            let some = self.needed(&near[later], block, records[later].rank);
             if some != 0 {
                 bad |= self.ask_block(records, near, block, some & !apart_in(maps, rows, block), later);
             }
@@ -93,14 +109,14 @@ impl Marks {
 }
 
 /// Whether a pair need not be asked: both slots have their numbers and the priorities fall, or the patterns do not overlap.
-fn quiet(records: &[Record], near: &[Near], slot: usize, later: usize) -> bool {
+fn quiet<const W: usize>(records: &[Record<W>], near: &[Near], slot: usize, later: usize) -> bool {
     let (first, second) = (&records[slot], &records[later]);
-    let settled = near[later].before != NONE && first[5] > second[5] && near[slot].next != NONE;
+    let settled = near[later].before != NONE && first.rank > second.rank && near[slot].next != NONE;
     settled || !overlap(first, second)
 }
 
 /// The bits of a block left once quiet pairs are dropped, from the highest on, up to the first that is to be asked.
-fn skip_quiet(records: &[Record], near: &[Near], block: usize, some: u64, later: usize) -> u64 {
+fn skip_quiet<const W: usize>(records: &[Record<W>], near: &[Near], block: usize, some: u64, later: usize) -> u64 {
     let mut left = some;
     while left != 0 {
         let top = 63 - left.leading_zeros() as usize;
@@ -112,7 +128,7 @@ fn skip_quiet(records: &[Record], near: &[Near], block: usize, some: u64, later:
     0
 }
 
-fn pass_with(records: &[Record], near: &mut [Near], maps: &mut [u64], spread: &Spread) -> usize {
+fn pass_with<const W: usize>(records: &[Record<W>], near: &mut [Near], maps: &mut [u64], spread: &Spread<W>) -> usize {
     let mut marks = Marks { full: [0; 16], free: [0; 16], low: [65_536; 16] };
     let mut others = [0; PLACES_MOST];
     let mut own = [0; PLACES_MOST];
@@ -124,7 +140,7 @@ fn pass_with(records: &[Record], near: &mut [Near], maps: &mut [u64], spread: &S
             let used = fill_rows(record, spread, &mut others, &mut own);
             bad = marks.ask_row(records, near, maps, &others[..used], slot);
             note_rows(maps, &own[..used], slot);
-            marks.note_rule(slot, record[5]);
+            marks.note_rule(slot, record.rank);
         }
         if first == slot && !bad {
             first += 1;
@@ -133,17 +149,20 @@ fn pass_with(records: &[Record], near: &mut [Near], maps: &mut [u64], spread: &S
     first
 }
 
-fn pass_screened(records: &[Record], near: &mut [Near]) -> usize {
-    let mut maps: Maps = [0; 32 * PLACES_MOST];
+fn pass_screened<const W: usize>(records: &[Record<W>], near: &mut [Near]) -> usize {
     let mut places = [0; PLACES_MOST];
     let count = choose_places(records, &mut places);
-    pass_with(records, near, &mut maps, &spread_places(&places[..count]))
+    let spread = spread_places(&places[..count]);
+    if count <= PLACES_FEW {
+        return pass_with(records, near, &mut [0; PLACE_WORDS * PLACES_FEW], &spread);
+    }
+    pass_with(records, near, &mut [0; PLACE_WORDS * PLACES_MOST], &spread)
 }
 
 /// The neighbour list of a table, into the front of a lent list; the lowest slot that is out of order, or the number of slots.
-pub fn fill_near(records: &[Record], near: &mut [Near]) -> usize {
+pub fn fill_near<const W: usize>(records: &[Record<W>], near: &mut [Near]) -> usize {
     if records.len() < MAPS_FROM {
-        return pass_with(records, near, &mut [0; 16], &NO_PLACES);
+        return pass_with(records, near, &mut [0; 16], &Spread::NONE);
     }
     pass_screened(records, near)
 }

@@ -23,7 +23,7 @@ fn window_end(near: &[Near], slots: usize, up: bool, slot: usize) -> usize {
 }
 
 /// For each position one past its window's last position, or 0 where the slot is empty.
-fn fill_ends(records: &[Record], near: &[Near], up: bool, ends: &mut Column) {
+fn fill_ends<const W: usize>(records: &[Record<W>], near: &[Near], up: bool, ends: &mut Column) {
     let slots = records.len();
     for (slot, record) in records.iter().enumerate() {
         let position = if up { slots - 1 - slot } else { slot };
@@ -45,7 +45,7 @@ fn least_in_window(window: &[u16], top: usize) -> u16 {
 
 /// The costs of all positions along one direction, the last position first.
 /// The least of all is kept, so that no window that runs to the last position is searched.
-pub fn costs_along(records: &[Record], near: &[Near], up: bool) -> Column {
+pub fn costs_along<const W: usize>(records: &[Record<W>], near: &[Near], up: bool) -> Column {
     let slots = records.len();
     let mut ends = [0; SLOTS_MOST];
     fill_ends(records, near, up, &mut ends);

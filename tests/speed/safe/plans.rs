@@ -6,7 +6,8 @@ use crate::checks::{check_listed, check_table, new_list};
 use crate::planner::{choose, costs_along, write_plan};
 use crate::records::{id_of, is_sound, precedes, tied};
 
-pub fn plan_insert(table: &[u64], new: &Record, plan: &mut [u32]) -> Result<u32, Refusal> {
+pub fn plan_insert<const W: usize>(table: &[u64], rule: &[u64], plan: &mut [u32]) -> Result<u32, Refusal> {
+    let new = Record::<W>::one(rule)?;
     let mut near = new_list();
     let records = check_listed(table, &mut near)?;
     let slots = records.len();
@@ -23,7 +24,7 @@ pub fn plan_insert(table: &[u64], new: &Record, plan: &mut [u32]) -> Result<u32,
 }
 
 /// Checks 5 to 10; A + 1, and B.
-fn check_new(records: &[Record], new: &Record) -> Result<(usize, usize), Refusal> {
+fn check_new<const W: usize>(records: &[Record<W>], new: &Record<W>) -> Result<(usize, usize), Refusal> {
     if !is_sound(new) {
         return refuse(RULE, 0);
     }
@@ -45,12 +46,12 @@ fn check_new(records: &[Record], new: &Record) -> Result<(usize, usize), Refusal
 }
 
 /// The slot of an id that is not 0, in a table whose records are empty or sound.
-fn slot_of_id(records: &[Record], id: u32) -> Option<usize> {
+fn slot_of_id<const W: usize>(records: &[Record<W>], id: u32) -> Option<usize> {
     records.iter().position(|record| id_of(record) == id)
 }
 
-pub fn plan_delete(table: &[u64], id: u32, plan: &mut [u32]) -> Result<u32, Refusal> {
-    let records = check_table(table)?;
+pub fn plan_delete<const W: usize>(table: &[u64], id: u32, plan: &mut [u32]) -> Result<u32, Refusal> {
+    let records = check_table::<W>(table)?;
     if id == 0 {
         return refuse(RULE, 0);
     }

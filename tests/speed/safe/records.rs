@@ -3,24 +3,26 @@
 
 use crate::answers::{Record, PRIORITY_MOST};
 
-pub fn is_empty(record: &Record) -> bool {
-    record[0] | record[1] | record[2] | record[3] | record[4] | record[5] == 0
+pub fn is_empty<const W: usize>(record: &Record<W>) -> bool {
+    let some = (0..W).fold(record.owner | record.rank, |some, word| some | record.value[word] | record.mask[word]);
+    some == 0
 }
 
-pub fn id_of(record: &Record) -> u32 {
-    (record[4] >> 32) as u32
+pub fn id_of<const W: usize>(record: &Record<W>) -> u32 {
+    (record.owner >> 32) as u32
 }
 
-fn rest_is_sound(record: &Record) -> bool {
-    record[5] <= PRIORITY_MOST && record[0] & !record[2] == 0 && record[1] & !record[3] == 0
+/// Whether a record's priority and pattern are a rule's.
+pub fn rest_is_sound<const W: usize>(record: &Record<W>) -> bool {
+    record.rank <= PRIORITY_MOST && (0..W).all(|word| record.value[word] & !record.mask[word] == 0)
 }
 
-pub fn is_sound(record: &Record) -> bool {
+pub fn is_sound<const W: usize>(record: &Record<W>) -> bool {
     id_of(record) != 0 && rest_is_sound(record)
 }
 
 /// Whether a record is empty or sound.
-pub fn is_fit(record: &Record) -> bool {
+pub fn is_fit<const W: usize>(record: &Record<W>) -> bool {
     if id_of(record) != 0 {
         rest_is_sound(record)
     } else {
@@ -28,27 +30,29 @@ pub fn is_fit(record: &Record) -> bool {
     }
 }
 
-pub fn matches(record: &Record, key: [u64; 2]) -> bool {
-    (key[0] ^ record[0]) & record[2] == 0 && (key[1] ^ record[1]) & record[3] == 0 && id_of(record) != 0
+/// Of most records the first two words of a key tell, of an empty one its id: the further words are asked last.
+pub fn matches<const W: usize>(record: &Record<W>, key: &[u64; W]) -> bool {
+    let word_matches = |word: usize| (key[word] ^ record.value[word]) & record.mask[word] == 0;
+    (0..2).all(word_matches) && id_of(record) != 0 && (2..W).all(word_matches)
 }
 
-pub fn overlap(first: &Record, second: &Record) -> bool {
-    (first[0] ^ second[0]) & first[2] & second[2] == 0 && (first[1] ^ second[1]) & first[3] & second[3] == 0
+pub fn overlap<const W: usize>(first: &Record<W>, second: &Record<W>) -> bool {
+    (0..W).all(|word| (first.value[word] ^ second.value[word]) & first.mask[word] & second.mask[word] == 0)
 }
 
-fn distinct(first: &Record, second: &Record) -> bool {
+fn distinct<const W: usize>(first: &Record<W>, second: &Record<W>) -> bool {
     id_of(first) != 0 && id_of(second) != 0 && id_of(first) != id_of(second)
 }
 
 /// Whether the records hold two rules of different ids that overlap; patterns tell most pairs apart.
-pub fn rules_overlap(first: &Record, second: &Record) -> bool {
+pub fn rules_overlap<const W: usize>(first: &Record<W>, second: &Record<W>) -> bool {
     overlap(first, second) && distinct(first, second)
 }
 
-pub fn tied(first: &Record, second: &Record) -> bool {
-    overlap(first, second) && first[5] == second[5] && distinct(first, second)
+pub fn tied<const W: usize>(first: &Record<W>, second: &Record<W>) -> bool {
+    first.rank == second.rank && overlap(first, second) && distinct(first, second)
 }
 
-pub fn precedes(first: &Record, second: &Record) -> bool {
-    overlap(first, second) && first[5] > second[5] && distinct(first, second)
+pub fn precedes<const W: usize>(first: &Record<W>, second: &Record<W>) -> bool {
+    first.rank > second.rank && overlap(first, second) && distinct(first, second)
 }

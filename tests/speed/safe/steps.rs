@@ -6,8 +6,14 @@ use crate::checks::check_slots;
 use crate::records::{id_of, is_empty, is_sound};
 
 /// Whether a write was made; if not, the plan is finished.
-pub fn carry_out(table: &mut [u64], plan: &[u32], new: &Record, progress: &mut Progress) -> Result<bool, Refusal> {
-    let records = check_slots(table)?;
+pub fn carry_out<const W: usize>(
+    table: &mut [u64],
+    rule: &[u64],
+    plan: &[u32],
+    progress: &mut Progress,
+) -> Result<bool, Refusal> {
+    let new = Record::<W>::one(rule)?;
+    let records = check_slots::<W>(table)?;
     let done = progress.done as usize;
     if progress.done > progress.total || progress.total as usize > plan.len() {
         return refuse(WRITE, done);
@@ -25,15 +31,15 @@ pub fn carry_out(table: &mut [u64], plan: &[u32], new: &Record, progress: &mut P
     }
     let record = match from {
         PUT_IN => *new,
-        EMPTYING => [0; 6],
+        EMPTYING => Record::EMPTY,
         _ => records[from as usize],
     };
-    table[to * 6..to * 6 + 6].copy_from_slice(&record);
+    Record::all_mut(table)?[to] = record;
     progress.done += 1;
     Ok(true)
 }
 
-fn fits(records: &[Record], from: u32, to: usize) -> bool {
+fn fits<const W: usize>(records: &[Record<W>], from: u32, to: usize) -> bool {
     match from {
         PUT_IN => is_free(records, to),
         EMPTYING => is_occupied(records, to),
@@ -41,12 +47,12 @@ fn fits(records: &[Record], from: u32, to: usize) -> bool {
     }
 }
 
-fn is_occupied(records: &[Record], slot: usize) -> bool {
+fn is_occupied<const W: usize>(records: &[Record<W>], slot: usize) -> bool {
     slot < records.len() && !is_empty(&records[slot])
 }
 
 /// The slot exists, and is empty or its id stands in another slot too.
-fn is_free(records: &[Record], slot: usize) -> bool {
+fn is_free<const W: usize>(records: &[Record<W>], slot: usize) -> bool {
     if slot >= records.len() {
         return false;
     }

@@ -6,20 +6,17 @@ use crate::records::{at, put};
 
 pub const PLACES_MOST: usize = 64;
 /// Row 2 k + v is words 16 (2 k + v) and the 15 after it: the slots that care for place k with value v, a word for each block.
-pub type Maps = [u64; 32 * PLACES_MOST];
+pub const PLACE_WORDS: usize = 32;
 pub type Rows = [usize; PLACES_MOST];
 
-/// Chosen places as bits of two words, with the first row of each by its place.
-pub struct Spread {
-    chosen: [u64; 2],
-    starts: [usize; 128],
+/// Chosen places as bits of words, with the first row of each by its word and bit.
+pub struct Spread<const W: usize> {
+    chosen: [u64; W],
+    starts: [[usize; 64]; W],
 }
 
-pub const NO_PLACES: Spread = Spread { chosen: [0; 2], starts: [0; 128] };
-
-/// A record's bit at a place of its value (from 0) or of its mask (from 2).
-unsafe fn bit_at(record: &Record, from: usize, place: usize) -> u64 {
-    at(record, from + place / 64) >> (place % 64) & 1
+impl<const W: usize> Spread<W> {
+    pub const NONE: Spread<W> = Spread { chosen: [0; W], starts: [[0; 64]; W] };
 }
 
 /// The slots of a block that one of the rows has. Two rows a turn: the loop's own instructions are paid once for both.
@@ -54,13 +51,20 @@ pub unsafe fn note_rows(maps: &mut [u64], own: &[usize], slot: usize) {
 }
 
 /// The rows of the chosen places of one word that a record cares for, after those of the words before it; how many so far.
-unsafe fn fill_word(record: &Record, word: usize, spread: &Spread, others: &mut Rows, own: &mut Rows, before: usize) -> usize {
-    let mut left = at(record, 2 + word) & at(&spread.chosen, word);
+unsafe fn fill_word<const W: usize>(
+    record: &Record<W>,
+    word: usize,
+    spread: &Spread<W>,
+    others: &mut Rows,
+    own: &mut Rows,
+    before: usize,
+) -> usize {
+    let mut left = at(&record.mask, word) & at(&spread.chosen, word);
     let mut used = before;
     while left != 0 {
         let bit = left.trailing_zeros() as usize;
-        let value = (at(record, word) >> bit & 1) as usize;
-        let row = at(&spread.starts, 64 * word + bit);
+        let value = (at(&record.value, word) >> bit & 1) as usize;
+        let row = at(spread.starts.get_unchecked(word), bit);
         put(others, used, row + 16 * (1 - value));
         put(own, used, row + 16 * value);
         used += 1;
@@ -70,39 +74,58 @@ unsafe fn fill_word(record: &Record, word: usize, spread: &Spread, others: &mut 
 }
 
 /// For each chosen place that a record cares for, the row with the other value and the row with its own; how many.
+/// Not left out where no place is chosen: with that test the compiler makes the pass over hostile tables slower.
 ///
 /// # Safety
 /// At most 64 places are chosen.
-pub unsafe fn fill_rows(record: &Record, spread: &Spread, others: &mut Rows, own: &mut Rows) -> usize {
-    let first = fill_word(record, 0, spread, others, own, 0);
-    fill_word(record, 1, spread, others, own, first)
+pub unsafe fn fill_rows<const W: usize>(record: &Record<W>, spread: &Spread<W>, others: &mut Rows, own: &mut Rows) -> usize {
+    (0..W).fold(0, |used, word| fill_word(record, word, spread, others, own, used))
 }
 
-/// How well a place tells apart 32 slots: those with value 1 there times those that care with value 0. At most 256.
-unsafe fn score_at(records: &[Record], place: usize) -> u32 {
+/// Counts of the 64 places of a word: bit k of a count stands in plane k, so that 64 counts are added to at once.
+type Planes = [u64; 6];
+
+/// The bits of a word added to the counts of its places.
+fn count_bits(planes: &mut Planes, word: u64) {
+    let mut carry = word;
+    for plane in planes {
+        (*plane, carry) = (*plane ^ carry, *plane & carry);
+    }
+}
+
+/// The count of one place.
+fn count_at(planes: &Planes, bit: usize) -> u32 {
+    (0..6).fold(0, |count, k| count + ((planes[k] >> bit & 1) << k)) as u32
+}
+
+/// How well each place of a word tells apart 32 slots: those with value 1 there times those that care with value 0. At most 256.
+unsafe fn score_word<const W: usize>(records: &[Record<W>], word: usize) -> [u32; 64] {
     let step = records.len() / 32 + 1;
-    let mut ones = 0;
-    let mut zeros = 0;
+    let (mut ones, mut zeros) = ([0; 6], [0; 6]);
     let mut slot = 0;
     let mut left = 32;
     while left > 0 && slot < records.len() {
-        let value = bit_at(records.get_unchecked(slot), 0, place);
-        ones += value;
-        zeros += bit_at(records.get_unchecked(slot), 2, place) ^ value;
+        let record = records.get_unchecked(slot);
+        let value = at(&record.value, word);
+        count_bits(&mut ones, value);
+        count_bits(&mut zeros, at(&record.mask, word) ^ value);
         slot += step;
         left -= 1;
     }
-    (ones * zeros).min(256) as u32
+    std::array::from_fn(|bit| (count_at(&ones, bit) * count_at(&zeros, bit)).min(256))
 }
 
 /// Up to 64 places that tell many of a table's rules apart, those of the highest scores first; how many.
 /// They are taken while more than a hundredth of 2^30 pairs is expected to be left together.
-pub fn choose_places(records: &[Record], places: &mut Rows) -> usize {
-    let mut scores: [u32; 128] = std::array::from_fn(|place| unsafe { score_at(records, place) });
+pub fn choose_places<const W: usize>(records: &[Record<W>], places: &mut Rows) -> usize {
+    let mut scores: [[u32; 64]; W] = std::array::from_fn(|word| unsafe { score_word(records, word) });
     let mut left = 1u32 << 30;
     let mut count = 0;
     for level in [128, 64, 32, 16, 8, 4, 2, 1, 0] {
-        for (place, score) in scores.iter_mut().enumerate() {
+        if left <= 10_737_418 || count == PLACES_MOST {
+            break;
+        }
+        for (place, score) in scores.as_flattened_mut().iter_mut().enumerate() {
             if *score > level && left > 10_737_418 && count < PLACES_MOST {
                 unsafe { put(places, count, place) };
                 count += 1;
@@ -115,12 +138,12 @@ pub fn choose_places(records: &[Record], places: &mut Rows) -> usize {
 }
 
 /// # Safety
-/// Each place is below 128.
-pub unsafe fn spread_places(places: &[usize]) -> Spread {
-    let mut spread = NO_PLACES;
+/// Each place is below 64 W.
+pub unsafe fn spread_places<const W: usize>(places: &[usize]) -> Spread<W> {
+    let mut spread = Spread::NONE;
     for (k, &place) in places.iter().enumerate() {
         *spread.chosen.get_unchecked_mut(place / 64) |= 1 << (place % 64);
-        put(&mut spread.starts, place, 32 * k);
+        put(spread.starts.get_unchecked_mut(place / 64), place % 64, PLACE_WORDS * k);
     }
     spread
 }

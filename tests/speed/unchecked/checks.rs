@@ -1,22 +1,13 @@
 // Checks 1 to 4 of a table, and its neighbour list, which comes with check 4.
 // Check 3 asks a column of ids, without early exit, where an earlier id has the same last 13 bits.
 
-use crate::answers::{refuse, Record, Refusal, ORDER, RECORD, SHAPE, SLOTS_MOST, TWICE};
+use crate::answers::{refuse, Record, Refusal, ORDER, RECORD, SLOTS_MOST, TWICE};
 use crate::neighbour_lists::{fill_near, Near};
 use crate::records::{at, id_of, is_fit, put};
 
-/// Check 1: the table's words as records.
-pub fn records_of(table: &[u64]) -> Result<&[Record], Refusal> {
-    let slots = table.len() / 6;
-    if table.len() % 6 != 0 || slots < 1 || slots > SLOTS_MOST {
-        return refuse(SHAPE, 0);
-    }
-    Ok(unsafe { std::slice::from_raw_parts(table.as_ptr().cast(), slots) })
-}
-
 /// Checks 1 and 2.
-pub fn check_slots(table: &[u64]) -> Result<&[Record], Refusal> {
-    let records = records_of(table)?;
+pub fn check_slots<const W: usize>(table: &[u64]) -> Result<&[Record<W>], Refusal> {
+    let records = Record::all(table)?;
     let mut slot = 0;
     while slot < records.len() {
         let record = unsafe { records.get_unchecked(slot) };
@@ -29,7 +20,7 @@ pub fn check_slots(table: &[u64]) -> Result<&[Record], Refusal> {
 }
 
 /// Check 3, of records that are empty or sound: an id of 0 is an empty slot's.
-fn check_twice(records: &[Record]) -> Result<(), Refusal> {
+fn check_twice<const W: usize>(records: &[Record<W>]) -> Result<(), Refusal> {
     let mut ids = [0u32; SLOTS_MOST];
     let mut seen = [0u64; 128];
     let mut slot = 0;
@@ -58,7 +49,7 @@ unsafe fn stands_before(ids: &[u32; SLOTS_MOST], slot: usize, id: u32) -> bool {
 }
 
 /// Check 4; where it passes, the table's neighbour list is in the front of the lent one.
-fn check_order(records: &[Record], near: &mut Near) -> Result<(), Refusal> {
+fn check_order<const W: usize>(records: &[Record<W>], near: &mut Near) -> Result<(), Refusal> {
     let first = unsafe { fill_near(records, near) };
     if first < records.len() {
         return refuse(ORDER, first);
@@ -67,19 +58,19 @@ fn check_order(records: &[Record], near: &mut Near) -> Result<(), Refusal> {
 }
 
 /// Checks 3 and 4, with the list.
-pub fn check_pairs(records: &[Record], near: &mut Near) -> Result<(), Refusal> {
+pub fn check_pairs<const W: usize>(records: &[Record<W>], near: &mut Near) -> Result<(), Refusal> {
     check_twice(records)?;
     check_order(records, near)
 }
 
 /// Checks 1 to 4, with the list.
-pub fn check_listed<'a>(table: &'a [u64], near: &mut Near) -> Result<&'a [Record], Refusal> {
+pub fn check_listed<'a, const W: usize>(table: &'a [u64], near: &mut Near) -> Result<&'a [Record<W>], Refusal> {
     let records = check_slots(table)?;
     check_pairs(records, near)?;
     Ok(records)
 }
 
 /// Checks 1 to 4.
-pub fn check_table(table: &[u64]) -> Result<&[Record], Refusal> {
+pub fn check_table<const W: usize>(table: &[u64]) -> Result<&[Record<W>], Refusal> {
     check_listed(table, &mut [0; 2 * SLOTS_MOST])
 }

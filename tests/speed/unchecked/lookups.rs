@@ -1,17 +1,18 @@
 // Lookup and the part of the table that is a slot's record: checks 1 and 2, then one pass or one slot.
 // The pass asks four records a step, and ends at the first of the four that match.
 
-use crate::answers::{Hit, Record, Refusal};
+use crate::answers::{key_of, Hit, Record, Refusal};
 use crate::checks::check_slots;
 use crate::records::{id_of, is_empty, matches};
 
-pub fn lookup(table: &[u64], key: [u64; 2]) -> Result<Option<Hit>, Refusal> {
-    let records = check_slots(table)?;
+pub fn lookup<const W: usize>(table: &[u64], key: &[u64]) -> Result<Option<Hit>, Refusal> {
+    let key = key_of::<W>(key)?;
+    let records = check_slots::<W>(table)?;
     let mut slot = unsafe { unmatched(records, key) };
     while slot < records.len() {
         let record = unsafe { records.get_unchecked(slot) };
         if matches(record, key) {
-            return Ok(Some(Hit { slot: slot as u32, id: id_of(record), action: record[4] as u32 }));
+            return Ok(Some(Hit { slot: slot as u32, id: id_of(record), action: record.owner as u32 }));
         }
         slot += 1;
     }
@@ -19,7 +20,7 @@ pub fn lookup(table: &[u64], key: [u64; 2]) -> Result<Option<Hit>, Refusal> {
 }
 
 /// How many records from the first on are passed over, four at a time.
-unsafe fn unmatched(records: &[Record], key: [u64; 2]) -> usize {
+unsafe fn unmatched<const W: usize>(records: &[Record<W>], key: &[u64; W]) -> usize {
     let mut record = records.as_ptr();
     let fours = record.add(records.len() & !3);
     while record != fours
@@ -33,11 +34,7 @@ unsafe fn unmatched(records: &[Record], key: [u64; 2]) -> usize {
     record.offset_from_unsigned(records.as_ptr())
 }
 
-pub fn slot_record(table: &[u64], slot: usize) -> &[u64] {
-    if let Ok(records) = check_slots(table) {
-        if slot < records.len() && !is_empty(unsafe { records.get_unchecked(slot) }) {
-            return unsafe { records.get_unchecked(slot) };
-        }
-    }
-    &[]
+pub fn holds_rule<const W: usize>(table: &[u64], slot: usize) -> Result<bool, Refusal> {
+    let records = check_slots::<W>(table)?;
+    Ok(slot < records.len() && !is_empty(unsafe { records.get_unchecked(slot) }))
 }

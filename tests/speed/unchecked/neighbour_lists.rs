@@ -2,12 +2,14 @@
 // earlier ones, in blocks of 64 going down, the highest slot of a block first, and noted for the later ones.
 
 use crate::answers::{Record, SLOTS_MOST};
-use crate::bitmaps::{apart_in, choose_places, fill_rows, note_rows, spread_places, Maps, Spread, NO_PLACES, PLACES_MOST};
+use crate::bitmaps::{apart_in, choose_places, fill_rows, note_rows, spread_places, Spread, PLACES_MOST, PLACE_WORDS};
 use crate::records::{at, id_of, overlap, put, rules_overlap};
 
 pub const NONE: u16 = 65_535;
 /// Below so many slots no maps are used.
 const MAPS_FROM: usize = 160;
+/// For up to so many places smaller maps are used: large ones cost more to clear than they save.
+const PLACES_FEW: usize = 8;
 
 /// At 2 i the nearest slot after slot i whose rule depends on its, at 2 i + 1 the nearest before it whose rule precedes its;
 /// 65,535 for none.
@@ -43,12 +45,12 @@ unsafe fn keep_pair(near: &mut Near, marks: &mut Marks, slot: usize, later: usiz
 }
 
 /// One pair asked: its numbers are kept, and whether it is out of order is told.
-unsafe fn ask_pair(records: &[Record], near: &mut Near, marks: &mut Marks, slot: usize, later: usize) -> bool {
+unsafe fn ask_pair<const W: usize>(records: &[Record<W>], near: &mut Near, marks: &mut Marks, slot: usize, later: usize) -> bool {
     let (first, second) = (records.get_unchecked(slot), records.get_unchecked(later));
     if !rules_overlap(first, second) {
         return false;
     }
-    if first[5] <= second[5] {
+    if first.rank <= second.rank {
         return true;
     }
     keep_pair(near, marks, slot, later);
@@ -56,14 +58,14 @@ unsafe fn ask_pair(records: &[Record], near: &mut Near, marks: &mut Marks, slot:
 }
 
 /// Whether a pair need not be asked: both slots have their numbers and the priorities fall, or the patterns do not overlap.
-unsafe fn quiet(records: &[Record], near: &Near, slot: usize, later: usize) -> bool {
+unsafe fn quiet<const W: usize>(records: &[Record<W>], near: &Near, slot: usize, later: usize) -> bool {
     let (first, second) = (records.get_unchecked(slot), records.get_unchecked(later));
-    let settled = at(near, 2 * later + 1) != NONE && first[5] > second[5] && at(near, 2 * slot) != NONE;
+    let settled = at(near, 2 * later + 1) != NONE && first.rank > second.rank && at(near, 2 * slot) != NONE;
     settled || !overlap(first, second)
 }
 
 /// The bits of a block left once quiet pairs are dropped, from the highest on, up to the first that is to be asked.
-unsafe fn skip_quiet(records: &[Record], near: &Near, block: usize, some: u64, later: usize) -> u64 {
+unsafe fn skip_quiet<const W: usize>(records: &[Record<W>], near: &Near, block: usize, some: u64, later: usize) -> u64 {
     let mut left = some;
     while left != 0 {
         let top = 63 - left.leading_zeros() as usize;
@@ -76,8 +78,15 @@ unsafe fn skip_quiet(records: &[Record], near: &Near, block: usize, some: u64, l
 }
 
 /// The slots of a block whose bits are left, asked from the highest on; whether a pair is out of order.
-unsafe fn ask_block(records: &[Record], near: &mut Near, marks: &mut Marks, block: usize, some: u64, later: usize) -> bool {
-    let rank = records.get_unchecked(later)[5];
+unsafe fn ask_block<const W: usize>(
+    records: &[Record<W>],
+    near: &mut Near,
+    marks: &mut Marks,
+    block: usize,
+    some: u64,
+    later: usize,
+) -> bool {
+    let rank = records.get_unchecked(later).rank;
     let mut left = some;
     let mut bad = false;
     while left != 0 {
@@ -90,8 +99,15 @@ unsafe fn ask_block(records: &[Record], near: &mut Near, marks: &mut Marks, bloc
 }
 
 /// A slot against all earlier ones, those not asked that need not be or that the maps tell apart.
-unsafe fn ask_row(records: &[Record], near: &mut Near, marks: &mut Marks, maps: &[u64], rows: &[usize], later: usize) -> bool {
-    let rank = records.get_unchecked(later)[5];
+unsafe fn ask_row<const W: usize>(
+    records: &[Record<W>],
+    near: &mut Near,
+    marks: &mut Marks,
+    maps: &[u64],
+    rows: &[usize],
+    later: usize,
+) -> bool {
+    let rank = records.get_unchecked(later).rank;
     let mut block = later / 64 + 1;
     let mut bad = false;
     while block > 0 {
@@ -112,7 +128,7 @@ unsafe fn note_rule(marks: &mut Marks, slot: usize, rank: u64) {
     *low = rank.min(*low);
 }
 
-unsafe fn pass_with(records: &[Record], near: &mut Near, maps: &mut [u64], spread: &Spread) -> usize {
+unsafe fn pass_with<const W: usize>(records: &[Record<W>], near: &mut Near, maps: &mut [u64], spread: &Spread<W>) -> usize {
     let mut marks = Marks { full: [0; 16], free: [0; 16], low: [65_536; 16] };
     let mut others = [0; PLACES_MOST];
     let mut own = [0; PLACES_MOST];
@@ -127,7 +143,7 @@ unsafe fn pass_with(records: &[Record], near: &mut Near, maps: &mut [u64], sprea
             let used = fill_rows(record, spread, &mut others, &mut own);
             bad = ask_row(records, near, &mut marks, maps, others.get_unchecked(..used), slot);
             note_rows(maps, own.get_unchecked(..used), slot);
-            note_rule(&mut marks, slot, record[5]);
+            note_rule(&mut marks, slot, record.rank);
         }
         if first == slot && !bad {
             first += 1;
@@ -137,20 +153,23 @@ unsafe fn pass_with(records: &[Record], near: &mut Near, maps: &mut [u64], sprea
     first
 }
 
-unsafe fn pass_screened(records: &[Record], near: &mut Near) -> usize {
-    let mut maps: Maps = [0; 32 * PLACES_MOST];
+unsafe fn pass_screened<const W: usize>(records: &[Record<W>], near: &mut Near) -> usize {
     let mut places = [0; PLACES_MOST];
     let count = choose_places(records, &mut places);
-    pass_with(records, near, &mut maps, &spread_places(places.get_unchecked(..count)))
+    let spread = spread_places(places.get_unchecked(..count));
+    if count <= PLACES_FEW {
+        return pass_with(records, near, &mut [0; PLACE_WORDS * PLACES_FEW], &spread);
+    }
+    pass_with(records, near, &mut [0; PLACE_WORDS * PLACES_MOST], &spread)
 }
 
 /// The neighbour list of a table, into the front of a lent list; the lowest slot that is out of order, or the number of slots.
 ///
 /// # Safety
 /// There are 1 to 1,024 records.
-pub unsafe fn fill_near(records: &[Record], near: &mut Near) -> usize {
+pub unsafe fn fill_near<const W: usize>(records: &[Record<W>], near: &mut Near) -> usize {
     if records.len() < MAPS_FROM {
-        return pass_with(records, near, &mut [0; 16], &NO_PLACES);
+        return pass_with(records, near, &mut [0; 16], &Spread::NONE);
     }
     pass_screened(records, near)
 }

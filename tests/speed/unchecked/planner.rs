@@ -23,7 +23,7 @@ unsafe fn window_end(near: &Near, slots: usize, up: bool, slot: usize) -> usize 
 }
 
 /// For each position one past its window's last position, or 0 where the slot is empty.
-unsafe fn fill_ends(records: &[Record], near: &Near, up: bool, ends: &mut Column) {
+unsafe fn fill_ends<const W: usize>(records: &[Record<W>], near: &Near, up: bool, ends: &mut Column) {
     let slots = records.len();
     let mut slot = 0;
     while slot < slots {
@@ -57,7 +57,7 @@ unsafe fn least_in_window(costs: &Column, from: usize, to: usize, top: usize) ->
 ///
 /// # Safety
 /// There are 1 to 1,024 records.
-pub unsafe fn fill_costs(records: &[Record], near: &Near, up: bool, ends: &mut Column, costs: &mut Column) {
+pub unsafe fn fill_costs<const W: usize>(records: &[Record<W>], near: &Near, up: bool, ends: &mut Column, costs: &mut Column) {
     let slots = records.len();
     fill_ends(records, near, up, ends);
     let mut position = slots;

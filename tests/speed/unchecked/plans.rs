@@ -6,7 +6,8 @@ use crate::checks::{check_listed, check_table};
 use crate::planner::{choose, fill_costs, write_plan};
 use crate::records::{id_of, is_sound, precedes, put, tied};
 
-pub fn plan_insert(table: &[u64], new: &Record, plan: &mut [u32]) -> Result<u32, Refusal> {
+pub fn plan_insert<const W: usize>(table: &[u64], rule: &[u64], plan: &mut [u32]) -> Result<u32, Refusal> {
+    let new = Record::<W>::one(rule)?;
     let mut near = [0; 2 * SLOTS_MOST];
     let records = check_listed(table, &mut near)?;
     let slots = records.len();
@@ -29,7 +30,7 @@ pub fn plan_insert(table: &[u64], new: &Record, plan: &mut [u32]) -> Result<u32,
 
 /// The lowest slot whose record passes a test, or the number of slots.
 #[inline(always)]
-fn first_slot(records: &[Record], test: impl Fn(&Record) -> bool) -> usize {
+fn first_slot<const W: usize>(records: &[Record<W>], test: impl Fn(&Record<W>) -> bool) -> usize {
     let mut slot = 0;
     while slot < records.len() && !test(unsafe { records.get_unchecked(slot) }) {
         slot += 1;
@@ -38,7 +39,7 @@ fn first_slot(records: &[Record], test: impl Fn(&Record) -> bool) -> usize {
 }
 
 /// Checks 5 to 10; A + 1, and B.
-fn check_new(records: &[Record], new: &Record) -> Result<(usize, usize), Refusal> {
+fn check_new<const W: usize>(records: &[Record<W>], new: &Record<W>) -> Result<(usize, usize), Refusal> {
     let slots = records.len();
     if !is_sound(new) {
         return refuse(RULE, 0);
@@ -66,12 +67,12 @@ fn check_new(records: &[Record], new: &Record) -> Result<(usize, usize), Refusal
 }
 
 /// The slot of an id that is not 0, in a table whose records are empty or sound.
-fn slot_of_id(records: &[Record], id: u32) -> usize {
+fn slot_of_id<const W: usize>(records: &[Record<W>], id: u32) -> usize {
     first_slot(records, |record| id_of(record) == id)
 }
 
-pub fn plan_delete(table: &[u64], id: u32, plan: &mut [u32]) -> Result<u32, Refusal> {
-    let records = check_table(table)?;
+pub fn plan_delete<const W: usize>(table: &[u64], id: u32, plan: &mut [u32]) -> Result<u32, Refusal> {
+    let records = check_table::<W>(table)?;
     if id == 0 {
         return refuse(RULE, 0);
     }

@@ -6,8 +6,14 @@ use crate::checks::check_slots;
 use crate::records::{at, id_of, is_empty, is_sound};
 
 /// Whether a write was made; if not, the plan is finished.
-pub fn carry_out(table: &mut [u64], plan: &[u32], new: &Record, progress: &mut Progress) -> Result<bool, Refusal> {
-    let records = check_slots(table)?;
+pub fn carry_out<const W: usize>(
+    table: &mut [u64],
+    rule: &[u64],
+    plan: &[u32],
+    progress: &mut Progress,
+) -> Result<bool, Refusal> {
+    let new = Record::<W>::one(rule)?;
+    let records = check_slots::<W>(table)?;
     let done = progress.done as usize;
     if progress.done > progress.total || progress.total as usize > plan.len() {
         return refuse(WRITE, done);
@@ -26,15 +32,15 @@ pub fn carry_out(table: &mut [u64], plan: &[u32], new: &Record, progress: &mut P
     }
     let record = match from {
         PUT_IN => *new,
-        EMPTYING => [0; 6],
+        EMPTYING => Record::EMPTY,
         _ => unsafe { at(records, from as usize) },
     };
-    unsafe { table.as_mut_ptr().add(to * 6).cast::<Record>().write(record) };
+    unsafe { table.as_mut_ptr().cast::<Record<W>>().add(to).write(record) };
     progress.done += 1;
     Ok(true)
 }
 
-fn fits(records: &[Record], from: u32, to: usize) -> bool {
+fn fits<const W: usize>(records: &[Record<W>], from: u32, to: usize) -> bool {
     match from {
         PUT_IN => is_free(records, to),
         EMPTYING => is_occupied(records, to),
@@ -42,12 +48,12 @@ fn fits(records: &[Record], from: u32, to: usize) -> bool {
     }
 }
 
-fn is_occupied(records: &[Record], slot: usize) -> bool {
+fn is_occupied<const W: usize>(records: &[Record<W>], slot: usize) -> bool {
     slot < records.len() && !is_empty(unsafe { records.get_unchecked(slot) })
 }
 
 /// The slot exists, and is empty or its id stands in another slot too.
-fn is_free(records: &[Record], slot: usize) -> bool {
+fn is_free<const W: usize>(records: &[Record<W>], slot: usize) -> bool {
     if slot >= records.len() {
         return false;
     }
@@ -55,7 +61,7 @@ fn is_free(records: &[Record], slot: usize) -> bool {
     is_empty(record) || stands_elsewhere(records, slot, id_of(record))
 }
 
-fn stands_elsewhere(records: &[Record], slot: usize, id: u32) -> bool {
+fn stands_elsewhere<const W: usize>(records: &[Record<W>], slot: usize, id: u32) -> bool {
     let mut other = 0;
     while other < records.len() {
         if id_of(unsafe { records.get_unchecked(other) }) == id && other != slot {
