@@ -8,20 +8,21 @@ use lib.Dec.{eqb, ltb, leb}
 use lib.ListN.{length, getD}
 use borrow.Author.Tests.{ltb-true}
 use Rattle.search.specs.Search.{least}
+use Rattle.layout.specs.Write.{Write, copy, put as putIn, clear}
 use Rattle.plan_words.specs.PlanWords.{writeOf}
-use Rattle.records.specs.Record.{word, recordWords, ruleOf}
+use Rattle.records.specs.Record.{recordWords, soundRule}
 use Rattle.records.specs.Order.{slots}
 use Rattle.records.specs.Widths.{known, checkWidth, checkWords, checkRule}
 use Rattle.records.specs.Checks.{Told, success, refusal, unless, orElse, lowest, shaped, checkShape, unsoundAt, checkRecords, slotChecks}
 use Rattle.records.specs.Laws.{cause-not-zero}
 use Rattle.records.specs.Writes.{fitsWrite}
 use Rattle.records.specs.EntriesLaws.{shaped-slots}
-use Rattle.records.specs.declared.Rule.{Rule}
+use Rattle.records.specs.Editions.{Given, lentRule, knownEdition, checkSound, checkEdition, checkGiven}
 use Rattle.records.specs.declared.Cause.{Cause}
-use Rattle.records.specs.declared.Cause.the-variants.{Shape, Record, Rule as RuleCause, Write as WriteCause}
+use Rattle.records.specs.declared.Cause.the-variants.{Shape, Record, Rule as RuleCause, Write as WriteCause, Edition as EditionCause}
 use Rattle.records.specs.declared.Check.{Check}
 use Rattle.records.specs.declared.Check.the-variants.{Pass, Fail}
-use Rattle.carrying.specs.Carrying.{progressChecks, putSound, writeChecks, stepAnswer, stepCall}
+use Rattle.carrying.specs.Carrying.{progressChecks, putChecks, writeChecks, stepAnswer, stepCall}
 
 -- the spot is below n, of a check that fails and of a refusal that is told
 abbrev Below : ℕ → Check → Type 0
@@ -52,9 +53,9 @@ unless-below n Pass told a b = b
 unless-below n (Fail cause spot) told a b = λ e. a
 
 -- below every number that is above the slots and the writes done
-step-below : (w : ℕ) (t plan : List ℕ) (rule : Rule) (done total n : ℕ) → 1024 ≤ n → done < n → ToldBelow n (stepAnswer w t plan rule done total)
-unfolding stepAnswer progressChecks writeChecks slotChecks checkShape checkRecords
-step-below w t plan rule done total n large few =
+step-below : (w : ℕ) (t plan : List ℕ) (given : Given) (done total n : ℕ) → 1024 ≤ n → done < n → ToldBelow n (stepAnswer w t plan given done total)
+unfolding stepAnswer progressChecks writeChecks slotChecks checkShape checkRecords checkGiven checkSound checkEdition
+step-below w t plan given done total n large few =
     unless-below n (progressChecks w t (length plan) done total) _ progress (finished (eqb done total))
   where
     progress : Below n (progressChecks w t (length plan) done total)
@@ -64,23 +65,30 @@ step-below w t plan rule done total n large few =
         (λ s. lowest-below n Record (unsoundAt w t) (slots w t) (omega (arith, shaped-slots w t s .1))))
         (λ s. cond-below n (leb done total && leb total (length plan)) WriteCause done few)
 
-    write : Below n (writeChecks w t rule (getD plan done 0) done)
+    put : (x : Write) → Below n (putChecks w given x)
+    put (copy from to) = tt
+    put (putIn to) =
+        or-else-below n (checkSound w (given .rule)) (checkEdition (given .edition)) (cond-below n (soundRule w (given .rule)) RuleCause 0 (omega arith))
+        (λ s. cond-below n (knownEdition (given .edition)) EditionCause 0 (omega arith))
+    put (clear to) = tt
+
+    write : Below n (writeChecks w t given (getD plan done 0) done)
     write =
-        or-else-below n (cond (putSound w rule (writeOf (getD plan done 0))) Pass (Fail RuleCause 0))
+        or-else-below n (putChecks w given (writeOf (getD plan done 0)))
         (cond (fitsWrite w t (writeOf (getD plan done 0))) Pass (Fail WriteCause done))
-        (cond-below n (putSound w rule (writeOf (getD plan done 0))) RuleCause 0 (omega arith))
+        (put (writeOf (getD plan done 0)))
         (λ s. cond-below n (fitsWrite w t (writeOf (getD plan done 0))) WriteCause done few)
 
-    finished : (b : Bool) → ToldBelow n (cond b (success []) (unless (writeChecks w t rule (getD plan done 0) done) (success ((done + 1) ∷ []))))
+    finished : (b : Bool) → ToldBelow n (cond b (success []) (unless (writeChecks w t given (getD plan done 0) done) (success ((done + 1) ∷ []))))
     finished true = λ f. absurd (true≢false f)
-    finished false = unless-below n (writeChecks w t rule (getD plan done 0) done) (success ((done + 1) ∷ [])) write (λ f. absurd (true≢false f))
+    finished false = unless-below n (writeChecks w t given (getD plan done 0) done) (success ((done + 1) ∷ [])) write (λ f. absurd (true≢false f))
 
 -- so is the spot of a call's refusal: that of its width and its rule's words is 0
-pub call-spot : (w : ℕ) (t plan rule : List ℕ) (done total n : ℕ) → 1024 ≤ n → done < n → (cause : Cause) (spot : ℕ)
-    → refusal cause spot ≡ stepCall w t plan rule done total → spot < n
+pub call-spot : (w e : ℕ) (t plan rule : List ℕ) (done total n : ℕ) → 1024 ≤ n → done < n → (cause : Cause) (spot : ℕ)
+    → refusal cause spot ≡ stepCall w e t plan rule done total → spot < n
 unfolding checkRule checkWidth checkWords
-call-spot w t plan rule done total n large few cause spot e =
-    subst (ToldBelow n) (sym e) (unless-below n (checkRule w (length rule)) _ lent (step-below w t plan (ruleOf w (word rule)) done total n large few))
+call-spot w e t plan rule done total n large few cause spot f =
+    subst (ToldBelow n) (sym f) (unless-below n (checkRule w (length rule)) _ lent (step-below w t plan (lentRule w e rule) done total n large few))
     (cause-not-zero cause)
   where
     lent : Below n (checkRule w (length rule))

@@ -11,6 +11,7 @@ use lookups::lookup::lookup;
 use lookups::lookup::slot_record;
 use records::Cause;
 use records::Check;
+use records::EDITION_13;
 use records::Mode;
 use records::NARROW;
 use records::Rule;
@@ -166,7 +167,7 @@ fn lower_unsound(table: &mut [u64]) {
     check_with(table, 0, rule(6, 6, 8, 0));
 }
 
-// Rules that do not overlap may stand anyhow; of two that do, the earlier needs the strictly higher priority.
+// Rules that do not overlap may stand anyhow; of two that do, the earlier needs the strictly higher rank.
 fn order(table: &mut [u64]) {
     io::write_all(1, b"ids and order\n");
     put(table, 0, rule(1, 10, 2, 2));
@@ -316,10 +317,16 @@ fn other_words(table: &[u64]) {
 fn wide_plans(table: &[u64]) {
     let new = [0u64, 0, 0, 0, 1, 0, 0, 0, 0, 1, 12884901897, 25];
     let mut plan = [7u32; 2];
-    let answer = plan_insert(table, &new, &mut plan, Mode { width: WIDE });
+    let answer = plan_insert(table, &new, EDITION_13, &mut plan, Mode { width: WIDE });
     show_plan(answer, &plan);
     let mut other = [7u32; 2];
-    let refusal = plan_insert(table, &new[0..11], &mut other, Mode { width: WIDE });
+    let refusal = plan_insert(
+        table,
+        &new[0..11],
+        EDITION_13,
+        &mut other,
+        Mode { width: WIDE },
+    );
     show_plan(refusal, &other);
 }
 

@@ -20,11 +20,13 @@ use Rattle.layout.specs.Write.{Write, copy, put, clear}
 use Rattle.layout.specs.HeldLaws.{held-removed}
 use Rattle.plan_words.specs.PlanWords.{writeWord, writeOf}
 use Rattle.plan_words.specs.PlanWordsLaws.{write-of-word}
-use Rattle.records.specs.Record.{word, slotWords, ident, occupied, soundRule, recordOf}
+use Rattle.records.specs.Record.{word, slotWords, ident, occupied, recordOf}
 use Rattle.records.specs.Checks.{success, checkTwice, checkOrder, slotChecks}
 use Rattle.records.specs.Laws.{slot-checks-law, table-checks-law, same-id-law}
 use Rattle.records.specs.Entries.{vacant, entries, entryOccupied, entrySame, entryMisordered}
 use Rattle.records.specs.Writes.{fitsWord, applyWords}
+use Rattle.records.specs.Editions.{Given, ranked, checkGiven}
+use Rattle.records.specs.EditionsLaws.{given-law, ranked-action}
 use Rattle.records.specs.declared.Rule.{Rule}
 use Rattle.records.specs.declared.Check.the-variants.{Pass}
 use Rattle.records.specs.RulesLaws.{record-ident}
@@ -37,11 +39,11 @@ use Rattle.neighbours.specs.Neighbours.{insertChecks}
 use Rattle.delete_plans.specs.Deletes.{hasId, slotOfId, deleteChecks, deleteWords, deleteAnswer, deletePlan, DeletePlanned}
 use Rattle.delete_plans.specs.DeletesLaws.{delete-planned}
 use Rattle.insert_plans.specs.Inserts.{insertWords, insertAnswer, insertPlan}
-use Rattle.insert_plans.specs.Insertable.{Insertable}
+use Rattle.insert_plans.specs.Insertable.{InsertableGiven}
 use Rattle.insert_plans.specs.Demand3.{ShortestPlan}
 use Rattle.insert_plans.specs.InsertableLaws.{insertable-law}
 use Rattle.insert_plans.specs.Demand3Laws.{shortest-words}
-use Rattle.carrying.specs.Carrying.{putSound}
+use Rattle.carrying.specs.Carrying.{putChecks}
 use Rattle.carrying.specs.Calls.{State, afterCalls, callAnswer, Lent}
 use Rattle.carrying.specs.StepsLaws.{progress-within, accepted-progress}
 use Rattle.carrying.specs.CallsLaws.{lent-part, calls-lent, answer-lent}
@@ -56,73 +58,76 @@ use Rattle.histories.specs.Demand2.{Demand2}
 
 -- a plan whose writes fit in their turn, keep the replies until the last and leave the changed rules
 module _
-    (w : ℕ) (t : List ℕ) (rule : Rule) (words plan : List ℕ) (turn : InTurn w t rule words plan)
-    (keeps : (k : ℕ) → k < length words → (key : Words) → reply w (applyWords w t rule (take k words)) key ≡ reply w t key)
-    (change : List Rule → List Rule) (leaves : (rules : List Rule) → Holding w rules t → Holding w (change rules) (applyWords w t rule words)) where
-  stays : (k : ℕ) → length words ≤ k → afterCalls w t plan rule (length words) k ≡ afterCalls w t plan rule (length words) (length words)
+    (w : ℕ) (t : List ℕ) (given : Given) (words plan : List ℕ) (turn : InTurn w t given words plan)
+    (keeps : (k : ℕ) → k < length words → (key : Words) → reply w (applyWords w t (ranked w given) (take k words)) key ≡ reply w t key)
+    (change : List Rule → List Rule) (leaves : (rules : List Rule) → Holding w rules t → Holding w (change rules) (applyWords w t (ranked w given) words)) where
+  stays : (k : ℕ) → length words ≤ k → afterCalls w t plan given (length words) k ≡ afterCalls w t plan given (length words) (length words)
   stays k h =
-      let a = calls-rest w t rule words plan turn k h in
-      let b = calls-rest w t rule words plan turn (length words) (omega arith) in
+      let a = calls-rest w t given words plan turn k h in
+      let b = calls-rest w t given words plan turn (length words) (omega arith) in
       let e = a .0 ∙ sym (b .0) in
       let f = a .1 ∙ sym (b .1) in
       λ i. record { table = e i; done = f i }
 
-  left : (rules : List Rule) → Holding w rules t → (k : ℕ) → length words ≤ k → Holding w (change rules) (afterCalls w t plan rule (length words) k .table)
-  left rules h k l = subst (Holding w (change rules)) (sym (calls-rest w t rule words plan turn k l .0)) (leaves rules h)
+  left : (rules : List Rule) → Holding w rules t → (k : ℕ) → length words ≤ k → Holding w (change rules) (afterCalls w t plan given (length words) k .table)
+  left rules h k l = subst (Holding w (change rules)) (sym (calls-rest w t given words plan turn k l .0)) (leaves rules h)
 
-  pub demand-2 : Demand2 w t plan rule words (length words) change
+  pub demand-2 : Demand2 w t plan given words (length words) change
   demand-2 = record {
     number = refl;
-    made = λ k h. calls-state w t rule words plan turn k h .0;
-    writes = calls-write w t rule words plan turn;
-    counted = λ k h. calls-state w t rule words plan turn k h .1;
-    finished = λ k h. calls-finished w t rule words plan turn k (omega (arith, h));
+    made = λ k h. calls-state w t given words plan turn k h .0;
+    writes = calls-write w t given words plan turn;
+    counted = λ k h. calls-state w t given words plan turn k h .1;
+    finished = λ k h. calls-finished w t given words plan turn k (omega (arith, h));
     rests = stays;
-    kept = λ k h key. subst (λ (u : List ℕ). Replies w u key (reply w t key)) (sym (calls-state w t rule words plan turn k (omega arith) .0))
-        (looked-up w (applyWords w t rule (take k words)) key (reply w t key) (turn .checks k (omega arith)) (keeps k (omega (arith, h)) key));
+    kept = λ k h key. subst (λ (u : List ℕ). Replies w u key (reply w t key)) (sym (calls-state w t given words plan turn k (omega arith) .0))
+        (looked-up w (applyWords w t (ranked w given) (take k words)) key (reply w t key) (turn .checks k (omega arith)) (keeps k (omega (arith, h)) key));
     holds = λ rules h. left rules h (length words) (omega arith);
-    changed = λ rules h k l key. holding-lookup w (change rules) (afterCalls w t plan rule (length words) k .table) (left rules h k (omega (arith, l))) key;
+    changed = λ rules h k l key. holding-lookup w (change rules) (afterCalls w t plan given (length words) k .table) (left rules h k (omega (arith, l))) key;
   }
 
--- a sound rule may be put in by any write
-put-sound : (w : ℕ) (rule : Rule) → soundRule w rule ≡ true → (x : Write) → putSound w rule x ≡ true
-put-sound w rule e (copy from to) = refl
-put-sound w rule e (put to) = e
-put-sound w rule e (clear to) = refl
+-- a rule that passes 5 and 18 may be put in by any write
+put-passes : (w : ℕ) (given : Given) → checkGiven w given ≡ Pass → (x : Write) → putChecks w given x ≡ Pass
+put-passes w given e (copy from to) = refl
+put-passes w given e (put to) = e
+put-passes w given e (clear to) = refl
 
 -- the plan of an accepted insert
-module _ (w : ℕ) (t : List ℕ) (rule : Rule) (small : rule .action < 4294967296) (insertable : Insertable w t rule) where
+module _ (w : ℕ) (t : List ℕ) (given : Given) (small : given .rule .action < 4294967296) (premises : InsertableGiven w t given) where
+  abbrev rule : Rule
+  rule = ranked w given
+
   words : List ℕ
   words = insertWords w t rule
 
-  planned : ShortestPlan w t rule (insertAnswer w t rule (length words)) words (insertPlan w t rule words)
+  planned : ShortestPlan w t rule (insertAnswer w t given (length words)) words (insertPlan w t given words)
   unfolding words
-  planned = shortest-words w t rule small insertable
+  planned = shortest-words w t given small premises
 
   checked : (k : ℕ) → k ≤ length words → slotChecks w (applyWords w t rule (take k words)) ≡ Pass
   unfolding words
   checked k h = pick (decLt k (length words))
     where
       pick : Dec (k < length words) → slotChecks w (applyWords w t rule (take k words)) ≡ Pass
-      pick (yes l) = insert-between-checks w t rule small insertable k l
+      pick (yes l) = insert-between-checks w t given small premises k l
       pick (no l) =
           ap (λ (ns : List ℕ). slotChecks w (applyWords w t rule ns)) (take-all k words (omega arith))
-          ∙ table-checks-law w (applyWords w t rule words) .0 (insert-after-checks w t rule small insertable) .0
+          ∙ table-checks-law w (applyWords w t rule words) .0 (insert-after-checks w t given small premises) .0
 
-  insert-turn : (plan rest : List ℕ) → plan ≡ words ++ rest → InTurn w t rule words plan
+  insert-turn : (plan rest : List ℕ) → plan ≡ words ++ rest → InTurn w t given words plan
   unfolding words
   insert-turn plan rest e = record {
     rest = rest;
     front = e;
     fits = ⊎-elim (λ c. c .fits) (λ c. c .fits) (class-words-law w t rule words .0 (planned .class));
-    sound = λ k h. put-sound w rule (insertable .sound) (writeOf (getD words k 0));
+    put = λ k h. put-passes w given (given-law w given .1 (premises .sound, premises .edition)) (writeOf (getD words k 0));
     checks = checked;
   }
 
   insert-leaves : (rules : List Rule) → Holding w rules t → Holding w (rule ∷ rules) (applyWords w t rule words)
   unfolding words
   insert-leaves rules h = record {
-    checks = insert-after-checks w t rule small insertable;
+    checks = insert-after-checks w t given small premises;
     held = λ x. (λ m. forth x (planned .placed .held x .0 m), λ m. planned .placed .held x .1 (back x m));
     actions = few;
   }
@@ -138,26 +143,28 @@ module _ (w : ℕ) (t : List ℕ) (rule : Rule) (small : rule .action < 42949672
       back x (r, inr m, e) = inl (h .held x .1 (r, m, e))
 
       few : (r : Rule) → Member r (rule ∷ rules) → r .action < 4294967296
-      few r (inl e) = let f : r .action ≡ rule .action = ap (λ (s : Rule). s .action) e in omega (arith, small)
+      few r (inl e) = let f : r .action ≡ rule .action = ap (λ (s : Rule). s .action) e in omega (arith, small, ranked-action w given)
       few r (inr m) = h .actions r m
 
-  insert-carries : (plan rest : List ℕ) → plan ≡ words ++ rest → Demand2 w t plan rule words (length words) (λ rules. rule ∷ rules)
+  insert-carries : (plan rest : List ℕ) → plan ≡ words ++ rest → Demand2 w t plan given words (length words) (λ rules. rule ∷ rules)
   unfolding words
   insert-carries plan rest e =
-      demand-2 w t rule words plan (insert-turn plan rest e) (λ k h key. insert-keeps-reply w t rule small insertable key k h)
+      demand-2 w t given words plan (insert-turn plan rest e) (λ k h key. insert-keeps-reply w t given small premises key k h)
       (λ rules. rule ∷ rules) insert-leaves
 
--- demand 2 of an insert: the rule is added
-pub demand-2-insert : (w : ℕ) (t : List ℕ) (rule : Rule) (plan : List ℕ) (count : ℕ) → rule .action < 4294967296
-    → insertAnswer w t rule (length plan) ≡ success (count ∷ []) → Demand2 w t (insertPlan w t rule plan) rule (insertWords w t rule) count (λ rules. rule ∷ rules)
+-- demand 2 of an insert: the rule is added, with its rank
+pub demand-2-insert : (w : ℕ) (t : List ℕ) (given : Given) (plan : List ℕ) (count : ℕ) → given .rule .action < 4294967296
+    → insertAnswer w t given (length plan) ≡ success (count ∷ [])
+    → Demand2 w t (insertPlan w t given plan) given (insertWords w t (ranked w given)) count (λ rules. ranked w given ∷ rules)
 unfolding words
-demand-2-insert w t rule plan count small e =
-    let a = buffer-accepted (insertChecks w t rule) (insertWords w t rule) plan count e in
-    subst (λ (n : ℕ). Demand2 w t (insertPlan w t rule plan) rule (insertWords w t rule) n (λ rules. rule ∷ rules)) (sym (a .1))
-    (insert-carries w t rule small (insertable-law w t rule .0 (a .0)) (insertPlan w t rule plan) (drop (length (insertWords w t rule)) plan) (a .2))
+demand-2-insert w t given plan count small e =
+    let rule = ranked w given in
+    let a = buffer-accepted (insertChecks w t given) (insertWords w t rule) plan count e in
+    subst (λ (n : ℕ). Demand2 w t (insertPlan w t given plan) given (insertWords w t rule) n (λ rules. rule ∷ rules)) (sym (a .1))
+    (insert-carries w t given small (insertable-law w t given .0 (a .0)) (insertPlan w t given plan) (drop (length (insertWords w t rule)) plan) (a .2))
 
 -- the one write of an accepted delete
-module _ (w : ℕ) (t : List ℕ) (id : ℕ) (checks : deleteChecks w t id ≡ Pass) (rule : Rule) where
+module _ (w : ℕ) (t : List ℕ) (id : ℕ) (checks : deleteChecks w t id ≡ Pass) (given : Given) where
   deletion : DeletePlanned w t id
   deletion = delete-planned w t id checks
 
@@ -167,20 +174,20 @@ module _ (w : ℕ) (t : List ℕ) (id : ℕ) (checks : deleteChecks w t id ≡ P
   clears : writeOf (writeWord (clear (slotOfId w t id))) ≡ clear (slotOfId w t id)
   clears = write-of-word (clear (slotOfId w t id)) (omega (arith, deletion .exists, shaped-slots w t (slot-checks-law w t .0 (before .0) .0) .1))
 
-  delete-turn : (plan rest : List ℕ) → plan ≡ deleteWords w t id ++ rest → InTurn w t rule (deleteWords w t id) plan
-  delete-turn plan rest e = record { rest = rest; front = e; fits = fits; sound = sound; checks = checked }
+  delete-turn : (plan rest : List ℕ) → plan ≡ deleteWords w t id ++ rest → InTurn w t given (deleteWords w t id) plan
+  delete-turn plan rest e = record { rest = rest; front = e; fits = fits; put = looks; checks = checked }
     where
-      fits : (k : ℕ) → k < 1 → fitsWord w (applyWords w t rule (take k (deleteWords w t id))) (getD (deleteWords w t id) k 0) ≡ true
+      fits : (k : ℕ) → k < 1 → fitsWord w (applyWords w t (ranked w given) (take k (deleteWords w t id))) (getD (deleteWords w t id) k 0) ≡ true
       fits zero h = deletion .fits
       fits (suc k) h = absurd (omega arith)
 
-      sound : (k : ℕ) → k < 1 → putSound w rule (writeOf (getD (deleteWords w t id) k 0)) ≡ true
-      sound zero h = ap (putSound w rule) clears
-      sound (suc k) h = absurd (omega arith)
+      looks : (k : ℕ) → k < 1 → putChecks w given (writeOf (getD (deleteWords w t id) k 0)) ≡ Pass
+      looks zero h = ap (putChecks w given) clears
+      looks (suc k) h = absurd (omega arith)
 
-      checked : (k : ℕ) → k ≤ 1 → slotChecks w (applyWords w t rule (take k (deleteWords w t id))) ≡ Pass
+      checked : (k : ℕ) → k ≤ 1 → slotChecks w (applyWords w t (ranked w given) (take k (deleteWords w t id))) ≡ Pass
       checked zero h = before .0
-      checked (suc zero) h = table-checks-law w (applyWords w t rule (deleteWords w t id)) .0 (delete-after-checks w t id checks rule) .0
+      checked (suc zero) h = table-checks-law w (applyWords w t (ranked w given) (deleteWords w t id)) .0 (delete-after-checks w t id checks (ranked w given)) .0
       checked (suc (suc k)) h = absurd (omega arith)
 
   -- the record in the slot has the id
@@ -199,19 +206,19 @@ module _ (w : ℕ) (t : List ℕ) (id : ℕ) (checks : deleteChecks w t id ≡ P
   entry-occupied : entryOccupied w entry ≡ true
   entry-occupied = occupied-at w t (slotOfId w t id) (deletion .exists) ∙ has .0
 
-  removed : (x : List ℕ) → Held (vacant w) (entryOccupied w) (entries w (applyWords w t rule (deleteWords w t id))) x
+  removed : (x : List ℕ) → Held (vacant w) (entryOccupied w) (entries w (applyWords w t (ranked w given) (deleteWords w t id))) x
       ↔ (Held (vacant w) (entryOccupied w) (entries w t) x × (entrySame w x entry ≡ false))
   removed x =
       let low : slotOfId w t id < length (entries w t) = omega (arith, deletion .exists, entries-length w t) in
-      let after : entries w (applyWords w t rule (deleteWords w t id)) ≡ emptied (vacant w) (entries w t) (slotOfId w t id) =
-      ap (entries w) (deletion .after rule) ∙ apply-entries w t rule (clear (slotOfId w t id)) (deletion .exists) in
+      let after : entries w (applyWords w t (ranked w given) (deleteWords w t id)) ≡ emptied (vacant w) (entries w t) (slotOfId w t id) =
+      ap (entries w) (deletion .after (ranked w given)) ∙ apply-entries w t (ranked w given) (clear (slotOfId w t id)) (deletion .exists) in
       rw after
       (held-removed (entry-laws w) (entries w t) (slotOfId w t id) low
       (λ k l d. unique-entries w t .1 (before .1) k (slotOfId w t id) l low d) x)
 
-  delete-leaves : (rules : List Rule) → Holding w rules t → Holding w (without id rules) (applyWords w t rule (deleteWords w t id))
+  delete-leaves : (rules : List Rule) → Holding w rules t → Holding w (without id rules) (applyWords w t (ranked w given) (deleteWords w t id))
   delete-leaves rules h = record {
-    checks = delete-after-checks w t id checks rule;
+    checks = delete-after-checks w t id checks (ranked w given);
     held = λ x. (λ m. let o = removed x .0 m in forth x (o .0) (o .1) (h .held x .0 (o .0)), λ m. removed x .1 (back x m));
     actions = λ r m. h .actions r (without-law id rules r .0 m .0);
   }
@@ -239,26 +246,26 @@ module _ (w : ℕ) (t : List ℕ) (id : ℕ) (checks : deleteChecks w t id ≡ P
               (sym (record-ident w r (h .actions r (m .0)))
               ∙ (ap (λ (y : List ℕ). ident w (word y)) e ∙ (same-id-law w (word x) (word entry) .0 f .2 ∙ entry-id)))
 
-  delete-carries : (plan rest : List ℕ) → plan ≡ deleteWords w t id ++ rest → Demand2 w t plan rule (deleteWords w t id) 1 (without id)
-  delete-carries plan rest e = demand-2 w t rule (deleteWords w t id) plan (delete-turn plan rest e) first (without id) delete-leaves
+  delete-carries : (plan rest : List ℕ) → plan ≡ deleteWords w t id ++ rest → Demand2 w t plan given (deleteWords w t id) 1 (without id)
+  delete-carries plan rest e = demand-2 w t given (deleteWords w t id) plan (delete-turn plan rest e) first (without id) delete-leaves
     where
-      first : (k : ℕ) → k < 1 → (key : Words) → reply w (applyWords w t rule (take k (deleteWords w t id))) key ≡ reply w t key
+      first : (k : ℕ) → k < 1 → (key : Words) → reply w (applyWords w t (ranked w given) (take k (deleteWords w t id))) key ≡ reply w t key
       first zero h key = refl
       first (suc k) h key = absurd (omega arith)
 
--- demand 2 of a delete, whatever the rule handed in with the step: the rules of the id are taken away
-pub demand-2-delete : (w : ℕ) (t : List ℕ) (id : ℕ) (plan : List ℕ) (count : ℕ) (rule : Rule)
-    → deleteAnswer w t id (length plan) ≡ success (count ∷ []) → Demand2 w t (deletePlan w t id plan) rule (deleteWords w t id) count (without id)
-demand-2-delete w t id plan count rule e =
+-- demand 2 of a delete, whatever the rule and the edition handed in with the step: the rules of the id are taken away
+pub demand-2-delete : (w : ℕ) (t : List ℕ) (id : ℕ) (plan : List ℕ) (count : ℕ) (given : Given)
+    → deleteAnswer w t id (length plan) ≡ success (count ∷ []) → Demand2 w t (deletePlan w t id plan) given (deleteWords w t id) count (without id)
+demand-2-delete w t id plan count given e =
     let a = buffer-accepted (deleteChecks w t id) (deleteWords w t id) plan count e in
-    subst (λ (n : ℕ). Demand2 w t (deletePlan w t id plan) rule (deleteWords w t id) n (without id)) (sym (a .1))
-    (delete-carries w t id (a .0) rule (deletePlan w t id plan) (drop 1 plan) (a .2))
+    subst (λ (n : ℕ). Demand2 w t (deletePlan w t id plan) given (deleteWords w t id) n (without id)) (sym (a .1))
+    (delete-carries w t id (a .0) given (deletePlan w t id plan) (drop 1 plan) (a .2))
 
 -- Demand 2 with whatever the caller lends of the plan buffer: the states and answers of all calls are the same. So what is said above of the whole
 -- buffer is said of the count's words, as in the call with `plan, count`, and of any number of words between.
-module _ {w : ℕ} {t plan : List ℕ} {rule : Rule} {words : List ℕ} {count : ℕ} {change : List Rule → List Rule}
-    (d : Demand2 w t plan rule words count change) where
-  pub demand-2-lent : (lent : List ℕ) → Lent plan count lent → Demand2 w t lent rule words count change
+module _ {w : ℕ} {t plan : List ℕ} {given : Given} {words : List ℕ} {count : ℕ} {change : List Rule → List Rule}
+    (d : Demand2 w t plan given words count change) where
+  pub demand-2-lent : (lent : List ℕ) → Lent plan count lent → Demand2 w t lent given words count change
   demand-2-lent lent is = record {
     number = d .number;
     made = λ k h. tables k ∙ d .made k h;
@@ -271,37 +278,37 @@ module _ {w : ℕ} {t plan : List ℕ} {rule : Rule} {words : List ℕ} {count :
     changed = λ rules h k l key. subst (λ (u : List ℕ). Replies w u key (setReply w (change rules) key)) (sym (tables k)) (d .changed rules h k l key);
   }
     where
-      states : (k : ℕ) → afterCalls w t lent rule count k ≡ afterCalls w t plan rule count k
-      states = calls-lent w plan lent rule count is t
+      states : (k : ℕ) → afterCalls w t lent given count k ≡ afterCalls w t plan given count k
+      states = calls-lent w plan lent given count is t
 
-      tables : (k : ℕ) → afterCalls w t lent rule count k .table ≡ afterCalls w t plan rule count k .table
+      tables : (k : ℕ) → afterCalls w t lent given count k .table ≡ afterCalls w t plan given count k .table
       tables k = ap (λ (s : State). s .table) (states k)
 
-      answers : (k : ℕ) → callAnswer w t lent rule count k ≡ callAnswer w t plan rule count k
-      answers = answer-lent w plan lent rule count is t
+      answers : (k : ℕ) → callAnswer w t lent given count k ≡ callAnswer w t plan given count k
+      answers = answer-lent w plan lent given count is t
 
   -- the buffer has the words counted, since the calls are accepted
   pub demand-2-room : count ≤ length plan
   demand-2-room =
-      let s = afterCalls w t plan rule count count in
+      let s = afterCalls w t plan given count count in
       progress-within w (s .table) (length plan) (s .done) count
-      (accepted-progress w (s .table) plan rule (s .done) count [] (d .finished count (omega arith))) .1
+      (accepted-progress w (s .table) plan given (s .done) count [] (d .finished count (omega arith))) .1
 
-  pub demand-2-part : (k : ℕ) → count ≤ k → Demand2 w t (take k plan) rule words count change
+  pub demand-2-part : (k : ℕ) → count ≤ k → Demand2 w t (take k plan) given words count change
   demand-2-part k h = demand-2-lent (take k plan) (lent-part plan count k demand-2-room h)
 
 -- carried out in full, a plan has made every write of it
-pub carried-whole : {w : ℕ} {t plan : List ℕ} {rule : Rule} {words : List ℕ} {count : ℕ} {change : List Rule → List Rule}
-    → Demand2 w t plan rule words count change → afterCalls w t plan rule count count .table ≡ applyWords w t rule words
-carried-whole {w} {t} {plan} {rule} {words} {count} d =
-    d .made count (omega arith) ∙ ap (applyWords w t rule) (take-all count words (omega (arith, d .number)))
+pub carried-whole : {w : ℕ} {t plan : List ℕ} {given : Given} {words : List ℕ} {count : ℕ} {change : List Rule → List Rule}
+    → Demand2 w t plan given words count change → afterCalls w t plan given count count .table ≡ applyWords w t (ranked w given) words
+carried-whole {w} {t} {plan} {given} {words} {count} d =
+    d .made count (omega arith) ∙ ap (applyWords w t (ranked w given)) (take-all count words (omega (arith, d .number)))
 
 -- until the last write of an insert the table holds the old rules, in order, at most one of them twice
-pub insert-between : (w : ℕ) (t : List ℕ) (rule : Rule) (plan : List ℕ) (count : ℕ) → rule .action < 4294967296
-    → insertAnswer w t rule (length plan) ≡ success (count ∷ []) → (k : ℕ) → k < count
-    → Between (vacant w) (entryOccupied w) (entrySame w) (entryMisordered w) (entries w t) (entries w (afterCalls w t (insertPlan w t rule plan) rule count k .table))
-insert-between w t rule plan count small e k h =
-    let d = demand-2-insert w t rule plan count small e in
-    let a = buffer-accepted (insertChecks w t rule) (insertWords w t rule) plan count e in
+pub insert-between : (w : ℕ) (t : List ℕ) (given : Given) (plan : List ℕ) (count : ℕ) → given .rule .action < 4294967296
+    → insertAnswer w t given (length plan) ≡ success (count ∷ []) → (k : ℕ) → k < count
+    → Between (vacant w) (entryOccupied w) (entrySame w) (entryMisordered w) (entries w t) (entries w (afterCalls w t (insertPlan w t given plan) given count k .table))
+insert-between w t given plan count small e k h =
+    let d = demand-2-insert w t given plan count small e in
+    let a = buffer-accepted (insertChecks w t given) (insertWords w t (ranked w given)) plan count e in
     subst (λ (u : List ℕ). Between (vacant w) (entryOccupied w) (entrySame w) (entryMisordered w) (entries w t) (entries w u)) (sym (d .made k (omega arith)))
-    (shortest-words w t rule small (insertable-law w t rule .0 (a .0)) .between k (omega (arith, d .number)))
+    (shortest-words w t given small (insertable-law w t given .0 (a .0)) .between k (omega (arith, d .number)))

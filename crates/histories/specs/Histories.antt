@@ -5,7 +5,7 @@ use Prim.Native.Nat.{ℕ, _*_, _≤_, _<_}
 use lib.ListN.{length, replicate}
 use Rattle.records.specs.Record.{recordWords}
 use Rattle.records.specs.Checks.{success}
-use Rattle.records.specs.declared.Rule.{Rule}
+use Rattle.records.specs.Editions.{Given, ranked}
 use Rattle.delete_plans.specs.Deletes.{deleteAnswer, deletePlan}
 use Rattle.insert_plans.specs.Inserts.{insertAnswer, insertPlan}
 use Rattle.carrying.specs.Calls.{afterCalls, callAnswer, Lent}
@@ -16,15 +16,16 @@ abbrev pub emptyTable : ℕ → ℕ → List ℕ
 emptyTable w n = replicate (n * recordWords w) 0
 
 -- The tables that are reached by a history of changes, the latest first: an empty table by none; by an insert or a delete more, if the
--- planning call accepts it and the step is called, with that plan and that count, until it answers "finished". Of the plan buffer the caller
--- lends what it will, from the words counted on.
+-- planning call accepts it and the step is called, with that plan and that count, until it answers "finished". Each insert names an edition of its
+-- own, the same for its plan and the carrying out, and counts with the rank that it gives; a delete is carried out with any rule and edition. Of the
+-- plan buffer the caller lends what it will, from the words counted on.
 pub data Reached (w : ℕ) : List Change → List ℕ → Type 0 where
   start : (n : ℕ) → 1 ≤ n → n ≤ 1024 → Reached w [] (emptyTable w n)
   inserted : (history : List Change) (t : List ℕ) → Reached w history t
-      → (rule : Rule) → rule .action < 4294967296 → (plan : List ℕ) (count : ℕ) → insertAnswer w t rule (length plan) ≡ success (count ∷ [])
-      → (lent : List ℕ) → Lent (insertPlan w t rule plan) count lent → (calls : ℕ) → callAnswer w t lent rule count calls ≡ success []
-      → Reached w (insert rule ∷ history) (afterCalls w t lent rule count calls .table)
+      → (given : Given) → given .rule .action < 4294967296 → (plan : List ℕ) (count : ℕ) → insertAnswer w t given (length plan) ≡ success (count ∷ [])
+      → (lent : List ℕ) → Lent (insertPlan w t given plan) count lent → (calls : ℕ) → callAnswer w t lent given count calls ≡ success []
+      → Reached w (insert (ranked w given) ∷ history) (afterCalls w t lent given count calls .table)
   deleted : (history : List Change) (t : List ℕ) → Reached w history t
       → (id : ℕ) (plan : List ℕ) (count : ℕ) → deleteAnswer w t id (length plan) ≡ success (count ∷ [])
-      → (rule : Rule) (lent : List ℕ) → Lent (deletePlan w t id plan) count lent → (calls : ℕ) → callAnswer w t lent rule count calls ≡ success []
-      → Reached w (delete id ∷ history) (afterCalls w t lent rule count calls .table)
+      → (given : Given) (lent : List ℕ) → Lent (deletePlan w t id plan) count lent → (calls : ℕ) → callAnswer w t lent given count calls ≡ success []
+      → Reached w (delete id ∷ history) (afterCalls w t lent given count calls .table)

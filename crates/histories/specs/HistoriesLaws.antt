@@ -13,6 +13,7 @@ use Rattle.records.specs.Record.{recordWords, slotWords, empty}
 use Rattle.records.specs.Checks.{Told, success, checkShape, tableChecks}
 use Rattle.records.specs.Laws.{slot-checks-law, table-checks-law, shape-law, records-law, empty-law}
 use Rattle.records.specs.Entries.{vacant, entries, entryOccupied}
+use Rattle.records.specs.Editions.{Given, ranked}
 use Rattle.records.specs.declared.Rule.{Rule}
 use Rattle.records.specs.declared.Check.the-variants.{Pass}
 use Rattle.records.specs.EntriesLaws.{entries-length, occupied-at, entry-laws, order-entries, unique-entries, refuted}
@@ -69,8 +70,8 @@ reached-start w t shape none =
     (Reached.start n (s .1) (s .2))
 
 -- a plan that has answered "finished" is carried out in full
-finished-late : {w : ℕ} {t plan : List ℕ} {rule : Rule} {words : List ℕ} {count : ℕ} {change : List Rule → List Rule} → Demand2 w t plan rule words count change
-    → (calls : ℕ) → callAnswer w t plan rule count calls ≡ success [] → count ≤ calls
+finished-late : {w : ℕ} {t plan : List ℕ} {given : Given} {words : List ℕ} {count : ℕ} {change : List Rule → List Rule} → Demand2 w t plan given words count change
+    → (calls : ℕ) → callAnswer w t plan given count calls ≡ success [] → count ≤ calls
 finished-late {count = count} d calls e = pick (decLe count calls)
   where
     pick : Dec (count ≤ calls) → count ≤ calls
@@ -78,52 +79,52 @@ finished-late {count = count} d calls e = pick (decLe count calls)
     pick (no h) =
         let n : _≡_ {A = ℕ} 1 0 = ap (λ (told : Told). length (told .values)) (sym (d .writes calls (omega arith)) ∙ e) in absurd (omega arith)
 
-carried : {w : ℕ} {t plan : List ℕ} {rule : Rule} {words : List ℕ} {count : ℕ} {change : List Rule → List Rule} → Demand2 w t plan rule words count change
-    → (rules : List Rule) → Holding w rules t → (calls : ℕ) → callAnswer w t plan rule count calls ≡ success []
-    → Holding w (change rules) (afterCalls w t plan rule count calls .table)
+carried : {w : ℕ} {t plan : List ℕ} {given : Given} {words : List ℕ} {count : ℕ} {change : List Rule → List Rule} → Demand2 w t plan given words count change
+    → (rules : List Rule) → Holding w rules t → (calls : ℕ) → callAnswer w t plan given count calls ≡ success []
+    → Holding w (change rules) (afterCalls w t plan given count calls .table)
 carried {w} {change = change} d rules h calls e =
     subst (λ (s : State). Holding w (change rules) (s .table)) (sym (d .rests calls (finished-late d calls e))) (d .holds rules h)
 
 -- every table reached is sound and holds exactly the rules inserted and not since deleted, each in one slot
 pub reached-holding : {w : ℕ} {history : List Change} {t : List ℕ} → Reached w history t → Holding w (ruleSet history) t
 reached-holding {w} (Reached.start n some few) = empty-holding w n some few
-reached-holding {w} (Reached.inserted history t before rule small plan count accepted lent is calls finished) =
-    carried (demand-2-lent (demand-2-insert w t rule plan count small accepted) lent is) (ruleSet history) (reached-holding before) calls finished
-reached-holding {w} (Reached.deleted history t before id plan count accepted rule lent is calls finished) =
-    carried (demand-2-lent (demand-2-delete w t id plan count rule accepted) lent is) (ruleSet history) (reached-holding before) calls finished
+reached-holding {w} (Reached.inserted history t before given small plan count accepted lent is calls finished) =
+    carried (demand-2-lent (demand-2-insert w t given plan count small accepted) lent is) (ruleSet history) (reached-holding before) calls finished
+reached-holding {w} (Reached.deleted history t before id plan count accepted given lent is calls finished) =
+    carried (demand-2-lent (demand-2-delete w t id plan count given accepted) lent is) (ruleSet history) (reached-holding before) calls finished
 
 -- every table reached passes checks 1 to 4
 pub reached-sound : {w : ℕ} {history : List Change} {t : List ℕ} → Reached w history t → tableChecks w t ≡ Pass
 reached-sound reached = reached-holding reached .checks
 
--- and every key is answered by the highest-priority match among those rules, or by a miss
+-- and every key is answered by the highest-ranked match among those rules, each with the rank it was put in with, or by a miss
 pub reached-lookup : {w : ℕ} {history : List Change} {t : List ℕ} → Reached w history t → (key : Words)
     → Replies w t key (setReply w (ruleSet history) key)
 reached-lookup {w} {history} {t} reached = holding-lookup w (ruleSet history) t (reached-holding reached)
 
 -- an accepted insert or delete is carried out in full by as many calls as its plan counts, so that a history can always go on
-pub reached-insert : {w : ℕ} {history : List Change} {t : List ℕ} → Reached w history t → (rule : Rule) → rule .action < 4294967296
-    → (plan : List ℕ) (count : ℕ) → insertAnswer w t rule (length plan) ≡ success (count ∷ [])
-    → Reached w (insert rule ∷ history) (afterCalls w t (insertPlan w t rule plan) rule count count .table)
-reached-insert {w} {history} {t} reached rule small plan count accepted =
-    let d = demand-2-insert w t rule plan count small accepted in
-    let buffer = insertPlan w t rule plan in
-    Reached.inserted history t reached rule small plan count accepted buffer (lent-whole buffer count (demand-2-room d)) count (d .finished count (omega arith))
+pub reached-insert : {w : ℕ} {history : List Change} {t : List ℕ} → Reached w history t → (given : Given) → given .rule .action < 4294967296
+    → (plan : List ℕ) (count : ℕ) → insertAnswer w t given (length plan) ≡ success (count ∷ [])
+    → Reached w (insert (ranked w given) ∷ history) (afterCalls w t (insertPlan w t given plan) given count count .table)
+reached-insert {w} {history} {t} reached given small plan count accepted =
+    let d = demand-2-insert w t given plan count small accepted in
+    let buffer = insertPlan w t given plan in
+    Reached.inserted history t reached given small plan count accepted buffer (lent-whole buffer count (demand-2-room d)) count (d .finished count (omega arith))
 
 pub reached-delete : {w : ℕ} {history : List Change} {t : List ℕ} → Reached w history t → (id : ℕ) (plan : List ℕ) (count : ℕ)
-    → deleteAnswer w t id (length plan) ≡ success (count ∷ []) → (rule : Rule)
-    → Reached w (delete id ∷ history) (afterCalls w t (deletePlan w t id plan) rule count count .table)
-reached-delete {w} {history} {t} reached id plan count accepted rule =
-    let d = demand-2-delete w t id plan count rule accepted in
+    → deleteAnswer w t id (length plan) ≡ success (count ∷ []) → (given : Given)
+    → Reached w (delete id ∷ history) (afterCalls w t (deletePlan w t id plan) given count count .table)
+reached-delete {w} {history} {t} reached id plan count accepted given =
+    let d = demand-2-delete w t id plan count given accepted in
     let buffer = deletePlan w t id plan in
-    Reached.deleted history t reached id plan count accepted rule buffer (lent-whole buffer count (demand-2-room d)) count (d .finished count (omega arith))
+    Reached.deleted history t reached id plan count accepted given buffer (lent-whole buffer count (demand-2-room d)) count (d .finished count (omega arith))
 
 -- demand 2 in one piece, within a plan of a history: the replies of its rules until the last write, and those of the changed rules from it on
-pub reached-within : {w : ℕ} {history : List Change} {t plan : List ℕ} {rule : Rule} {words : List ℕ} {count : ℕ} {change : List Rule → List Rule}
-    → Reached w history t → Demand2 w t plan rule words count change → (k : ℕ) (key : Words)
-    → (k < count → Replies w (afterCalls w t plan rule count k .table) key (setReply w (ruleSet history) key))
-    × (count ≤ k → Replies w (afterCalls w t plan rule count k .table) key (setReply w (change (ruleSet history)) key))
-reached-within {w} {history} {t} {plan} {rule} {count = count} reached d k key = (
-  λ h. subst (Replies w (afterCalls w t plan rule count k .table) key) (holding-reply w (ruleSet history) t (reached-holding reached) key) (d .kept k h key),
+pub reached-within : {w : ℕ} {history : List Change} {t plan : List ℕ} {given : Given} {words : List ℕ} {count : ℕ} {change : List Rule → List Rule}
+    → Reached w history t → Demand2 w t plan given words count change → (k : ℕ) (key : Words)
+    → (k < count → Replies w (afterCalls w t plan given count k .table) key (setReply w (ruleSet history) key))
+    × (count ≤ k → Replies w (afterCalls w t plan given count k .table) key (setReply w (change (ruleSet history)) key))
+reached-within {w} {history} {t} {plan} {given} {count = count} reached d k key = (
+  λ h. subst (Replies w (afterCalls w t plan given count k .table) key) (holding-reply w (ruleSet history) t (reached-holding reached) key) (d .kept k h key),
   λ h. d .changed (ruleSet history) (reached-holding reached) k h key,
 )

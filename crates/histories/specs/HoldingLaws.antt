@@ -1,4 +1,4 @@
--- End theorems on tables and the rules they hold: a lookup's reply is that of the highest-priority match among them.
+-- End theorems on tables and the rules they hold: a lookup's reply is that of the highest-ranked match among them.
 use mathlib.Core.Path.{_≡_, refl, sym, ap, _∙_, ap₂}
 use mathlib.Core.Bool.{Bool, true, false, cond, and-false, true≢false}
 use mathlib.Core.Logic.{_⊎_}
@@ -50,7 +50,7 @@ looked-up w t key told e f = rw e (number (ltb m (slots w t)), f)
 pub record-matches : (w : ℕ) (key : Words) (r : Rule) → entryMatches w key (recordOf w r) ≡ ruleMatches w key r
 record-matches w key r = matches-cong w (λ j h. refl) (record-value w r) (record-mask w r)
 
--- of two rules that match one key the first, if its priority is not higher, may not stand before the second, unless they have one id
+-- of two rules that match one key the first, if its rank is not higher, may not stand before the second, unless they have one id
 module _ (w : ℕ) (key : Words) (y x : List ℕ) (oy : entryOccupied w y ≡ true) (ox : entryOccupied w x ≡ true)
     (my : entryMatches w key y ≡ true) (mx : entryMatches w key x ≡ true) (l : rank w (word y) ≤ rank w (word x)) where
   out-of-order : entrySame w y x ≡ false → entryMisordered w y x ≡ true
@@ -117,7 +117,7 @@ module _ (w : ℕ) (rules : List Rule) (t : List ℕ) (h : Holding w rules t) (k
   pub holding-lookup : Replies w t key (setReply w rules key)
   holding-lookup = looked-up w t key (setReply w rules key) (table-checks-law w t .0 (h .checks) .0) holding-reply
 
-  -- one rule is the highest: two rules of one priority that match a key have one record
+  -- one rule is the highest: two rules of one rank that match a key have one record
   pub holding-untied : (r s : Rule) → Member r rules → Member s rules → ruleMatches w key r ≡ true → ruleMatches w key s ≡ true
       → r .priority ≡ s .priority → recordOf w r ≡ recordOf w s
   holding-untied r s i k a b e = pick (h .held (recordOf w r) .1 (r, i, refl)) (h .held (recordOf w s) .1 (s, k, refl))

@@ -25,11 +25,12 @@ use Rattle.records.specs.Checks.{firstMatch}
 use Rattle.records.specs.Laws.{table-checks-law, same-id-law, misordered-law}
 use Rattle.records.specs.Entries.{vacant, entries, entryOccupied, entrySame, entryMisordered}
 use Rattle.records.specs.Writes.{applyWords}
+use Rattle.records.specs.Editions.{Given, ranked}
 use Rattle.records.specs.declared.Rule.{Rule}
 use Rattle.records.specs.EntriesLaws.{entries-length, entry-same, entry-laws, matches-at, ident-cong, action-cong, order-entries, unique-entries}
 use Rattle.lookups.specs.Lookup.{lookupTold, hitAt, matchTold, reply}
 use Rattle.lookups.specs.declared.LookupAnswer.the-variants.{Found, Miss}
-use Rattle.insert_plans.specs.Insertable.{Insertable}
+use Rattle.insert_plans.specs.Insertable.{InsertableGiven}
 use Rattle.insert_plans.specs.Inserts.{insertWords}
 use Rattle.insert_plans.specs.Demand3Laws.{shortest-words}
 
@@ -40,7 +41,7 @@ entryMatches w key e = patternMatches w key (word e)
 abbrev pub entryTold : ℕ → List ℕ → List ℕ
 entryTold w e = ident w (word e) ∷ action w (word e) ∷ []
 
--- two rules of different ids that match one key overlap, and one of their priorities is not higher than the other
+-- two rules of different ids that match one key overlap, and one of their ranks is not higher than the other
 pub entries-conflict : (w : ℕ) (key : Words)
     → ConflictOrAlike (entryOccupied w) (entrySame w) (entryMisordered w) (entryMatches w key) (entryTold w)
 entries-conflict w key a b oa ob ma mb apart = inl (pick (decLe (rank w (word a)) (rank w (word b))))
@@ -105,14 +106,17 @@ reply-entries w t key = reply-shape w t m ∙ (pick (decLt m (slots w t)) ∙ sy
         let l : slots w t ≤ m = omega arith in rw (← first-match-entries w t key, entries-length w t, le-ltb m (slots w t) l)
 
 -- the plan of an insert, write by write
-module _ (w : ℕ) (t : List ℕ) (rule : Rule) (small : rule .action < 4294967296) (insertable : Insertable w t rule) (key : Words) where
+module _ (w : ℕ) (t : List ℕ) (given : Given) (small : given .rule .action < 4294967296) (premises : InsertableGiven w t given) (key : Words) where
+  abbrev rule : Rule
+  rule = ranked w given
+
   -- until the last write every key keeps its reply
   pub insert-keeps-reply : (k : ℕ) → k < length (insertWords w t rule) → reply w (applyWords w t rule (take k (insertWords w t rule))) key ≡ reply w t key
   insert-keeps-reply k h =
-      let checks = table-checks-law w t .0 (insertable .table) in
+      let checks = table-checks-law w t .0 (premises .insertable .table) in
       let after = applyWords w t rule (take k (insertWords w t rule)) in
       reply-entries w after key
       ∙ (ap optionTold
       (between-reply (entry-laws w) (entryMatches w key) (entryTold w) (entries-conflict w key) (entries w t) (entries w after) (order-entries w t .1 (checks .2))
-      (unique-coherent (entry-laws w) (entries w t) (unique-entries w t .1 (checks .1))) (shortest-words w t rule small insertable .between k h))
+      (unique-coherent (entry-laws w) (entries w t) (unique-entries w t .1 (checks .1))) (shortest-words w t given small premises .between k h))
       ∙ sym (reply-entries w t key))

@@ -1,4 +1,4 @@
--- Rules without slots: which were inserted and not since deleted, and the highest-priority match of a key among them.
+-- Rules without slots: which were inserted and not since deleted, and the highest-ranked match of a key among them: of such a rule the field priority holds its rank.
 -- What a key is to be answered depends on these alone.
 use mathlib.Core.Path.{_≡_}
 use mathlib.Core.Bool.{Bool, true, false, cond}
@@ -31,12 +31,12 @@ ruleSet (delete id ∷ history) = without id (ruleSet history)
 abbrev pub ruleMatches : ℕ → Words → Rule → Bool
 ruleMatches w key r = matches w key (word (r .value)) (word (r .mask))
 
--- of a rule and the highest among others the one of higher priority
+-- of a rule and the highest among others the one of higher rank
 abbrev pub higher : Rule → Option Rule → Option Rule
 higher r none = some r
 higher r (some s) = cond (ltb (s .priority) (r .priority)) (some r) (some s)
 
--- the highest-priority match of a key
+-- the highest-ranked match of a key
 unfoldable pub highestMatch : ℕ → Words → List Rule → Option Rule
 highestMatch w key [] = none
 highestMatch w key (r ∷ rules) = cond (ruleMatches w key r) (higher r (highestMatch w key rules)) (highestMatch w key rules)
@@ -54,8 +54,8 @@ abbrev pub Member : Rule → List Rule → Type 0
 Member r [] = ⊥
 Member r (s ∷ rules) = (r ≡ s) ⊎ Member r rules
 
--- what the highest-priority match is, in words: no rule matches; or it is a rule of the list, it matches, and no rule that matches has
--- a higher priority
+-- what the highest-ranked match is, in words: no rule matches; or it is a rule of the list, it matches, and no rule that matches has
+-- a higher rank
 abbrev pub IsHighest : ℕ → Words → List Rule → Option Rule → Type 0
 IsHighest w key rules none = (r : Rule) → Member r rules → ruleMatches w key r ≡ false
 IsHighest w key rules (some s) =

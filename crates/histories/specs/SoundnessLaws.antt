@@ -21,6 +21,8 @@ use Rattle.records.specs.Checks.{checkShape, checkRecords, checkTwice, checkOrd
 use Rattle.records.specs.Laws.{slot-checks-law, table-checks-law, shape-same, records-law}
 use Rattle.records.specs.Entries.{vacant, entries, entryOccupied}
 use Rattle.records.specs.Writes.{applyWords}
+use Rattle.records.specs.Editions.{Given, ranked}
+use Rattle.records.specs.EditionsLaws.{ranked-action}
 use Rattle.records.specs.declared.Rule.{Rule}
 use Rattle.records.specs.declared.Check.the-variants.{Pass}
 use Rattle.records.specs.RulesLaws.{record-sound}
@@ -29,7 +31,7 @@ use Rattle.records.specs.WritesLaws.{WordsBelow, apply-length, apply-entries, a
 use Rattle.records.specs.ClassWordsLaws.{class-words-law}
 use Rattle.delete_plans.specs.Deletes.{slotOfId, deleteChecks, deleteWords, DeletePlanned}
 use Rattle.delete_plans.specs.DeletesLaws.{delete-planned}
-use Rattle.insert_plans.specs.Insertable.{Insertable}
+use Rattle.insert_plans.specs.Insertable.{InsertableGiven}
 use Rattle.insert_plans.specs.Inserts.{insertWords, insertAnswer, insertPlan}
 use Rattle.insert_plans.specs.Demand3.{ShortestPlan}
 use Rattle.insert_plans.specs.Demand3Laws.{shortest-words}
@@ -63,16 +65,19 @@ records-entries w t = (forth, λ f. records-law w t .1 (back f))
             ∙ f (getD (entries w t) i (vacant w)) (occupied-at w t i h ∙ ap not e, (i, (let n = entries-length w t in omega arith), refl)))
 
 -- the plan of an insert
-module _ (w : ℕ) (t : List ℕ) (rule : Rule) (small : rule .action < 4294967296) (insertable : Insertable w t rule) where
+module _ (w : ℕ) (t : List ℕ) (given : Given) (small : given .rule .action < 4294967296) (premises : InsertableGiven w t given) where
+  abbrev rule : Rule
+  rule = ranked w given
+
   words : List ℕ
   words = insertWords w t rule
 
-  planned : ShortestPlan w t rule (insertAnswer w t rule (length words)) words (insertPlan w t rule words)
+  planned : ShortestPlan w t rule (insertAnswer w t given (length words)) words (insertPlan w t given words)
   unfolding words
-  planned = shortest-words w t rule small insertable
+  planned = shortest-words w t given small premises
 
   before : (checkShape w t ≡ Pass) × (checkRecords w t ≡ Pass)
-  before = slot-checks-law w t .0 (table-checks-law w t .0 (insertable .table) .0)
+  before = slot-checks-law w t .0 (table-checks-law w t .0 (premises .insertable .table) .0)
 
   below : WordsBelow (slots w t) words
   unfolding words
@@ -110,7 +115,7 @@ module _ (w : ℕ) (t : List ℕ) (rule : Rule) (small : rule .action < 42949672
       held-sound : (x : List ℕ) → Held (vacant w) (entryOccupied w) (entries w after) x → sound w (word x) ≡ true
       held-sound x m =
           ⊎-elim (λ old. records-entries w t .0 (before .1) x old)
-          (λ e. ap (λ (y : List ℕ). sound w (word y)) (sym e) ∙ (record-sound w rule small ∙ insertable .sound)) (planned .placed .held x .0 m)
+          (λ e. ap (λ (y : List ℕ). sound w (word y)) (sym e) ∙ (record-sound w rule (omega (arith, small, ranked-action w given)) ∙ premises .insertable .sound)) (planned .placed .held x .0 m)
 
 -- the one write of a delete
 pub delete-after-checks : (w : ℕ) (t : List ℕ) (id : ℕ) → deleteChecks w t id ≡ Pass → (rule : Rule) → tableChecks w (applyWords w t rule (deleteWords w t id)) ≡ Pass

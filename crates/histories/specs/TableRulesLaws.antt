@@ -14,7 +14,7 @@ use Rattle.layout.specs.Held.{Held}
 use Rattle.records.specs.Record.{slotWords, rank, empty, recordOf, ruleOf}
 use Rattle.records.specs.Order.{slots}
 use Rattle.records.specs.Checks.{tableChecks}
-use Rattle.records.specs.Laws.{slot-checks-law, table-checks-law, records-law, sound-law}
+use Rattle.records.specs.Laws.{slot-checks-law, table-checks-law, records-law, sound-rank}
 use Rattle.records.specs.Entries.{vacant, entries, entryOccupied}
 use Rattle.records.specs.declared.Rule.{Rule}
 use Rattle.records.specs.declared.Check.the-variants.{Pass}
@@ -67,7 +67,7 @@ table-holding w t checks = record {
     read i h o =
         let records = slot-checks-law w t .0 (table-checks-law w t .0 checks .0) .1 in
         let low : rank w (slotWords w t i) < 4294967296 =
-        ⊎-elim (λ v. absurd (true≢false (sym v ∙ o))) (λ s. omega (arith, sound-law w _ _ _ _ .0 s .1)) (records-law w t .0 records i h) in
+        ⊎-elim (λ v. absurd (true≢false (sym v ∙ o))) (λ s. omega (arith, sound-rank w (slotWords w t i) s)) (records-law w t .0 records i h) in
         record-of-rule w (slotWords w t i) low ∙ sym (entry-at w t i h)
 
     forth : (x : List ℕ) → Held (vacant w) (entryOccupied w) (entries w t) x → (r : Rule) × Member r (tableRules w t) × (recordOf w r ≡ x)

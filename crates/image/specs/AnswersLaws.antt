@@ -1,16 +1,10 @@
--- End theorems on the answers of saving and loading: number and values lose nothing. And how a call ends that asks for its width first.
+-- End theorems on the answers of saving and loading: number and values lose nothing.
 use mathlib.Core.Path.{_≡_, refl, sym, ap, ap₂, _∙_}
 use mathlib.Core.Bool.{true≢false}
-use mathlib.Core.List.{List}
-use Prim.Native.Nat.{ℕ}
 use lib.ListN.{getD}
 use lib.Dec.{eqb}
-use Rattle.records.specs.Laws.{cause-number-once, cause-not-zero, told-refused, told-answered}
-use Rattle.records.specs.Checks.{Told, refusal, unless}
-use Rattle.records.specs.Widths.{leaves}
-use Rattle.records.specs.declared.Cause.{Cause}
-use Rattle.records.specs.declared.Check.{Check}
-use Rattle.records.specs.declared.Check.the-variants.{Pass, Fail}
+use Rattle.records.specs.Laws.{cause-number-once, cause-not-zero}
+use Rattle.records.specs.Checks.{Told}
 use Rattle.image.specs.declared.SaveAnswer.{SaveAnswer}
 use Rattle.image.specs.declared.SaveAnswer.the-variants.{Saved, Refused as SaveRefused}
 use Rattle.image.specs.declared.LoadAnswer.{LoadAnswer}
@@ -31,12 +25,3 @@ load-told-once Loaded (LoadRefused c s) e = absurd (true≢false (ap (λ (t : To
 load-told-once (LoadRefused c s) Loaded e = absurd (true≢false (ap (λ (t : Told). eqb (t .number) 0) (sym e) ∙ cause-not-zero c))
 load-told-once (LoadRefused c s) (LoadRefused d u) e =
     ap₂ LoadRefused (cause-number-once c d (ap (λ (t : Told). t .number) e)) (ap (λ (t : Told). getD (t .values) 0 0) e)
-
--- a call behind a check of its own ends in one of two ways: refused, with the lent words as they were, or as what stands behind the check ends
-pub call-refused : {x y : Check} {cause : Cause} {spot : ℕ} (answer : Told) (after before : List ℕ) → x ≡ y → x ≡ Fail cause spot
-    → (refusal cause spot ≡ unless y answer) × (before ≡ leaves y after before)
-call-refused answer after before e f = (told-refused answer e f, ap (λ (z : Check). leaves z after before) (sym f ∙ e))
-
-pub call-answered : {x y : Check} {told answer : Told} {left after : List ℕ} (before : List ℕ) → x ≡ y → x ≡ Pass → (told ≡ answer) × (left ≡ after)
-    → (told ≡ unless y answer) × (left ≡ leaves y after before)
-call-answered {after = after} before e f h = (told-answered e f (h .0), h .1 ∙ ap (λ (z : Check). leaves z after before) (sym f ∙ e))

@@ -4,7 +4,7 @@ use mathlib.Core.Path.{_≡_, refl, sym, ap, ap₂, _∙_}
 use mathlib.Core.List.{List, [], _∷_, _++_, append-assoc, append-nil}
 use Prim.Native.Nat.{ℕ, zero, suc, _+_, _-_, _*_, _/_, _%_, _^_, _≤_, _<_}
 use native.Mathlib.Nat.{div-add-mod', add-zero, pow-suc, pow-zero, div-lt-iff-lt-mul, pow-le-pow-right, mul-le-mul-right, add-assoc, zero-add}
-use native.Mathlib.Nat.{suc-mul, zero-mul, mod-lt}
+use native.Mathlib.Nat.{suc-mul, zero-mul, mod-lt, add-suc, mul-assoc}
 use native.Mathlib.Numerals.{add-one}
 use native.Mathlib.Omega.{arith}
 use native.Mathlib.Decide.{decLt}
@@ -57,15 +57,23 @@ number-bytes (suc k) n rest h =
     (ap (λ (b : List ℕ). getD b (0 + k) 0) whole ∙ getD-at (bytesOf k (n / 256)) (n % 256) rest 0 (0 + k) (length-bytes k (n / 256) ∙ sym (zero-add k)))
     ∙ div-add-mod' n 256
 
--- eight bytes, in halves
-pub number-halves : (b : List ℕ) (at : ℕ) → numberAt b at 8 ≡ numberAt b at 4 * 4294967296 + numberAt b (at + 4) 4
+-- a number in two parts
+number-parts : (b : List ℕ) (at k m : ℕ) → numberAt b at (k + m) ≡ numberAt b at k * 256 ^ m + numberAt b (at + k) m
 unfolding numberAt
-number-halves b at =
-    let none : at + 4 + 0 ≡ at + 4 = omega arith in
-    let one : at + 4 + 1 ≡ at + 5 = omega arith in
-    let two : at + 4 + 2 ≡ at + 6 = omega arith in
-    let three : at + 4 + 3 ≡ at + 7 = omega arith in
-    rw (none, one, two, three) (omega arith)
+number-parts b at k zero = ap (numberAt b at) (add-zero k) ∙ rw (pow-zero 256) (omega arith)
+number-parts b at k (suc m) =
+    let place : at + (k + m) ≡ at + k + m = omega arith in
+    let rest = number-parts b at k m in
+    let power : numberAt b at k * 256 ^ suc m ≡ numberAt b at k * 256 ^ m * 256 =
+    ap (λ (n : ℕ). numberAt b at k * n) (pow-suc 256 m) ∙ sym (mul-assoc (numberAt b at k) (256 ^ m) 256) in
+    ap (numberAt b at) (add-suc k m) ∙ (ap₂ (λ (n d : ℕ). n * 256 + d) rest (ap (λ (n : ℕ). getD b n 0) place) ∙ omega (arith, power))
+
+-- eight bytes in halves, and four
+pub number-halves : (b : List ℕ) (at : ℕ) → numberAt b at 8 ≡ numberAt b at 4 * 4294967296 + numberAt b (at + 4) 4
+number-halves b at = number-parts b at 4 4
+
+pub number-quarters : (b : List ℕ) (at : ℕ) → numberAt b at 4 ≡ numberAt b at 2 * 65536 + numberAt b (at + 2) 2
+number-quarters b at = number-parts b at 2 2
 
 pub number-small : (k : ℕ) (b : List ℕ) (at : ℕ) → Bytes b → numberAt b at k < 256 ^ k
 unfolding numberAt

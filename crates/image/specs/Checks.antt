@@ -42,7 +42,7 @@ checkEntry w b n e k =
     (orElse (field (ltb (entrySlot b k) n && leb (lowestSlot b k) (entrySlot b k)) (entryPlace k + 4))
     (field (eqb (offsetAt b k) (bodyPlace w e k)) (entryPlace k + 6)))
 
--- a body: an unsound value or priority, at the body's start; its id has passed by then
+-- a body: an unsound value or rank, at the body's start; its id has passed by then
 unfoldable pub checkBody : ℕ → List ℕ → ℕ → ℕ → Check
 checkBody w b e k = field (sound w (word (recordAt w b e k))) (bodyPlace w e k)
 

@@ -28,7 +28,7 @@ bodyPlace w e k = 4 + e * 10 + k * bodyBytes w
 unfoldable pub entryOf : ℕ → ℕ → ℕ → List ℕ
 entryOf id slot body = bytesOf 4 id ++ bytesOf 2 slot ++ bytesOf 4 body
 
--- a record's body: value, mask, priority, action
+-- a record's body: value, mask, rank, action
 unfoldable pub bodyOf : ℕ → Words → List ℕ
 bodyOf w x = pieces (λ j. bytesOf 8 (x j)) (2 * w) ++ bytesOf 4 (rank w x) ++ bytesOf 4 (action w x)
 
@@ -75,11 +75,18 @@ offsetAt b k = numberAt b (entryPlace k + 6) 4
 abbrev pub bodyWord : List ℕ → ℕ → Words
 bodyWord b at j = numberAt b (at + j * 8) 8
 
--- the record that entry and body k mean, in an image of e rules
+-- body k of an image of e rules, as it is read: the words of its pattern, and its rank
+abbrev pub patternAt : ℕ → List ℕ → ℕ → ℕ → Words
+patternAt w b e k = bodyWord b (bodyPlace w e k)
+
+abbrev pub rankAt : ℕ → List ℕ → ℕ → ℕ → ℕ
+rankAt w b e k = numberAt b (bodyPlace w e k + 2 * w * 8) 4
+
+-- the record that entry and body k mean
 unfoldable pub recordAt : ℕ → List ℕ → ℕ → ℕ → List ℕ
 recordAt w b e k =
-    listed (2 * w) (bodyWord b (bodyPlace w e k))
-    ++ (idAt b k * 4294967296 + numberAt b (bodyPlace w e k + (2 * w * 8 + 4)) 4) ∷ numberAt b (bodyPlace w e k + 2 * w * 8) 4 ∷ []
+    listed (2 * w) (patternAt w b e k)
+    ++ (idAt b k * 4294967296 + numberAt b (bodyPlace w e k + (2 * w * 8 + 4)) 4) ∷ rankAt w b e k ∷ []
 
 module _ (w : ℕ) (t : List ℕ) where
   -- a buffer with the entries and bodies of the first k rules

@@ -10,7 +10,7 @@ use native.Mathlib.Decide.{decLt, ℕ-discrete}
 use native.Mathlib.Nat.{add-zero, div-add-mod', mod-lt, div-lt-iff-lt-mul}
 use native.Mathlib.Omega.{arith}
 use lib.Arith.{digits-div, digits-mod}
-use lib.Dec.{eqb, leb}
+use lib.Dec.{eqb}
 use lib.ListN.{length, getD, replicate, length-replicate, List·getD-append}
 use lib.Seq.{getD-at, getD-append-add, ext-getD}
 use borrow.Author.Tests.{eq-eqb, eqb-true}
@@ -18,17 +18,18 @@ use Rattle.search.specs.Search.{any}
 use Rattle.search.specs.SearchLaws.{any-yes, any-no, decided}
 use Rattle.ternary.specs.Pattern.{Words, Within}
 use Rattle.ternary.specs.PatternLaws.{within-cong}
-use Rattle.records.specs.Record.{word, listed, recordWords, slotWords, ident, action, rank, sound, soundParts, value, mask}
+use Rattle.records.specs.Record.{word, listed, recordWords, slotWords, ident, action, rank, rankFits, sound, soundParts, value, mask}
 use Rattle.records.specs.Order.{slots}
-use Rattle.records.specs.Laws.{empty-law, sound-law, ident-occupied}
+use Rattle.records.specs.Sound.{RankFits}
+use Rattle.records.specs.Laws.{empty-law, rank-law, sound-law, ident-occupied}
 use Rattle.records.specs.declared.Check.the-variants.{Pass}
 use Rattle.records.specs.Entries.{SameRecord}
-use Rattle.records.specs.RulesLaws.{length-listed, word-listed, zero-word}
+use Rattle.records.specs.RulesLaws.{length-listed, word-listed, zero-word, fits-cong}
 use Rattle.records.specs.EntriesLaws.{occupied-cong}
 use Rattle.records.specs.PutSlotLaws.{put-length, put-here, put-other}
 use Rattle.image.specs.Bytes.{numberAt, Bytes}
 use Rattle.image.specs.Indices.{indices}
-use Rattle.image.specs.Format.{bodyPlace, bodyWord, rulesIn, idAt, entrySlot, recordAt, holds, ruleCount, ruleSlot}
+use Rattle.image.specs.Format.{bodyPlace, rulesIn, idAt, entrySlot, recordAt, holds, ruleCount, ruleSlot, patternAt, rankAt}
 use Rattle.image.specs.Checks.{checkBody, rulesPut, meant, Sound}
 use Rattle.image.specs.LoadLaws.{record-at-length}
 use Rattle.image.specs.BytesLaws.{number-small}
@@ -82,25 +83,28 @@ module _ (w : ℕ) (b : List ℕ) (e k : ℕ) where
 
   -- whether the record is sound is told by the image's own numbers
   pub body-sound : Bytes b
-      → sound w (word (recordAt w b e k)) ≡ soundParts w (idAt b k) (numberAt b (bodyPlace w e k + 2 * w * 8) 4) (bodyWord b (bodyPlace w e k)) (mask w (bodyWord b (bodyPlace w e k)))
+      → sound w (word (recordAt w b e k)) ≡ soundParts w (idAt b k) (rankFits w (rankAt w b e k) (mask w (patternAt w b e k))) (patternAt w b e k) (mask w (patternAt w b e k))
   unfolding soundParts
   body-sound h =
       let x = word (recordAt w b e k) in
-      ap₂ (λ (i p : ℕ). soundParts w i p (value x) (mask w x)) (loaded-ident h) loaded-rank
-      ∙ ap (λ (q : Bool). not (eqb (idAt b k) 0) && leb (numberAt b (bodyPlace w e k + 2 * w * 8) 4) 65535 && q)
-      (within-cong w (λ j l. record-word j (omega arith)) (λ j l. record-word (w + j) (omega arith)))
+      let pattern = patternAt w b e k in
+      let fits = rankFits w (rankAt w b e k) (mask w pattern) in
+      let masks : (j : ℕ) → j < w → mask w x j ≡ mask w pattern j = λ j l. record-word (w + j) (omega arith) in
+      ap₂ (λ (i : ℕ) (r : Bool). soundParts w i r (value x) (mask w x)) (loaded-ident h) (fits-cong w loaded-rank masks)
+      ∙ ap (λ (q : Bool). not (eqb (idAt b k) 0) && fits && q) (within-cong w (λ j l. record-word j (omega arith)) masks)
 
-  -- document 01: an unsound value or priority, in a body whose entry has an id
+  -- an unsound value (document 01) or rank (document 02), in a body whose entry has an id
   pub body-law : Bytes b → (idAt b k ≡ 0 → ⊥)
-      → (checkBody w b e k ≡ Pass)
-      ↔ ((numberAt b (bodyPlace w e k + 2 * w * 8) 4 ≤ 65535) × Within w (bodyWord b (bodyPlace w e k)) (mask w (bodyWord b (bodyPlace w e k))))
+      → (checkBody w b e k ≡ Pass) ↔ (RankFits w (rankAt w b e k) (mask w (patternAt w b e k)) × Within w (patternAt w b e k) (mask w (patternAt w b e k)))
   unfolding checkBody
   body-law h named =
       let same = body-sound h in
-      let law = sound-law w (idAt b k) (numberAt b (bodyPlace w e k + 2 * w * 8) 4) (bodyWord b (bodyPlace w e k)) (mask w (bodyWord b (bodyPlace w e k))) in
+      let pattern = patternAt w b e k in
+      let fits = rank-law w (rankAt w b e k) (mask w pattern) in
+      let law = sound-law w (idAt b k) (rankFits w (rankAt w b e k) (mask w pattern)) pattern (mask w pattern) in
       let right = sound w (word (recordAt w b e k)) in (
-        λ p. let s = law .0 (sym same ∙ field-law right (bodyPlace w e k) .0 p) in (s .1, s .2),
-        λ f. field-law right (bodyPlace w e k) .1 (same ∙ law .1 (named, f .0, f .1)),
+        λ p. let s = law .0 (sym same ∙ field-law right (bodyPlace w e k) .0 p) in (fits .0 (s .1), s .2),
+        λ f. field-law right (bodyPlace w e k) .1 (same ∙ law .1 (named, fits .1 (f .0), f .1)),
       )
 
 -- an image's slots rise

@@ -13,7 +13,7 @@ use Rattle.ternary.specs.Pattern.{Words}
 use Rattle.records.specs.Record.{word, recordWords, slotWords, ident, action, rank, sound}
 use Rattle.records.specs.Order.{slots}
 use Rattle.records.specs.Checks.{orElse, checkShape, checkRecords, checkTwice, checkOrder, slotChecks, tableChecks}
-use Rattle.records.specs.Laws.{or-else-pass, records-law, sound-law}
+use Rattle.records.specs.Laws.{or-else-pass, records-law, sound-law, sound-rank}
 use Rattle.records.specs.Entries.{SameRecord}
 use Rattle.records.specs.declared.Check.the-variants.{Pass}
 use Rattle.records.specs.EntriesLaws.{shaped-slots, sound-same}
@@ -167,9 +167,9 @@ module _ (w : ℕ) (t : List ℕ) (narrow : Numbered w) (sixty-four : Words64 t)
     saved-sound =
         ⊎-elim (λ v. absurd (true≢false (sym (hit .1) ∙ ap not v))) (λ s. s) (records-law w t .0 (slots-checks .1) (ruleSlot w t k) (hit .0))
 
-    rank-small : rank w x ≤ 65535
+    rank-small : rank w x ≤ 65536
     unfolding x
-    rank-small = sound-law w _ _ _ _ .0 saved-sound .1
+    rank-small = sound-rank w x saved-sound
 
     id-small : ident w x < 4294967296
     unfolding x

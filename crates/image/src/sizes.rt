@@ -5,7 +5,7 @@ ghost use Rattle.records.specs.Record.{mostSlots};
 ghost use Rattle.records.specs.Widths.{Width};
 ghost use Rattle.image.specs.Format.{bodyBytes, imageBytes, entryPlace, bodyPlace};
 
-// The bytes of a body: value, mask, priority, action.
+// The bytes of a body: value, mask, rank, action.
 pub fn body_bytes(width: usize) -> usize
     requires { ⌜ Width width ⌝ }
     ensures { λ r. ⌜ r ≡ bodyBytes width ⌝ }

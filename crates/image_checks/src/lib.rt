@@ -13,16 +13,17 @@ use records::record_words;
 use slots::slot_count;
 use table_checks::check_shape;
 ghost use mathlib.Core.Path.{_≡_};
+ghost use mathlib.Core.Bool.{_&&_};
 ghost use mathlib.Core.List.{[], _∷_};
-ghost use Prim.Native.Nat.{_+_, _*_, _≤_, _<_};
+ghost use Prim.Native.Nat.{ℕ, _+_, _*_, _≤_, _<_};
 ghost use lib.ListN.{length};
-ghost use Rattle.ternary.specs.Pattern.{within};
-ghost use Rattle.records.specs.Record.{mostSlots, listed, mask, putSlot};
+ghost use Rattle.ternary.specs.Pattern.{within, fullMask};
+ghost use Rattle.records.specs.Record.{mostSlots, listed, mask, rankFits, putSlot};
 ghost use Rattle.records.specs.Order.{slots as slotsOf};
 ghost use Rattle.records.specs.Checks.{orElse, checkShape};
 ghost use Rattle.records.specs.Widths.{Width};
 ghost use Rattle.image.specs.Bytes.{numberAt, store};
-ghost use Rattle.image.specs.Format.{imageBytes, entryPlace, bodyWord, recordAt};
+ghost use Rattle.image.specs.Format.{imageBytes, entryPlace, idAt, bodyWord, recordAt};
 ghost use Rattle.image.specs.Checks.{checkHeader, lowestSlot, checkEntry, checkBody, checkContents, checkBodies, imageChecks};
 
 // Slots as the lent table's; rules no more than slots, and as many bytes as so many rules have.
@@ -99,7 +100,7 @@ fn put_pattern(image: &[u8], at: usize, table: &mut [u64], first: usize, width: 
     }
 }
 
-// Puts the two words behind a pattern, id and action and then priority, into a table: the id stands in the contents, the others end the body.
+// Puts the two words behind a pattern, id and action and then rank, into a table: the id stands in the contents, the others end the body.
 fn put_rest(image: &[u8], named: usize, tail: usize, table: &mut [u64], at: usize)
     requires { ⌜ (named + 4 ≤ length (now image)) × (tail + 8 ≤ length (now image)) × (at + 2 ≤ length (now table)) ⌝ }
     ensures { λ _. ⌜ now (table .exit) ≡ store (now (table .entry)) at
@@ -163,18 +164,68 @@ fn body_within(image: &[u8], at: usize, width: usize) -> bool
     body_within_by(image, at, WIDE)
 }
 
-// A body: its value and priority are a sound rule's.
+// Whether every mask bit of a body is set.
+fn body_full_by(image: &[u8], at: usize, width: usize) -> bool
+    requires { ⌜ (Width width) × (at + 16 * width ≤ length (now image)) ⌝ }
+    ensures { λ r. ⌜ r ≡ fullMask width (mask width (bodyWord (now (image .entry)) at)) ⌝ }
+{
+    let mut index = 0;
+    while index < width {
+        if !ternary::word_full(word_at(image, at + (width + index) * 8)) {
+            return false;
+        }
+        index += 1;
+    }
+    true
+}
+
+// The same, with the width a constant for the compiler: it makes a copy for each.
+fn body_full(image: &[u8], at: usize, width: usize) -> bool
+    requires { ⌜ (Width width) × (at + 16 * width ≤ length (now image)) ⌝ }
+    ensures { λ r. ⌜ r ≡ fullMask width (mask width (bodyWord (now (image .entry)) at)) ⌝ }
+{
+    if width == NARROW {
+        return body_full_by(image, at, NARROW);
+    }
+    body_full_by(image, at, WIDE)
+}
+
+// Whether a body's rank is a record's: at most 65,535, or 65,536 where every mask bit is set. Read in halves of two bytes: of a priority the upper is 0.
+fn body_ranked(image: &[u8], at: usize, width: usize) -> bool
+    requires { ⌜ (Width width) × (at + 16 * width + 4 ≤ length (now image)) ⌝ }
+    ensures { λ r. ⌜ r ≡ rankFits width (numberAt (now (image .entry)) (at + 16 * width) 4) (mask width (bodyWord (now (image .entry)) at)) ⌝ }
+{
+    let upper = number_at(image, at + 16 * width, 2);
+    if upper == 0 {
+        return true;
+    }
+    let lower = number_at(image, at + 16 * width + 2, 2);
+    if (upper == 1) & (lower == 0) {
+        return body_full(image, at, width);
+    }
+    false
+}
+
+// Whether the rank and value of a body, which starts at an offset, are a sound record's.
+fn body_sound(image: &[u8], at: usize, width: usize) -> bool
+    requires { ⌜ (Width width) × (at + 16 * width + 4 ≤ length (now image)) ⌝ }
+    ensures { λ r. ⌜ r ≡ (rankFits width (numberAt (now (image .entry)) (at + 16 * width) 4) (mask width (bodyWord (now (image .entry)) at))
+        && within width (bodyWord (now (image .entry)) at) (mask width (bodyWord (now (image .entry)) at))) ⌝ }
+{
+    if body_ranked(image, at, width) {
+        return body_within(image, at, width);
+    }
+    false
+}
+
+// A body: its value and rank are a sound record's. Its id, of the contents, has passed.
 fn check_body(image: &[u8], rules: usize, entry: usize, width: usize) -> Check
-    requires { ⌜ (Width width) × (rules ≤ mostSlots) × (entry < rules) × (imageBytes width rules ≤ length (now image)) ⌝ }
+    requires { ⌜ (Width width) × (rules ≤ mostSlots) × (entry < rules) × (imageBytes width rules ≤ length (now image)) × (idAt (now image) entry ≡ 0 → ⊥) ⌝ }
     ensures { λ r. ⌜ r ≡ checkBody width (now (image .entry)) rules entry ⌝ }
 {
     let at = body_place(width, rules, entry);
-    let id = number_at(image, entry_place(entry), 4);
-    let rank = number_at(image, at + 16 * width, 4);
-    if (id != 0) & (rank <= 65535) {
-        if body_within(image, at, width) {
-            return Check::Pass;
-        }
+    if body_sound(image, at, width) {
+        return Check::Pass;
     }
     Check::Fail(Cause::Image, at as u32)
 }
@@ -195,9 +246,9 @@ fn check_contents(image: &[u8], slots: usize, rules: usize, width: usize) -> Che
     Check::Pass
 }
 
-// Each body in turn.
+// Each body in turn, once every id has passed.
 fn check_bodies(image: &[u8], rules: usize, width: usize) -> Check
-    requires { ⌜ (Width width) × (rules ≤ mostSlots) × (imageBytes width rules ≤ length (now image)) ⌝ }
+    requires { ⌜ (Width width) × (rules ≤ mostSlots) × (imageBytes width rules ≤ length (now image)) × ((k : ℕ) → k < rules → idAt (now image) k ≡ 0 → ⊥) ⌝ }
     ensures { λ r. ⌜ r ≡ checkBodies width (now (image .entry)) rules ⌝ }
 {
     let mut entry = 0;

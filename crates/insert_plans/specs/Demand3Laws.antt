@@ -1,5 +1,5 @@
 -- End theorems: demand 3, for every sound table with an empty slot and every sound rule of new id that ties with none and is not crossed.
-use mathlib.Core.Path.{_≡_, refl, sym, subst₂}
+use mathlib.Core.Path.{_≡_, refl, sym, subst, subst₂}
 use mathlib.Core.List.{List}
 use Prim.Native.Nat.{ℕ, suc, _≤_, _<_}
 use native.Mathlib.Omega.{arith}
@@ -11,6 +11,8 @@ use Rattle.records.specs.Order.{slots}
 use Rattle.records.specs.Checks.{Told}
 use Rattle.records.specs.Entries.{vacant, entries, entryOccupied, entrySame, entryMisordered}
 use Rattle.records.specs.Inserts.{insertChoiceOf}
+use Rattle.records.specs.Editions.{Given, under13, ranked}
+use Rattle.records.specs.EditionsLaws.{ranked-13, ranked-action}
 use Rattle.records.specs.declared.Rule.{Rule}
 use Rattle.records.specs.declared.Check.the-variants.{Pass}
 use Rattle.records.specs.EntriesLaws.{entries-length}
@@ -18,33 +20,36 @@ use Rattle.records.specs.InsertsLaws.{ValidPlan, plan-words-count, plan-words-c
 use Rattle.buffers.specs.BuffersLaws.{buffer-written}
 use Rattle.table_checks.specs.SlotsLaws.{table-few}
 use Rattle.neighbours.specs.Neighbours.{insertChecks}
-use Rattle.insert_plans.specs.Insertable.{Insertable}
+use Rattle.insert_plans.specs.Insertable.{InsertableGiven}
 use Rattle.insert_plans.specs.Inserts.{insertWords, insertAnswer, insertPlan}
 use Rattle.insert_plans.specs.InsertableLaws.{insertable-law}
 use Rattle.insert_plans.specs.InsertsLaws.{insert-least}
 use Rattle.insert_plans.specs.Demand3.{ShortestPlan, Demand3}
 
--- for every sound table with an empty slot, and every sound rule of new id that ties with none and is not crossed
-pub demand-3 : (w : ℕ) (t : List ℕ) (rule : Rule) → rule .action < 4294967296 → Insertable w t rule → (plan : List ℕ)
-    → Demand3 w t rule (insertAnswer w t rule (length plan)) plan (insertPlan w t rule plan)
-demand-3 w t rule small insertable plan = record { needed = count; few = omega (arith, count, best .short, valid .count, entries-length w t); shortest = planned }
+-- for every sound table with an empty slot, and every sound rule of new id that ties with none and is not crossed, given with an edition that there is
+pub demand-3 : (w : ℕ) (t : List ℕ) (given : Given) → given .rule .action < 4294967296 → InsertableGiven w t given → (plan : List ℕ)
+    → Demand3 w t (ranked w given) (insertAnswer w t given (length plan)) plan (insertPlan w t given plan)
+demand-3 w t given small premises plan = record { needed = count; few = omega (arith, count, best .short, valid .count, entries-length w t); shortest = planned }
   where
-    e : insertChecks w t rule ≡ Pass
-    e = insertable-law w t rule .1 insertable
+    rule : Rule
+    rule = ranked w given
+
+    e : insertChecks w t given ≡ Pass
+    e = insertable-law w t given .1 premises
 
     best : LeastPlan (vacant w) (entryOccupied w) (entrySame w) (entryMisordered w) (entries w t) (recordOf w rule) (insertChoiceOf w t rule)
-    best = insert-least w t rule insertable small
+    best = insert-least w t rule (premises .insertable) (omega (arith, small, ranked-action w given))
 
     valid : ValidPlan w t rule (insertChoiceOf w t rule)
     valid = best .valid
 
     low : slots w t ≤ emptying
-    low = omega (arith, table-few w t (insertable .table))
+    low = omega (arith, table-few w t (premises .insertable .table))
 
     count : length (insertWords w t rule) ≡ suc (insertChoiceOf w t rule .cost)
     count = plan-words-count w t rule low (insertChoiceOf w t rule) valid
 
-    planned : length (insertWords w t rule) ≤ length plan → ShortestPlan w t rule (insertAnswer w t rule (length plan)) plan (insertPlan w t rule plan)
+    planned : length (insertWords w t rule) ≤ length plan → ShortestPlan w t rule (insertAnswer w t given (length plan)) plan (insertPlan w t given plan)
     planned h =
         let r = buffer-written (insertWords w t rule) plan refl e h in
         record {
@@ -57,12 +62,20 @@ demand-3 w t rule small insertable plan = record { needed = count; few = omega (
         }
 
 -- the same of a call whose answer and buffer are those of the definitions
-pub demand-3-call : (w : ℕ) (t : List ℕ) (rule : Rule) (plan after : List ℕ) (told : Told) → rule .action < 4294967296
-    → told ≡ insertAnswer w t rule (length plan) → after ≡ insertPlan w t rule plan → Insertable w t rule → Demand3 w t rule told plan after
-demand-3-call w t rule plan after told small e f insertable =
-    subst₂ (λ (x : Told) (y : List ℕ). Demand3 w t rule x plan y) (sym e) (sym f) (demand-3 w t rule small insertable plan)
+pub demand-3-call : (w : ℕ) (t : List ℕ) (given : Given) (plan after : List ℕ) (told : Told) → given .rule .action < 4294967296
+    → told ≡ insertAnswer w t given (length plan) → after ≡ insertPlan w t given plan → InsertableGiven w t given → Demand3 w t (ranked w given) told plan after
+demand-3-call w t given plan after told small e f premises =
+    subst₂ (λ (x : Told) (y : List ℕ). Demand3 w t (ranked w given) x plan y) (sym e) (sym f) (demand-3 w t given small premises plan)
+
+-- and of document 01's rule, under 1.3
+pub demand-3-rule : (w : ℕ) (t : List ℕ) (rule : Rule) (plan after : List ℕ) (told : Told) → rule .action < 4294967296
+    → told ≡ insertAnswer w t (under13 rule) (length plan) → after ≡ insertPlan w t (under13 rule) plan → InsertableGiven w t (under13 rule)
+    → Demand3 w t rule told plan after
+demand-3-rule w t rule plan after told small e f premises =
+    subst (λ (r : Rule). Demand3 w t r told plan after) (ranked-13 w rule) (demand-3-call w t (under13 rule) plan after told small e f premises)
 
 -- with a buffer of just the words needed
-pub shortest-words : (w : ℕ) (t : List ℕ) (rule : Rule) → rule .action < 4294967296 → Insertable w t rule
-    → ShortestPlan w t rule (insertAnswer w t rule (length (insertWords w t rule))) (insertWords w t rule) (insertPlan w t rule (insertWords w t rule))
-shortest-words w t rule small insertable = demand-3 w t rule small insertable (insertWords w t rule) .shortest (omega arith)
+pub shortest-words : (w : ℕ) (t : List ℕ) (given : Given) → given .rule .action < 4294967296 → InsertableGiven w t given
+    → ShortestPlan w t (ranked w given) (insertAnswer w t given (length (insertWords w t (ranked w given)))) (insertWords w t (ranked w given))
+    (insertPlan w t given (insertWords w t (ranked w given)))
+shortest-words w t given small premises = demand-3 w t given small premises (insertWords w t (ranked w given)) .shortest (omega arith)

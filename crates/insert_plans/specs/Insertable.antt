@@ -5,10 +5,11 @@ use mathlib.Core.List.{List}
 use Prim.Native.Nat.{ℕ, _<_}
 use Rattle.ternary.specs.Pattern.{Words}
 use lib.ListN.{length}
-use Rattle.records.specs.Record.{word, recordWords, slotWords, empty, soundRule, recordOf, ruleOf}
+use Rattle.records.specs.Record.{word, recordWords, slotWords, empty, soundRule, soundRanked, recordOf}
 use Rattle.records.specs.Order.{slots, precedes}
 use Rattle.records.specs.Checks.{tableChecks}
 use Rattle.records.specs.Widths.{Width}
+use Rattle.records.specs.Editions.{Given, lentRule, ranked, Edition}
 use Rattle.records.specs.Inserts.{Untied, IdNew}
 use Rattle.records.specs.declared.Rule.{Rule}
 use Rattle.records.specs.declared.Check.the-variants.{Pass}
@@ -18,21 +19,27 @@ abbrev pub Uncrossed : ℕ → List ℕ → Words → Type 0
 Uncrossed w t new =
     (i k : ℕ) → i < slots w t → k < slots w t → precedes w (slotWords w t i) new ≡ true → precedes w new (slotWords w t k) ≡ true → i < k
 
--- document 01, demand 3's premises: the table passes checks 1 to 4, the rule is sound, its id is new, it ties with no rule, a slot is empty,
--- and the rule is not crossed
+-- document 01, demand 3's premises of a rule that has its rank: the table passes checks 1 to 4, the rule is sound, its id is new, it ties with no
+-- rule, a slot is empty, and the rule is not crossed
 pub record Insertable (w : ℕ) (t : List ℕ) (rule : Rule) : Type 0 where
   pub table : tableChecks w t ≡ Pass
-  pub sound : soundRule w rule ≡ true
+  pub sound : soundRanked w rule ≡ true
   pub new : IdNew w t rule
   pub untied : Untied w t rule
   pub room : (e : ℕ) × (e < slots w t) × (empty w (slotWords w t e) ≡ true)
   pub uncrossed : Uncrossed w t (word (recordOf w rule))
 
--- document 02: the same of a rule as it is lent with a call: the width is 2 or 5, and the rule a record of so many words
-pub record InsertableCall (w : ℕ) (t rule : List ℕ) : Type 0 where
+-- document 02: the same of a rule as it is given: it is sound, its edition is 10 or 13, and with its rank it is insertable
+pub record InsertableGiven (w : ℕ) (t : List ℕ) (given : Given) : Type 0 where
+  pub sound : soundRule w (given .rule) ≡ true
+  pub edition : Edition (given .edition)
+  pub insertable : Insertable w t (ranked w given)
+
+-- and as it is lent with a call: the width is 2 or 5, and the rule a record of so many words
+pub record InsertableCall (w e : ℕ) (t rule : List ℕ) : Type 0 where
   pub width : Width w
   pub words : length rule ≡ recordWords w
-  pub insertable : Insertable w t (ruleOf w (word rule))
+  pub given : InsertableGiven w t (lentRule w e rule)
 
 -- document 01: a is A, the highest slot holding a rule that precedes the new one, and in some slot before it a rule depends on the new one
 pub record CrossedAt (w : ℕ) (t : List ℕ) (new : Words) (a : ℕ) : Type 0 where

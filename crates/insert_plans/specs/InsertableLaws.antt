@@ -10,17 +10,19 @@ use borrow.Author.Tests.{ltb-false}
 use Rattle.search.specs.Search.{any, Least, AfterLast}
 use Rattle.search.specs.SearchLaws.{any-yes, least-law, after-last-law, after-last-unique}
 use Rattle.ternary.specs.Pattern.{Words}
-use Rattle.records.specs.Record.{word, slotWords, empty, soundRule, recordOf}
+use Rattle.records.specs.Record.{word, slotWords, empty, recordOf}
 use Rattle.records.specs.Order.{slots, sameId, tied, precedes}
 use Rattle.records.specs.Checks.{orElse, tableChecks}
 use Rattle.records.specs.Laws.{or-else-pass, lowest-pass, pass-law, cond-pass, precedes-law}
 use Rattle.records.specs.WidthsLaws.{lent-words}
+use Rattle.records.specs.Editions.{Given, ranked, checkGiven}
+use Rattle.records.specs.EditionsLaws.{given-law, rank-sound}
 use Rattle.records.specs.declared.Rule.{Rule}
-use Rattle.records.specs.declared.Cause.the-variants.{Rule as RuleCause, Known, Tie, Full, Crossed}
+use Rattle.records.specs.declared.Cause.the-variants.{Known, Tie, Full, Crossed}
 use Rattle.records.specs.declared.Check.the-variants.{Pass, Fail}
-use Rattle.neighbours.specs.Neighbours.{checkRule, checkKnown, checkTie, checkFull, checkCrossed, afterA, slotB, newChecks, ruleWords, insertChecks}
+use Rattle.neighbours.specs.Neighbours.{checkKnown, checkTie, checkFull, checkCrossed, afterA, slotB, newChecks, ruleWords, insertChecks}
 use Rattle.neighbours.specs.NeighboursLaws.{room-at, crossed-yes, crossed-no}
-use Rattle.insert_plans.specs.Insertable.{CrossedAt, Insertable, Uncrossed}
+use Rattle.insert_plans.specs.Insertable.{CrossedAt, Insertable, InsertableGiven, Uncrossed}
 
 -- a rule has its record's words
 pub rule-words : (w : ℕ) (rule : Rule) → ruleWords w rule ≡ word (recordOf w rule)
@@ -78,14 +80,16 @@ crossed-pass w t new = (
         (a .hit (afterA w t new - 1) (omega arith)) (b .hit (omega (arith, a .high))) in
         absurd (omega arith)
 
--- checks 1 to 10 of an insert pass exactly when demand 3's premises hold
-pub insertable-law : (w : ℕ) (t : List ℕ) (rule : Rule) → (insertChecks w t rule ≡ Pass) ↔ Insertable w t rule
-unfolding insertChecks newChecks checkRule checkKnown checkTie checkFull
-insertable-law w t rule =
+-- checks 1 to 10 of an insert, and 18, pass exactly when demand 3's premises hold
+pub insertable-law : (w : ℕ) (t : List ℕ) (given : Given) → (insertChecks w t given ≡ Pass) ↔ InsertableGiven w t given
+unfolding insertChecks newChecks checkKnown checkTie checkFull
+insertable-law w t given =
+    let rule = ranked w given in
     let new = ruleWords w rule in
     let same = rule-words w rule in
-    let a = or-else-pass (tableChecks w t) (orElse (checkRule w rule) (newChecks w t new)) in
-    let b = or-else-pass (checkRule w rule) (newChecks w t new) in
+    let a = or-else-pass (tableChecks w t) (orElse (checkGiven w given) (newChecks w t new)) in
+    let b = or-else-pass (checkGiven w given) (newChecks w t new) in
+    let g = given-law w given in
     let c = or-else-pass (checkKnown w t new) (orElse (checkTie w t new) (orElse (checkFull w t) (checkCrossed w t new))) in
     let d = or-else-pass (checkTie w t new) (orElse (checkFull w t) (checkCrossed w t new)) in
     let f = or-else-pass (checkFull w t) (checkCrossed w t new) in (
@@ -93,24 +97,30 @@ insertable-law w t rule =
           let known = c .0 (rest .1) in
           let tie = d .0 (known .1) in
           let full = f .0 (tie .1) in
+          let good = g .0 (rest .0) in
           record {
-            table = a .0 e .0;
-            sound = pass-law RuleCause 0 (soundRule w rule) .0 (rest .0);
-            new = λ i l. ap (λ (x : Words). sameId w (slotWords w t i) x) (sym same)
-                ∙ lowest-pass Known (λ (i : ℕ). sameId w (slotWords w t i) new) (slots w t) .0 (known .0) i l;
-            untied = λ i l. ap (λ (x : Words). tied w (slotWords w t i) x) (sym same)
-                ∙ lowest-pass Tie (λ (i : ℕ). tied w (slotWords w t i) new) (slots w t) .0 (tie .0) i l;
-            room = any-yes (λ (i : ℕ). empty w (slotWords w t i)) (slots w t) (pass-law Full 0 (any (λ (i : ℕ). empty w (slotWords w t i)) (slots w t)) .0 (full .0));
-            uncrossed = subst (λ (x : Words). Uncrossed w t x) same (crossed-pass w t new .0 (full .1));
+            sound = good .0;
+            edition = good .1;
+            insertable = record {
+              table = a .0 e .0;
+              sound = rank-sound w given (good .0);
+              new = λ i l. ap (λ (x : Words). sameId w (slotWords w t i) x) (sym same)
+                  ∙ lowest-pass Known (λ (i : ℕ). sameId w (slotWords w t i) new) (slots w t) .0 (known .0) i l;
+              untied = λ i l. ap (λ (x : Words). tied w (slotWords w t i) x) (sym same)
+                  ∙ lowest-pass Tie (λ (i : ℕ). tied w (slotWords w t i) new) (slots w t) .0 (tie .0) i l;
+              room = any-yes (λ (i : ℕ). empty w (slotWords w t i)) (slots w t) (pass-law Full 0 (any (λ (i : ℕ). empty w (slotWords w t i)) (slots w t)) .0 (full .0));
+              uncrossed = subst (λ (x : Words). Uncrossed w t x) same (crossed-pass w t new .0 (full .1));
+            };
           },
-      λ p. let known = lowest-pass Known (λ (i : ℕ). sameId w (slotWords w t i) new) (slots w t) .1
+      λ q. let p = q .insertable in
+          let known = lowest-pass Known (λ (i : ℕ). sameId w (slotWords w t i) new) (slots w t) .1
           (λ i h. ap (λ (x : Words). sameId w (slotWords w t i) x) same ∙ p .new i h) in
           let tie = lowest-pass Tie (λ (i : ℕ). tied w (slotWords w t i) new) (slots w t) .1
           (λ i h. ap (λ (x : Words). tied w (slotWords w t i) x) same ∙ p .untied i h) in
           let room = p .room in
           let full = sym (room-at w t (room .0) (room .1) (room .2)) in
           let crossed = crossed-pass w t new .1 (subst (λ (x : Words). Uncrossed w t x) (sym same) (p .uncrossed)) in
-          a .1 (p .table, b .1 (pass-law RuleCause 0 (soundRule w rule) .1 (p .sound), c .1 (known, d .1 (tie, f .1 (full, crossed))))),
+          a .1 (p .table, b .1 (g .1 (q .sound, q .edition), c .1 (known, d .1 (tie, f .1 (full, crossed))))),
     )
 
 -- in numbers: A + 1 is at most B + 1

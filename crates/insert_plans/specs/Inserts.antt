@@ -7,11 +7,11 @@ use Prim.Native.Nat.{ℕ, _+_, _-_, _<_}
 use lib.ListN.{length}
 use Rattle.ternary.specs.Pattern.{Words}
 use Rattle.layout.specs.Plan.{Choice, choose}
-use Rattle.records.specs.Record.{word, ruleOf}
 use Rattle.records.specs.Checks.{Told, unless}
 use Rattle.records.specs.Widths.{checkRule, leaves}
 use Rattle.records.specs.Entries.{vacant, entries, entryOccupied, entryMisordered}
 use Rattle.records.specs.Inserts.{insertChoiceOf, planWords}
+use Rattle.records.specs.Editions.{Given, lentRule, ranked}
 use Rattle.records.specs.declared.Rule.{Rule}
 use Rattle.buffers.specs.Buffers.{bufferAnswer, bufferAfter}
 use Rattle.costs.specs.Costs.{costOf}
@@ -24,19 +24,19 @@ use Rattle.neighbours.specs.Neighbours.{afterA, slotB, insertChecks}
 abbrev pub insertWords : ℕ → List ℕ → Rule → List ℕ
 insertWords w t rule = planWords (insertChoiceOf w t rule)
 
--- the answer with a buffer of so many words, and the buffer afterwards
-abbrev pub insertAnswer : ℕ → List ℕ → Rule → ℕ → Told
-insertAnswer w t rule room = bufferAnswer (insertChecks w t rule) (length (insertWords w t rule)) room
+-- the answer with a buffer of so many words, and the buffer afterwards: the rule that is planned has its rank
+abbrev pub insertAnswer : ℕ → List ℕ → Given → ℕ → Told
+insertAnswer w t given room = bufferAnswer (insertChecks w t given) (length (insertWords w t (ranked w given))) room
 
-abbrev pub insertPlan : ℕ → List ℕ → Rule → List ℕ → List ℕ
-insertPlan w t rule plan = bufferAfter (insertChecks w t rule) (insertWords w t rule) plan
+abbrev pub insertPlan : ℕ → List ℕ → Given → List ℕ → List ℕ
+insertPlan w t given plan = bufferAfter (insertChecks w t given) (insertWords w t (ranked w given)) plan
 
--- document 02: the call, on a rule as it is lent, a record; another width or another number of words is 1
-abbrev pub insertCall : ℕ → List ℕ → List ℕ → ℕ → Told
-insertCall w t rule room = unless (checkRule w (length rule)) (insertAnswer w t (ruleOf w (word rule)) room)
+-- document 02: the call, on a rule as it is lent, a record, with its edition e; another width or another number of words is 1
+abbrev pub insertCall : ℕ → ℕ → List ℕ → List ℕ → ℕ → Told
+insertCall w e t rule room = unless (checkRule w (length rule)) (insertAnswer w t (lentRule w e rule) room)
 
-abbrev pub insertCallPlan : ℕ → List ℕ → List ℕ → List ℕ → List ℕ
-insertCallPlan w t rule plan = leaves (checkRule w (length rule)) (insertPlan w t (ruleOf w (word rule)) plan) plan
+abbrev pub insertCallPlan : ℕ → ℕ → List ℕ → List ℕ → List ℕ → List ℕ
+insertCallPlan w e t rule plan = leaves (checkRule w (length rule)) (insertPlan w t (lentRule w e rule) plan) plan
 
 -- the layout's choice between A and B, by A + 1 and B
 unfoldable pub choiceBetween : ℕ → List ℕ → ℕ → ℕ → Choice

@@ -9,7 +9,7 @@ use Rattle.search.specs.Search.{least, afterLast}
 use Rattle.ternary.specs.Pattern.{Words}
 use Rattle.layout.specs.Plan.{Choice, Range, afterPreceding, firstDependant, rangeDown, rangeUp, choose, insertChoice}
 use Rattle.layout.specs.Insert.{LeastPlan}
-use Rattle.records.specs.Record.{word, recordWords, slotWords, sound, soundRule, recordOf, ruleOf, listed}
+use Rattle.records.specs.Record.{word, recordWords, slotWords, recordOf, listed}
 use Rattle.records.specs.Order.{slots, precedes}
 use Rattle.records.specs.Checks.{success, refusal, tableChecks}
 use Rattle.records.specs.Laws.{passed, sound-law, table-checks-law}
@@ -19,8 +19,9 @@ use Rattle.records.specs.declared.Rule.{Rule}
 use Rattle.records.specs.declared.Cause.the-variants.{Short}
 use Rattle.records.specs.declared.Check.{Check}
 use Rattle.records.specs.declared.Check.the-variants.{Pass, Fail}
-use Rattle.records.specs.RulesLaws.{rule-sound, given-record}
-use Rattle.records.specs.WidthsLaws.{lent-words}
+use Rattle.records.specs.RulesLaws.{rule-action}
+use Rattle.records.specs.Editions.{Given, lentRule, ranked, rankedRecord, checkGiven}
+use Rattle.records.specs.EditionsLaws.{given-law, ranked-action, ranked-record}
 use Rattle.records.specs.EntriesLaws.{entries-length}
 use Rattle.records.specs.InsertsLaws.{newMisordered, misorderedNew, uncrossed-apart, insert-words, after-preceding-precedes, first-dependant-precedes}
 use Rattle.records.specs.InsertsLaws.{after-preceding-slots, first-dependant-slots}
@@ -33,7 +34,6 @@ use Rattle.planner.specs.Agree.{Agrees, Emits}
 use Rattle.planner.specs.ChoiceLaws.{choice-words-length}
 use Rattle.planner.specs.AgreeLaws.{plan-law, numbers-law}
 use Rattle.neighbours.specs.Neighbours.{afterA, slotB, newChecks, ruleWords, insertChecks}
-use Rattle.neighbours.specs.NeighboursLaws.{rule-accepted}
 use Rattle.windows.specs.Windows.{endAt}
 use Rattle.insert_plans.specs.Insertable.{Insertable}
 use Rattle.insert_plans.specs.Joined.{Costed}
@@ -146,60 +146,54 @@ buffer-same Pass x y buffer e =
     (ap (λ (l : List ℕ). bufferAnswer Pass (length l) (length buffer)) (e refl), ap (λ (l : List ℕ). bufferAfter Pass l buffer) (e refl))
 buffer-same (Fail cause spot) x y buffer e = (refl, refl)
 
--- a table that passes checks 1 to 4 and a sound rule: what is left of an insert's checks, its cost where they pass, and its answer and buffer
-module _ (w : ℕ) (t : List ℕ) (rule : Rule) (checks : tableChecks w t ≡ Pass) (sound : soundRule w rule ≡ true) where
-  left-checks : newChecks w t (ruleWords w rule) ≡ insertChecks w t rule
+-- a table that passes checks 1 to 4 and a rule that passes 5 and 18: what is left of an insert's checks, its cost where they pass, and its answer and buffer
+module _ (w : ℕ) (t : List ℕ) (given : Given) (checks : tableChecks w t ≡ Pass) (good : checkGiven w given ≡ Pass) where
+  left-checks : newChecks w t (ruleWords w (ranked w given)) ≡ insertChecks w t given
   unfolding insertChecks
-  left-checks = passed refl checks (rule-accepted w rule sound refl)
+  left-checks = passed refl checks (passed refl good refl)
 
-  insertable : newChecks w t (ruleWords w rule) ≡ Pass → Insertable w t rule
-  insertable e = insertable-law w t rule .0 (sym left-checks ∙ e)
+  insertable : newChecks w t (ruleWords w (ranked w given)) ≡ Pass → Insertable w t (ranked w given)
+  insertable e = insertable-law w t given .0 (sym left-checks ∙ e) .insertable
 
-  pub insert-finite : rule .action < 4294967296 → newChecks w t (ruleWords w rule) ≡ Pass → recordChoice w t (ruleWords w rule) .cost < slots w t
+  insert-finite : given .rule .action < 4294967296 → newChecks w t (ruleWords w (ranked w given)) ≡ Pass
+      → recordChoice w t (ruleWords w (ranked w given)) .cost < slots w t
   insert-finite small e =
-      let plan = insert-least w t rule (insertable e) small in
-      omega (arith, plan .short, plan .valid .count, entries-length w t, ap (λ (c : Choice). c .cost) (between-is w t rule (insertable e)))
+      let plan = insert-least w t (ranked w given) (insertable e) (omega (arith, small, ranked-action w given)) in
+      omega (arith, plan .short, plan .valid .count, entries-length w t, ap (λ (c : Choice). c .cost) (between-is w t (ranked w given) (insertable e)))
 
-  pub insert-answered : (plan : List ℕ)
-      → (bufferAnswer (newChecks w t (ruleWords w rule)) (length (planWords (recordChoice w t (ruleWords w rule)))) (length plan)
-      ≡ bufferAnswer (insertChecks w t rule) (length (insertWords w t rule)) (length plan))
-      × (bufferAfter (newChecks w t (ruleWords w rule)) (planWords (recordChoice w t (ruleWords w rule))) plan
-      ≡ bufferAfter (insertChecks w t rule) (insertWords w t rule) plan)
+  insert-answered : (plan : List ℕ)
+      → (bufferAnswer (newChecks w t (ruleWords w (ranked w given))) (length (planWords (recordChoice w t (ruleWords w (ranked w given))))) (length plan)
+      ≡ insertAnswer w t given (length plan))
+      × (bufferAfter (newChecks w t (ruleWords w (ranked w given))) (planWords (recordChoice w t (ruleWords w (ranked w given)))) plan
+      ≡ insertPlan w t given plan)
   insert-answered plan =
+      let rule = ranked w given in
       let same = buffer-same (newChecks w t (ruleWords w rule)) (planWords (recordChoice w t (ruleWords w rule))) (insertWords w t rule) plan
       (λ e. ap planWords (between-is w t rule (insertable e))) in (
         same .0 ∙ ap (λ (k : Check). bufferAnswer k (length (insertWords w t rule)) (length plan)) left-checks,
         same .1 ∙ ap (λ (k : Check). bufferAfter k (insertWords w t rule) plan) left-checks,
       )
 
--- a rule lent as a record: it is sound as the record is, and its action has 32 bits
-pub lent-sound : (w : ℕ) (lent : List ℕ) → soundRule w (ruleOf w (word lent)) ≡ sound w (slotWords w lent 0)
-lent-sound w lent = rule-sound w (word lent) ∙ ap (sound w) (sym (lent-words w lent))
+-- the same of a rule that is lent as a record, new being its record with its rank
+module _ (w e : ℕ) (t lent new : List ℕ) (checks : tableChecks w t ≡ Pass) (size : length lent ≡ recordWords w)
+    (good : checkGiven w (lentRule w e lent) ≡ Pass) (same : new ≡ rankedRecord w e lent) where
+  is-record : recordOf w (ranked w (lentRule w e lent)) ≡ new
+  is-record = sym (same ∙ ranked-record w e lent size (given-law w (lentRule w e lent) .0 good .0))
 
-pub lent-action : (w : ℕ) (x : Words) → ruleOf w x .action < 4294967296
-unfolding ruleOf
-lent-action w x = omega arith
-
--- where it is sound, the same of its record's words
-module _ (w : ℕ) (t lent : List ℕ) (checks : tableChecks w t ≡ Pass) (size : length lent ≡ recordWords w)
-    (sound : soundRule w (ruleOf w (word lent)) ≡ true) where
-  given : recordOf w (ruleOf w (word lent)) ≡ lent
-  given = given-record w lent size (sym (rule-sound w (word lent)) ∙ sound)
-
-  pub lent-finite : newChecks w t (slotWords w lent 0) ≡ Pass → recordChoice w t (slotWords w lent 0) .cost < slots w t
+  pub lent-finite : newChecks w t (slotWords w new 0) ≡ Pass → recordChoice w t (slotWords w new 0) .cost < slots w t
   lent-finite =
-      subst (λ (l : List ℕ). newChecks w t (slotWords w l 0) ≡ Pass → recordChoice w t (slotWords w l 0) .cost < slots w t) given
-      (insert-finite w t (ruleOf w (word lent)) checks sound (lent-action w (word lent)))
+      subst (λ (l : List ℕ). newChecks w t (slotWords w l 0) ≡ Pass → recordChoice w t (slotWords w l 0) .cost < slots w t) is-record
+      (insert-finite w t (lentRule w e lent) checks good (rule-action w (word lent)))
 
   pub lent-answered : (plan : List ℕ)
-      → (bufferAnswer (newChecks w t (slotWords w lent 0)) (length (planWords (recordChoice w t (slotWords w lent 0)))) (length plan)
-      ≡ insertAnswer w t (ruleOf w (word lent)) (length plan))
-      × (bufferAfter (newChecks w t (slotWords w lent 0)) (planWords (recordChoice w t (slotWords w lent 0))) plan
-      ≡ insertPlan w t (ruleOf w (word lent)) plan)
+      → (bufferAnswer (newChecks w t (slotWords w new 0)) (length (planWords (recordChoice w t (slotWords w new 0)))) (length plan)
+      ≡ insertAnswer w t (lentRule w e lent) (length plan))
+      × (bufferAfter (newChecks w t (slotWords w new 0)) (planWords (recordChoice w t (slotWords w new 0))) plan
+      ≡ insertPlan w t (lentRule w e lent) plan)
   lent-answered plan =
       subst (λ (l : List ℕ).
       (bufferAnswer (newChecks w t (slotWords w l 0)) (length (planWords (recordChoice w t (slotWords w l 0)))) (length plan)
-      ≡ insertAnswer w t (ruleOf w (word lent)) (length plan))
+      ≡ insertAnswer w t (lentRule w e lent) (length plan))
       × (bufferAfter (newChecks w t (slotWords w l 0)) (planWords (recordChoice w t (slotWords w l 0))) plan
-      ≡ insertPlan w t (ruleOf w (word lent)) plan)) given
-      (insert-answered w t (ruleOf w (word lent)) checks sound plan)
+      ≡ insertPlan w t (lentRule w e lent) plan)) is-record
+      (insert-answered w t (lentRule w e lent) checks good plan)

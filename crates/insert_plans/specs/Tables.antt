@@ -6,7 +6,7 @@ use lib.ListN.{length}
 use mathlib.Core.Bool.{Bool}
 use Rattle.search.specs.Search.{all, any, least, afterLast}
 use Rattle.ternary.specs.Word.{agree, inside, both}
-use Rattle.ternary.specs.Pattern.{overlaps, within}
+use Rattle.ternary.specs.Pattern.{overlaps, within, fullMask}
 use Rattle.layout.specs.Minimum.{minimum, lowestAt as lowestOf, highestAt as highestOf}
 use Rattle.layout.specs.Cost.{windowEnd, costs, nextSlot}
 use Rattle.layout.specs.Chain.{steps}
@@ -14,16 +14,17 @@ use Rattle.layout.specs.Write.{moves}
 use Rattle.layout.specs.Plan.{downCost, upCost, downChain, upChain, bestDown, bestUp, slotDown, slotUp, choose, afterPreceding, firstDependant}
 use Rattle.layout.specs.Plan.{insertChoice}
 use Rattle.plan_words.specs.PlanWords.{writeOf}
-use Rattle.records.specs.Record.{listed, empty, soundParts, recordOf, ruleOf, word, putSlot}
+use Rattle.records.specs.Record.{listed, empty, rankFits, soundParts, recordOf, ruleOf, word, putSlot}
 use Rattle.records.specs.Order.{distinct, precedes, tied, sameId, misordered}
 use Rattle.records.specs.Checks.{Told, lowest, shaped, checkShape, unsoundAt, checkRecords, twiceAt, checkTwice, disorderAt, checkOrder, slotChecks}
 use Rattle.records.specs.Checks.{tableChecks}
 use Rattle.records.specs.Widths.{known, checkWidth, checkWords, checkRule as checkLent}
 use Rattle.records.specs.Entries.{vacant, entries}
+use Rattle.records.specs.Editions.{Given, under13, rankOf, ranked, knownEdition, checkSound, checkEdition, checkGiven}
 use Rattle.records.specs.declared.Rule.{Rule}
 use Rattle.records.specs.Writes.{applyWords}
 use Rattle.buffers.specs.Buffers.{checkRoom, bufferAnswer, bufferAfter}
-use Rattle.neighbours.specs.Neighbours.{checkRule, checkKnown, checkTie, checkFull, afterA, slotB, checkCrossed, newChecks, insertChecks}
+use Rattle.neighbours.specs.Neighbours.{checkKnown, checkTie, checkFull, afterA, slotB, checkCrossed, newChecks, insertChecks}
 use Rattle.delete_plans.specs.Deletes.{hasId, slotOfId, checkId, checkUnknown, deleteChecks, deleteAnswer, deletePlan, deleteCall, deleteCallPlan}
 use Rattle.insert_plans.specs.Inserts.{insertAnswer, insertPlan, insertCall, insertCallPlan, insertWords}
 
@@ -55,7 +56,7 @@ new to = 65535 * 65536 + to
 
 -- what a call is asked
 pub data Asked : Type 0 where
-  inserting : Rule → Asked
+  inserting : Given → Asked
   deleting : ℕ → Asked
 
 -- what it gives: the answer, and the plan buffer afterwards
@@ -65,12 +66,15 @@ pub record Result : Type 0 where
 
 -- by the definitions, w being the number of words of a value
 abbrev pub result : ℕ → List ℕ → Asked → List ℕ → Result
-result w t (inserting rule) plan = record { answer = insertAnswer w t rule (length plan); buffer = insertPlan w t rule plan }
+result w t (inserting given) plan = record { answer = insertAnswer w t given (length plan); buffer = insertPlan w t given plan }
 result w t (deleting id) plan = record { answer = deleteAnswer w t id (length plan); buffer = deletePlan w t id plan }
 
 -- as the contracts of plan_insert and plan_delete have it: a rule is lent as its record, and a width that there is not is 1
 abbrev pub called : ℕ → List ℕ → Asked → List ℕ → Result
-called w t (inserting rule) plan = record { answer = insertCall w t (recordOf w rule) (length plan); buffer = insertCallPlan w t (recordOf w rule) plan }
+called w t (inserting given) plan = record {
+  answer = insertCall w (given .edition) t (recordOf w (given .rule)) (length plan);
+  buffer = insertCallPlan w (given .edition) t (recordOf w (given .rule)) plan;
+}
 called w t (deleting id) plan = record { answer = deleteCall w t id (length plan); buffer = deleteCallPlan w t id plan }
 
 -- as document 01 has it: so many words and the buffer, or a refusal's number and spot and the buffer
@@ -88,7 +92,7 @@ pub record Item : Type 0 where
   pub expected : Result
 
 unfoldable pub resultOf : ℕ → Item → Result
-unfolding all any least afterLast agree inside both overlaps within minimum lowestOf highestOf windowEnd costs nextSlot steps moves downCost upCost downChain upChain bestDown bestUp slotDown slotUp choose afterPreceding firstDependant insertChoice listed empty soundParts recordOf distinct precedes tied sameId misordered entries lowest shaped checkShape unsoundAt checkRecords twiceAt checkTwice disorderAt checkOrder slotChecks tableChecks checkRoom bufferAnswer bufferAfter checkRule checkKnown checkTie checkFull afterA slotB checkCrossed newChecks insertChecks hasId slotOfId checkId checkUnknown deleteChecks
+unfolding all any least afterLast agree inside both overlaps within minimum lowestOf highestOf windowEnd costs nextSlot steps moves downCost upCost downChain upChain bestDown bestUp slotDown slotUp choose afterPreceding firstDependant insertChoice listed empty fullMask rankFits soundParts rankOf ranked knownEdition checkSound checkEdition checkGiven recordOf distinct precedes tied sameId misordered entries lowest shaped checkShape unsoundAt checkRecords twiceAt checkTwice disorderAt checkOrder slotChecks tableChecks checkRoom bufferAnswer bufferAfter checkKnown checkTie checkFull afterA slotB checkCrossed newChecks insertChecks hasId slotOfId checkId checkUnknown deleteChecks
 resultOf w item = result w (item .table) (item .asked) (item .buffer)
 
 unfoldable pub calledOf : ℕ → Item → Result
@@ -168,38 +172,38 @@ module _ (w : ℕ) where
   unfoldable pub items : List Item
   items =
       -- one empty slot: one write, to 0
-      record { table = vacancy; asked = inserting rule1; buffer = 801 ∷ 802 ∷ []; expected = planned 1 (new 0 ∷ 802 ∷ []) }
+      record { table = vacancy; asked = inserting (under13 rule1); buffer = 801 ∷ 802 ∷ []; expected = planned 1 (new 0 ∷ 802 ∷ []) }
       -- one slot, occupied, a sound rule of new id that ties with nothing: 9
-      ∷ record { table = held rule1; asked = inserting rule3; buffer = 801 ∷ 802 ∷ []; expected = declined 9 0 (801 ∷ 802 ∷ []) }
+      ∷ record { table = held rule1; asked = inserting (under13 rule3); buffer = 801 ∷ 802 ∷ []; expected = declined 9 0 (801 ∷ 802 ∷ []) }
       -- the third insert of the script
-      ∷ record { table = before-third; asked = inserting rule3; buffer = 801 ∷ 802 ∷ 803 ∷ []; expected = planned 2 (moved 1 2 ∷ new 1 ∷ 803 ∷ []) }
+      ∷ record { table = before-third; asked = inserting (under13 rule3); buffer = 801 ∷ 802 ∷ 803 ∷ []; expected = planned 2 (moved 1 2 ∷ new 1 ∷ 803 ∷ []) }
       -- its tie
-      ∷ record { table = after-third; asked = inserting rule4; buffer = 801 ∷ 802 ∷ []; expected = declined 8 1 (801 ∷ 802 ∷ []) }
+      ∷ record { table = after-third; asked = inserting (under13 rule4); buffer = 801 ∷ 802 ∷ []; expected = declined 8 1 (801 ∷ 802 ∷ []) }
       -- its crossing
-      ∷ record { table = before-crossing; asked = inserting rule7; buffer = 801 ∷ 802 ∷ []; expected = declined 10 4 (801 ∷ 802 ∷ []) }
+      ∷ record { table = before-crossing; asked = inserting (under13 rule7); buffer = 801 ∷ 802 ∷ []; expected = declined 10 4 (801 ∷ 802 ∷ []) }
       -- slots 0 a, 1 other, 2 c, 3 d, 4 empty; the new rule before a: 1→4, 0→1, new→0
       ∷ record {
         table = held rule-a ++ held rule-other ++ held rule-c ++ held rule-d ++ vacancy;
-        asked = inserting rule-new;
+        asked = inserting (under13 rule-new);
         buffer = 801 ∷ 802 ∷ 803 ∷ 804 ∷ 805 ∷ [];
         expected = planned 3 (moved 1 4 ∷ moved 0 1 ∷ new 0 ∷ 804 ∷ 805 ∷ []);
       }
       -- 0 empty, 1 a, 2 b, b depends on a; new between: 1→0, new→1; a, b and new are the rules 1, 2 and 3 of the script
       ∷ record {
         table = vacancy ++ held rule1 ++ held rule2;
-        asked = inserting rule3;
+        asked = inserting (under13 rule3);
         buffer = 801 ∷ 802 ∷ 803 ∷ [];
         expected = planned 2 (moved 1 0 ∷ new 1 ∷ 803 ∷ []);
       }
       -- with slot 3 empty too: 2→3, new→2
       ∷ record {
         table = vacancy ++ held rule1 ++ held rule2 ++ vacancy;
-        asked = inserting rule3;
+        asked = inserting (under13 rule3);
         buffer = 801 ∷ 802 ∷ 803 ∷ [];
         expected = planned 2 (moved 2 3 ∷ new 2 ∷ 803 ∷ []);
       }
       -- a plan of two in a one-word buffer: 11, spot 2
-      ∷ record { table = before-third; asked = inserting rule3; buffer = 801 ∷ []; expected = declined 11 2 (801 ∷ []) }
+      ∷ record { table = before-third; asked = inserting (under13 rule3); buffer = 801 ∷ []; expected = declined 11 2 (801 ∷ []) }
       -- delete of an absent id: 7
       ∷ record { table = before-third; asked = deleting 3; buffer = 801 ∷ 802 ∷ []; expected = declined 7 0 (801 ∷ 802 ∷ []) }
       ∷ []

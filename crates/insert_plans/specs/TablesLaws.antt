@@ -27,6 +27,8 @@ use Rattle.records.specs.WidthsLaws.{width-law, rule-law}
 use Rattle.records.specs.Rules.{Fields}
 use Rattle.records.specs.Entries.{vacant, entryAt, entries, entryOccupied, entryMisordered}
 use Rattle.records.specs.Inserts.{planWords}
+use Rattle.records.specs.Editions.{Given, ranked, Edition, checkGiven}
+use Rattle.records.specs.EditionsLaws.{given-law, rank-sound, ranked-action}
 use Rattle.records.specs.declared.Rule.{Rule}
 use Rattle.records.specs.declared.Cause.the-variants.{Known, Tie, Full, Short, Unknown}
 use Rattle.records.specs.declared.Check.{Check}
@@ -37,7 +39,7 @@ use Rattle.records.specs.EntriesLaws.{entry-laws, refuted, occupied-cong, misor
 use Rattle.records.specs.InsertsLaws.{overlapping-turned, rule-same, rule-tied}
 use Rattle.buffers.specs.BuffersLaws.{buffer-refused, buffer-short, buffer-written}
 use Rattle.neighbours.specs.Neighbours.{checkKnown, checkTie, checkCrossed, afterA, slotB, newChecks, ruleWords, insertChecks}
-use Rattle.neighbours.specs.NeighboursLaws.{after-a-high, crossed-no, rule-accepted, room-at, room-none}
+use Rattle.neighbours.specs.NeighboursLaws.{after-a-high, crossed-no, room-at, room-none}
 use Rattle.delete_plans.specs.Deletes.{hasId, slotOfId, deleteChecks, deleteWords}
 use Rattle.delete_plans.specs.DeletesLaws.{id-accepted, id-absent}
 use Rattle.insert_plans.specs.Inserts.{insertAnswer, insertPlan, insertWords}
@@ -91,22 +93,28 @@ unfolding calledOf expected items before-third after-third before-crossing rule1
 calls-at-the-edge = by-widths _ refl refl
 
 -- at a width that there is, what a call gives is what the definitions give
-pub called-insert : (w : ℕ) → Width w → (t : List ℕ) (rule : Rule) → Fields w rule → (plan : List ℕ)
-    → called w t (inserting rule) plan ≡ result w t (inserting rule) plan
-called-insert w width t rule fields plan =
-    ap₂ lent (rule-law w (length (recordOf w rule)) .1 (width, record-length w rule)) (rule-of-record w rule fields)
+pub called-insert : (w : ℕ) → Width w → (t : List ℕ) (given : Given) → Fields w (given .rule) → (plan : List ℕ)
+    → called w t (inserting given) plan ≡ result w t (inserting given) plan
+called-insert w width t given fields plan =
+    ap₂ lent (rule-law w (length (recordOf w (given .rule))) .1 (width, record-length w (given .rule))) (rule-of-record w (given .rule) fields)
   where
+    with-edition : Rule → Given
+    with-edition r = record { rule = r; edition = given .edition }
+
     lent : Check → Rule → Result
-    lent check r = record { answer = unless check (insertAnswer w t r (length plan)); buffer = leaves check (insertPlan w t r plan) plan }
+    lent check r = record {
+      answer = unless check (insertAnswer w t (with-edition r) (length plan));
+      buffer = leaves check (insertPlan w t (with-edition r) plan) plan;
+    }
 
 pub called-delete : (w : ℕ) → Width w → (t : List ℕ) (id : ℕ) (plan : List ℕ) → called w t (deleting id) plan ≡ result w t (deleting id) plan
 called-delete w width t id plan = rw (width-law w .1 width)
 
 -- a plan whose words are known, in a buffer that holds them
-words-outcome : (w : ℕ) (t : List ℕ) (rule : Rule) {words : List ℕ} → Pass ≡ insertChecks w t rule → insertWords w t rule ≡ words → (plan : List ℕ)
-    → length words ≤ length plan → result w t (inserting rule) plan ≡ planned (length words) (words ++ drop (length words) plan)
-words-outcome w t rule checks e plan room =
-    let r = buffer-written (insertWords w t rule) plan checks refl (subst (λ (l : List ℕ). length l ≤ length plan) (sym e) room) in
+words-outcome : (w : ℕ) (t : List ℕ) (given : Given) {words : List ℕ} → Pass ≡ insertChecks w t given → insertWords w t (ranked w given) ≡ words
+    → (plan : List ℕ) → length words ≤ length plan → result w t (inserting given) plan ≡ planned (length words) (words ++ drop (length words) plan)
+words-outcome w t given checks e plan room =
+    let r = buffer-written (insertWords w t (ranked w given)) plan checks refl (subst (λ (l : List ℕ). length l ≤ length plan) (sym e) room) in
     let answer = sym (r .0) ∙ ap (λ (l : List ℕ). success (length l ∷ [])) e in
     let after = sym (r .1) ∙ ap (λ (l : List ℕ). l ++ drop (length l) plan) e in
     λ k. record { answer = answer k; buffer = after k }
@@ -132,7 +140,7 @@ alone-choice : {S : Type 0} (none : S) (full : S → Bool) (wrong : S → S → 
 unfolding resultOf
 alone-choice none full wrong e fresh vacant-e before-fresh after-fresh = simp (vacant-e, before-fresh, after-fresh)
 
--- One empty slot, any sound rule: one write, to 0.
+-- One empty slot, any sound rule, given with either edition: one write, to 0.
 module _ (w : ℕ) where
   one-vacant : slots w (vacancy w) ≡ 1
   one-vacant = ap (λ (n : ℕ). n / recordWords w) (length-replicate (recordWords w) 0) ∙ div-self (omega arith)
@@ -163,12 +171,12 @@ module _ (w : ℕ) where
   vacant-tie x =
       sym (lowest-none Tie _ (slots w (vacancy w)) (λ i h. refuted (λ e. true≢false (sym (tied-law w _ x .0 e .0 .0) ∙ ap not (vacant-slot i)))))
 
-  vacant-checks : (rule : Rule) → soundRule w rule ≡ true → Pass ≡ insertChecks w (vacancy w) rule
+  vacant-checks : (given : Given) → checkGiven w given ≡ Pass → Pass ≡ insertChecks w (vacancy w) given
   unfolding insertChecks newChecks checkCrossed
-  vacant-checks rule sound =
+  vacant-checks given good =
       let one = one-vacant in
-      let x = ruleWords w rule in
-      passed refl vacant-table (rule-accepted w rule sound (passed refl (vacant-known x) (passed refl (vacant-tie x)
+      let x = ruleWords w (ranked w given) in
+      passed refl vacant-table (passed refl good (passed refl (vacant-known x) (passed refl (vacant-tie x)
       (passed refl (sym (room-at w (vacancy w) 0 (omega arith) (vacant-slot 0)))
       (crossed-no (afterA w (vacancy w) x) (slotB w (vacancy w) x) (omega (arith, after-a-high w (vacancy w) x)))))))
 
@@ -183,9 +191,10 @@ module _ (w : ℕ) where
       chosen w (vacancy w) rule layout (alone-choice (vacant w) (entryOccupied w) (entryMisordered w) (vacancy w) (recordOf w rule) (laws .vacant)
       (laws .misordered-left (vacancy w) (recordOf w rule) (laws .vacant)) (laws .misordered-right (recordOf w rule) (vacancy w) (laws .vacant)))
 
-  pub one-empty-slot : (rule : Rule) → soundRule w rule ≡ true → (plan : List ℕ) → 1 ≤ length plan
-      → result w (vacancy w) (inserting rule) plan ≡ planned 1 (new 0 ∷ drop 1 plan)
-  one-empty-slot rule sound plan room = words-outcome w (vacancy w) rule (vacant-checks rule sound) (vacant-words rule) plan room
+  pub one-empty-slot : (given : Given) → soundRule w (given .rule) ≡ true → Edition (given .edition) → (plan : List ℕ) → 1 ≤ length plan
+      → result w (vacancy w) (inserting given) plan ≡ planned 1 (new 0 ∷ drop 1 plan)
+  one-empty-slot given sound edition plan room =
+      words-outcome w (vacancy w) given (vacant-checks given (given-law w given .1 (sound, edition))) (vacant-words (ranked w given)) plan room
 
 -- One slot, occupied, any sound rule of new id that ties with nothing: 9.
 module _ (w : ℕ) (t : List ℕ) (one-slot : slots w t ≡ 1) where
@@ -194,16 +203,23 @@ module _ (w : ℕ) (t : List ℕ) (one-slot : slots w t ≡ 1) where
   only-slot P p (suc i) h = absurd (omega arith)
 
   pub one-slot-full : tableChecks w t ≡ Pass → occupied w (slotWords w t 0) ≡ true
-      → (rule : Rule) → soundRule w rule ≡ true → rule .action < 4294967296
-      → ident w (slotWords w t 0) ≢ rule .id
-      → (Overlap w (value (slotWords w t 0)) (mask w (slotWords w t 0)) (word (rule .value)) (word (rule .mask)) → rank w (slotWords w t 0) ≢ rule .priority)
-      → (plan : List ℕ) → result w t (inserting rule) plan ≡ declined 9 0 plan
+      → (given : Given) → soundRule w (given .rule) ≡ true → Edition (given .edition) → given .rule .action < 4294967296
+      → ident w (slotWords w t 0) ≢ ranked w given .id
+      → (Overlap w (value (slotWords w t 0)) (mask w (slotWords w t 0)) (word (ranked w given .value)) (word (ranked w given .mask))
+      → rank w (slotWords w t 0) ≢ ranked w given .priority)
+      → (plan : List ℕ) → result w t (inserting given) plan ≡ declined 9 0 plan
   unfolding insertChecks newChecks checkKnown checkTie
-  one-slot-full table filled rule sound small id-new untied plan =
+  one-slot-full table filled given sound edition action32 id-new untied plan =
       let r = buffer-refused (insertWords w t rule) plan checks refl in λ k. record { answer = sym (r .0) k; buffer = sym (r .1) k }
     where
+      rule : Rule
+      rule = ranked w given
+
+      small : rule .action < 4294967296
+      small = omega (arith, action32, ranked-action w given)
+
       named : rule .id ≢ 0
-      named = sound-law w _ _ _ _ .0 sound .0
+      named = sound-law w _ _ _ _ .0 (rank-sound w given sound) .0
 
       here : Words
       here = slotWords w t 0
@@ -225,8 +241,8 @@ module _ (w : ℕ) (t : List ℕ) (one-slot : slots w t ≡ 1) where
           (passed refl (sym (lowest-none Tie _ (slots w t) (only-slot _ ties)))
           (failed _ refl (sym (room-none w t (only-slot _ (not-true (empty w here) filled))))))
 
-      checks : Fail Full 0 ≡ insertChecks w t rule
-      checks = passed refl table (rule-accepted w rule sound (new-checks ∙ ap (newChecks w t) (sym (rule-words w rule))))
+      checks : Fail Full 0 ≡ insertChecks w t given
+      checks = passed refl table (passed refl (given-law w given .1 (sound, edition)) (new-checks ∙ ap (newChecks w t) (sym (rule-words w rule))))
 
 -- The new rule between a in slot 1 and b in slot 2, slot 0 empty: what the tests of entries say, e being the empty entry, ..
 record Between {S : Type 0} (full : S → Bool) (wrong : S → S → Bool) (e a b fresh : S) : Type 0 where
@@ -252,14 +268,15 @@ module _ {S : Type 0} (none : S) (full : S → Bool) (wrong : S → S → Bool) 
   down-choice = simp (p .empty-e, p .full-a, p .full-b, p .before-e, p .after-e, p .b-a, p .fresh-a, p .a-fresh, p .b-fresh, p .fresh-b)
 
 -- .. and any table, any rule that passes the checks: 1→0, new→1; with slot 3 empty too: 2→3, new→2.
-module _ (w : ℕ) (t : List ℕ) (rule : Rule) (checks : insertChecks w t rule ≡ Pass) (vacant-0 : empty w (slotWords w t 0) ≡ true)
-    (a-b : precedes w (slotWords w t 1) (slotWords w t 2) ≡ true) (a-rule : precedes w (slotWords w t 1) (word (recordOf w rule)) ≡ true)
-    (rule-b : precedes w (word (recordOf w rule)) (slotWords w t 2) ≡ true) where
-  between : Between (entryOccupied w) (entryMisordered w) (vacancy w) (entryAt w t 1) (entryAt w t 2) (recordOf w rule)
+module _ (w : ℕ) (t : List ℕ) (given : Given) (checks : insertChecks w t given ≡ Pass) (vacant-0 : empty w (slotWords w t 0) ≡ true)
+    (a-b : precedes w (slotWords w t 1) (slotWords w t 2) ≡ true)
+    (a-rule : precedes w (slotWords w t 1) (word (recordOf w (ranked w given))) ≡ true)
+    (rule-b : precedes w (word (recordOf w (ranked w given))) (slotWords w t 2) ≡ true) where
+  between : Between (entryOccupied w) (entryMisordered w) (vacancy w) (entryAt w t 1) (entryAt w t 2) (recordOf w (ranked w given))
   between =
       let a = slotWords w t 1 in
       let b = slotWords w t 2 in
-      let fresh = word (recordOf w rule) in
+      let fresh = word (recordOf w (ranked w given)) in
       let same = listed-same w in
       let pair = precedes-law w a b .0 a-b .0 in
       record {
@@ -275,21 +292,21 @@ module _ (w : ℕ) (t : List ℕ) (rule : Rule) (checks : insertChecks w t rule 
         fresh-b = misordered-cong w (λ j l. refl) (same b) ∙ precedes-misordered w fresh b rule-b .1;
       }
 
-  pub between-up : slots w t ≡ 3 → (plan : List ℕ) → 2 ≤ length plan → result w t (inserting rule) plan ≡ planned 2 (moved 1 0 ∷ new 1 ∷ drop 2 plan)
+  pub between-up : slots w t ≡ 3 → (plan : List ℕ) → 2 ≤ length plan → result w t (inserting given) plan ≡ planned 2 (moved 1 0 ∷ new 1 ∷ drop 2 plan)
   unfolding entries listed moves
   between-up three plan room =
       let layout : entries w t ≡ vacancy w ∷ entryAt w t 1 ∷ entryAt w t 2 ∷ [] =
       ap (λ (n : ℕ). map (entryAt w t) (listed n (λ i. i))) three ∙ ap (λ (l : List ℕ). l ∷ entryAt w t 1 ∷ entryAt w t 2 ∷ []) (vacant-entry w t 0 vacant-0) in
-      words-outcome w t rule (sym checks) (chosen w t rule layout (up-choice (vacant w) _ _ _ _ _ _ between)) plan room
+      words-outcome w t given (sym checks) (chosen w t (ranked w given) layout (up-choice (vacant w) _ _ _ _ _ _ between)) plan room
 
   pub between-down : slots w t ≡ 4 → empty w (slotWords w t 3) ≡ true → (plan : List ℕ) → 2 ≤ length plan
-      → result w t (inserting rule) plan ≡ planned 2 (moved 2 3 ∷ new 2 ∷ drop 2 plan)
+      → result w t (inserting given) plan ≡ planned 2 (moved 2 3 ∷ new 2 ∷ drop 2 plan)
   unfolding entries listed moves
   between-down four vacant-3 plan room =
       let layout : entries w t ≡ vacancy w ∷ entryAt w t 1 ∷ entryAt w t 2 ∷ vacancy w ∷ [] =
       ap (λ (n : ℕ). map (entryAt w t) (listed n (λ i. i))) four
       ∙ ap₂ (λ (l m : List ℕ). l ∷ entryAt w t 1 ∷ entryAt w t 2 ∷ m ∷ []) (vacant-entry w t 0 vacant-0) (vacant-entry w t 3 vacant-3) in
-      words-outcome w t rule (sym checks) (chosen w t rule layout (down-choice (vacant w) _ _ _ _ _ _ between)) plan room
+      words-outcome w t given (sym checks) (chosen w t (ranked w given) layout (down-choice (vacant w) _ _ _ _ _ _ between)) plan room
 
 -- The five-slot table: what the tests of entries say of a, the other, c, d, the empty entry e and the new rule, ..
 record FiveSlots {S : Type 0} (full : S → Bool) (wrong : S → S → Bool) (a other c d e fresh : S) : Type 0 where
@@ -346,18 +363,21 @@ unfolding misordered
 apart w x y o = (rw o, rw (overlapping-turned w y x ∙ o))
 
 -- .. and any such table, any rule that passes the checks: 1→4, 0→1, new→0.
-pub five-slots : (w : ℕ) (t : List ℕ) (rule : Rule) → insertChecks w t rule ≡ Pass → slots w t ≡ 5
+pub five-slots : (w : ℕ) (t : List ℕ) (given : Given) → insertChecks w t given ≡ Pass → slots w t ≡ 5
     → occupied w (slotWords w t 1) ≡ true → empty w (slotWords w t 4) ≡ true
     → precedes w (slotWords w t 0) (slotWords w t 2) ≡ true → precedes w (slotWords w t 2) (slotWords w t 3) ≡ true
     → overlapping w (slotWords w t 0) (slotWords w t 1) ≡ false → overlapping w (slotWords w t 0) (slotWords w t 3) ≡ false
     → overlapping w (slotWords w t 1) (slotWords w t 2) ≡ false → overlapping w (slotWords w t 1) (slotWords w t 3) ≡ false
-    → precedes w (word (recordOf w rule)) (slotWords w t 0) ≡ true
-    → ((i : ℕ) → 1 ≤ i → i < 4 → overlapping w (slotWords w t i) (word (recordOf w rule)) ≡ false)
-    → (plan : List ℕ) → 3 ≤ length plan → result w t (inserting rule) plan ≡ planned 3 (moved 1 4 ∷ moved 0 1 ∷ new 0 ∷ drop 3 plan)
+    → precedes w (word (recordOf w (ranked w given))) (slotWords w t 0) ≡ true
+    → ((i : ℕ) → 1 ≤ i → i < 4 → overlapping w (slotWords w t i) (word (recordOf w (ranked w given))) ≡ false)
+    → (plan : List ℕ) → 3 ≤ length plan → result w t (inserting given) plan ≡ planned 3 (moved 1 4 ∷ moved 0 1 ∷ new 0 ∷ drop 3 plan)
 unfolding entries listed moves
-five-slots w t rule checks five filled vacant-4 a-c c-d a-other a-d other-c other-d rule-a clear plan room =
-    words-outcome w t rule (sym checks) (chosen w t rule layout (five-choice (vacant w) _ _ _ _ _ _ _ _ facts)) plan room
+five-slots w t given checks five filled vacant-4 a-c c-d a-other a-d other-c other-d rule-a clear plan room =
+    words-outcome w t given (sym checks) (chosen w t rule layout (five-choice (vacant w) _ _ _ _ _ _ _ _ facts)) plan room
   where
+    rule : Rule
+    rule = ranked w given
+
     layout : entries w t ≡ entryAt w t 0 ∷ entryAt w t 1 ∷ entryAt w t 2 ∷ entryAt w t 3 ∷ vacancy w ∷ []
     layout =
         ap (λ (n : ℕ). map (entryAt w t) (listed n (λ i. i))) five
@@ -408,10 +428,10 @@ five-slots w t rule checks five filled vacant-4 a-c c-d a-other a-d other-c othe
     }
 
 -- Any plan of two in a one-word buffer: 11, spot 2.
-pub one-word-short : (w : ℕ) (t : List ℕ) (rule : Rule) → insertChecks w t rule ≡ Pass → length (insertWords w t rule) ≡ 2
-    → (filler : ℕ) → result w t (inserting rule) (filler ∷ []) ≡ declined 11 2 (filler ∷ [])
-one-word-short w t rule checks two filler =
-    let r = buffer-short (insertWords w t rule) (filler ∷ []) refl checks (omega arith) in
+pub one-word-short : (w : ℕ) (t : List ℕ) (given : Given) → insertChecks w t given ≡ Pass → length (insertWords w t (ranked w given)) ≡ 2
+    → (filler : ℕ) → result w t (inserting given) (filler ∷ []) ≡ declined 11 2 (filler ∷ [])
+one-word-short w t given checks two filler =
+    let r = buffer-short (insertWords w t (ranked w given)) (filler ∷ []) refl checks (omega arith) in
     λ k. record { answer = (sym (r .0) ∙ ap (refusal Short) two) k; buffer = sym (r .1) k }
 
 -- Delete of an absent id, any table that passes checks 1 to 4 and any id but 0: 7. An empty slot's id word is 0.

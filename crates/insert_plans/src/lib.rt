@@ -13,24 +13,29 @@ use planner::choose;
 use planner::write_plan;
 use records::Cause;
 use records::Check;
+use records::EDITION_13;
 use records::LIST_NUMBERS;
 use records::MOST_SLOTS;
 use records::Mode;
 use records::NARROW;
 use records::Rule;
+use records::WIDE_RECORD;
 use records::check_rule;
+use records::record_words;
+use slots::given::check_given;
+use slots::given::rank_record;
 use slots::rules::record_of;
 use slots::slot_count;
-use slots::slot_sound;
 use table_checks::check_listed;
 use windows::fill_ends;
 ghost use mathlib.Core.Path.{_≡_};
 ghost use mathlib.Core.Bool.{cond};
 ghost use Prim.Native.Nat.{_+_, _-_, _*_, _≤_, _<_};
 ghost use lib.ListN.{length};
-ghost use Rattle.records.specs.Record.{mostSlots, word, recordWords, slotWords, ruleOf};
+ghost use Rattle.records.specs.Record.{mostSlots, recordWords, slotWords};
 ghost use Rattle.records.specs.Order.{slots as slotsOf};
 ghost use Rattle.records.specs.Widths.{Width};
+ghost use Rattle.records.specs.Editions.{lentRule, under13, ranked, checkGiven};
 ghost use Rattle.records.specs.Checks.{tableChecks};
 ghost use Rattle.records.specs.Inserts.{planWords};
 ghost use Rattle.records.specs.declared.Check.the-variants.{Pass};
@@ -41,7 +46,7 @@ ghost use Rattle.planner.specs.Emit.{Stays};
 ghost use Rattle.planner.specs.Choice.{choiceOf, choiceWords};
 ghost use Rattle.neighbours.specs.Neighbours.{newChecks};
 ghost use Rattle.insert_plans.specs.Joined.{Costed};
-ghost use Rattle.insert_plans.specs.Insertable.{Insertable, InsertableCall};
+ghost use Rattle.insert_plans.specs.Insertable.{InsertableGiven, InsertableCall};
 ghost use Rattle.insert_plans.specs.Demand3.{Demand3};
 ghost use Rattle.insert_plans.specs.Inserts.{choiceBetween, recordChoice, insertAnswer, insertPlan, insertCall, insertCallPlan};
 
@@ -201,60 +206,88 @@ fn plan_record(table: &[u64], near: &[u16], new: &[u64], plan: &mut [u32], mode:
     plan_between(table, near, after, dependant, plan, mode)
 }
 
+// The plan of a rule that passes checks 5 and 18: of its record with the rank that its edition gives it.
+fn plan_given(
+    table: &[u64],
+    near: &[u16],
+    rule: &[u64],
+    edition: u32,
+    plan: &mut [u32],
+    mode: Mode,
+) -> PlanAnswer
+    requires { ⌜ (Width (mode .width)) × (tableChecks (mode .width) (now table) ≡ Pass) × (2 * mostSlots ≤ length (now near)) × Listed (mode .width) (now table) (now near) ⌝ }
+    requires { ⌜ (length (now rule) ≡ recordWords (mode .width)) × (checkGiven (mode .width) (lentRule (mode .width) edition (now rule)) ≡ Pass) ⌝ }
+    ensures { λ r. ⌜ planTold r ≡ insertAnswer (mode .width) (now (table .entry)) (lentRule (mode .width) edition (now (rule .entry))) (length (now (plan .entry))) ⌝ }
+    ensures { λ _. ⌜ now (plan .exit) ≡ insertPlan (mode .width) (now (table .entry)) (lentRule (mode .width) edition (now (rule .entry))) (now (plan .entry)) ⌝ }
+{
+    let mut ranked = [0u64; WIDE_RECORD];
+    let words = record_words(mode.width);
+    rank_record(rule, edition, &mut ranked[0..words], mode.width);
+    plan_record(table, near, &ranked[0..words], plan, mode)
+}
+
 // The plan of an insert into a table that passes checks 1 to 4, by its neighbour list.
 fn plan_listed(
     table: &[u64],
     near: &[u16],
     rule: &[u64],
+    edition: u32,
     plan: &mut [u32],
     mode: Mode,
 ) -> PlanAnswer
     requires { ⌜ (Width (mode .width)) × (tableChecks (mode .width) (now table) ≡ Pass) × (2 * mostSlots ≤ length (now near)) × Listed (mode .width) (now table) (now near) ⌝ }
     requires { ⌜ length (now rule) ≡ recordWords (mode .width) ⌝ }
-    ensures { λ r. ⌜ planTold r ≡ insertAnswer (mode .width) (now (table .entry)) (ruleOf (mode .width) (word (now (rule .entry)))) (length (now (plan .entry))) ⌝ }
-    ensures { λ _. ⌜ now (plan .exit) ≡ insertPlan (mode .width) (now (table .entry)) (ruleOf (mode .width) (word (now (rule .entry)))) (now (plan .entry)) ⌝ }
+    ensures { λ r. ⌜ planTold r ≡ insertAnswer (mode .width) (now (table .entry)) (lentRule (mode .width) edition (now (rule .entry))) (length (now (plan .entry))) ⌝ }
+    ensures { λ _. ⌜ now (plan .exit) ≡ insertPlan (mode .width) (now (table .entry)) (lentRule (mode .width) edition (now (rule .entry))) (now (plan .entry)) ⌝ }
 {
-    if !slot_sound(rule, 0, mode.width) {
-        return PlanAnswer::Refused(Cause::Rule, 0);
+    let given = check_given(rule, edition, mode.width);
+    if let Check::Fail(cause, spot) = given {
+        return PlanAnswer::Refused(cause, spot);
     }
-    plan_record(table, near, rule, plan, mode)
+    plan_given(table, near, rule, edition, plan, mode)
 }
 
 // The plan of an insert at a width that there is, its rule lent as a record.
-fn insert_at(table: &[u64], rule: &[u64], plan: &mut [u32], mode: Mode) -> PlanAnswer
+fn insert_at(table: &[u64], rule: &[u64], edition: u32, plan: &mut [u32], mode: Mode) -> PlanAnswer
     requires { ⌜ (Width (mode .width)) × (length (now rule) ≡ recordWords (mode .width)) ⌝ }
-    ensures { λ r. ⌜ planTold r ≡ insertAnswer (mode .width) (now (table .entry)) (ruleOf (mode .width) (word (now (rule .entry)))) (length (now (plan .entry))) ⌝ }
-    ensures { λ _. ⌜ now (plan .exit) ≡ insertPlan (mode .width) (now (table .entry)) (ruleOf (mode .width) (word (now (rule .entry)))) (now (plan .entry)) ⌝ }
+    ensures { λ r. ⌜ planTold r ≡ insertAnswer (mode .width) (now (table .entry)) (lentRule (mode .width) edition (now (rule .entry))) (length (now (plan .entry))) ⌝ }
+    ensures { λ _. ⌜ now (plan .exit) ≡ insertPlan (mode .width) (now (table .entry)) (lentRule (mode .width) edition (now (rule .entry))) (now (plan .entry)) ⌝ }
 {
     let mut near = [0u16; LIST_NUMBERS];
     let check = check_listed(table, &mut near, mode);
     if let Check::Fail(cause, spot) = check {
         return PlanAnswer::Refused(cause, spot);
     }
-    plan_listed(table, &near, rule, plan, mode)
+    plan_listed(table, &near, rule, edition, plan, mode)
 }
 
 // The shortest plan of an insert, or a refusal that leaves the buffer as it was.
-pub fn plan_insert(table: &[u64], rule: &[u64], plan: &mut [u32], mode: Mode) -> PlanAnswer
-    ensures { λ r. ⌜ planTold r ≡ insertCall (mode .width) (now (table .entry)) (now (rule .entry)) (length (now (plan .entry))) ⌝ }
-    ensures { λ _. ⌜ now (plan .exit) ≡ insertCallPlan (mode .width) (now (table .entry)) (now (rule .entry)) (now (plan .entry)) ⌝ }
-    ensures shortest { λ r. ⌜ (InsertableCall (mode .width) (now (table .entry)) (now (rule .entry))
-        → Demand3 (mode .width) (now (table .entry)) (ruleOf (mode .width) (word (now (rule .entry)))) (planTold r) (now (plan .entry)) (now (plan .exit))) ⌝ }
+pub fn plan_insert(
+    table: &[u64],
+    rule: &[u64],
+    edition: u32,
+    plan: &mut [u32],
+    mode: Mode,
+) -> PlanAnswer
+    ensures { λ r. ⌜ planTold r ≡ insertCall (mode .width) edition (now (table .entry)) (now (rule .entry)) (length (now (plan .entry))) ⌝ }
+    ensures { λ _. ⌜ now (plan .exit) ≡ insertCallPlan (mode .width) edition (now (table .entry)) (now (rule .entry)) (now (plan .entry)) ⌝ }
+    ensures shortest { λ r. ⌜ (InsertableCall (mode .width) edition (now (table .entry)) (now (rule .entry))
+        → Demand3 (mode .width) (now (table .entry)) (ranked (mode .width) (lentRule (mode .width) edition (now (rule .entry)))) (planTold r) (now (plan .entry)) (now (plan .exit))) ⌝ }
 {
     let lent = check_rule(mode.width, rule.len());
     if let Check::Fail(cause, spot) = lent {
         return PlanAnswer::Refused(cause, spot);
     }
-    insert_at(table, rule, plan, mode)
+    insert_at(table, rule, edition, plan, mode)
 }
 
-// The same of document 01's rule struct, at two words.
+// The same of document 01's rule struct, at two words, under 1.3.
 pub fn plan_rule(table: &[u64], rule: Rule, plan: &mut [u32]) -> PlanAnswer
-    ensures { λ r. ⌜ planTold r ≡ insertAnswer 2 (now (table .entry)) rule (length (now (plan .entry))) ⌝ }
-    ensures { λ _. ⌜ now (plan .exit) ≡ insertPlan 2 (now (table .entry)) rule (now (plan .entry)) ⌝ }
-    ensures shortest { λ r. ⌜ (Insertable 2 (now (table .entry)) rule
+    ensures { λ r. ⌜ planTold r ≡ insertAnswer 2 (now (table .entry)) (under13 rule) (length (now (plan .entry))) ⌝ }
+    ensures { λ _. ⌜ now (plan .exit) ≡ insertPlan 2 (now (table .entry)) (under13 rule) (now (plan .entry)) ⌝ }
+    ensures shortest { λ r. ⌜ (InsertableGiven 2 (now (table .entry)) (under13 rule)
         → Demand3 2 (now (table .entry)) rule (planTold r) (now (plan .entry)) (now (plan .exit))) ⌝ }
 {
     let words = record_of(rule);
-    insert_at(table, &words, plan, Mode { width: NARROW })
+    insert_at(table, &words, EDITION_13, plan, Mode { width: NARROW })
 }

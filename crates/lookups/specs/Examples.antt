@@ -8,7 +8,7 @@ use lib.ListN.{replicate}
 use Rattle.search.specs.Search.{all, least}
 use Rattle.ternary.specs.Word.{agree, inside}
 use Rattle.ternary.specs.Pattern.{Words, matches, within}
-use Rattle.records.specs.Record.{slotWords, word, empty, soundParts, patternMatches, slotMatches}
+use Rattle.records.specs.Record.{slotWords, word, empty, rankFits, soundParts, patternMatches, slotMatches}
 use Rattle.records.specs.Checks.{success, lowest, shaped, checkShape, unsoundAt, checkRecords, slotChecks, firstMatch}
 use Rattle.records.specs.Entries.{vacant}
 use Rattle.lookups.specs.Lookup.{lookupAnswer, matchTold, hitAt}
@@ -33,5 +33,5 @@ abbrev PastEmpty : ℕ → Type 0
 PastEmpty w = lookupAnswer w (table w) (key w) ≡ success (1 ∷ 1 ∷ 7 ∷ [])
 
 past-empty : PastEmpty 2 × PastEmpty 5
-unfolding lookupAnswer slotChecks checkShape shaped checkRecords lowest unsoundAt soundParts within inside empty matches all agree least firstMatch slotMatches matchTold hitAt
+unfolding lookupAnswer slotChecks checkShape shaped checkRecords lowest unsoundAt rankFits soundParts within inside empty matches all agree least firstMatch slotMatches matchTold hitAt
 past-empty = (refl, refl)

@@ -1,5 +1,5 @@
 -- A step of a plan on its progress as numbers: the writes done after it, and its answer as one number.
--- The answer, the table and the writes done are the step's, at the width that the call names.
+-- The answer, the table and the writes done are the step's, at the width w and with the edition e that the call names.
 use mathlib.Core.Path.{_≡_}
 use mathlib.Core.Bool.{cond}
 use mathlib.Core.List.{List}
@@ -19,10 +19,10 @@ carryResult told =
     cond (eqb (told .number) 0) (cond (eqb (length (told .values)) 0) 4294967295 0) (told .number + getD (told .values) 0 0 * 4294967296)
 
 -- the writes done after a step, and its answer as a number
-abbrev pub carriedStep : ℕ → List ℕ → List ℕ → List ℕ → ℕ → ℕ → Carried
-carriedStep w t plan rule done total = record {
-  done = stepCallDone w t plan rule done total;
-  result = carryResult (stepCall w t plan rule done total);
+abbrev pub carriedStep : ℕ → ℕ → List ℕ → List ℕ → List ℕ → ℕ → ℕ → Carried
+carriedStep w e t plan rule done total = record {
+  done = stepCallDone w e t plan rule done total;
+  result = carryResult (stepCall w e t plan rule done total);
 }
 
 -- a spot is a number of 32 bits

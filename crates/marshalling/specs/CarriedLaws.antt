@@ -9,7 +9,7 @@ use Rattle.records.specs.Checks.{Told, causeNumber, refusal}
 use Rattle.records.specs.Laws.{cause-not-zero, cause-number-once}
 use Rattle.records.specs.declared.Cause.{Cause}
 use Rattle.records.specs.declared.Cause.the-variants.{Shape, Record, Twice, Order, Rule as RuleCause, Known, Unknown, Tie, Full, Crossed, Short}
-use Rattle.records.specs.declared.Cause.the-variants.{Write, Line, Image}
+use Rattle.records.specs.declared.Cause.the-variants.{Write, Line, Image, Uncrossed, Plan, Damage, Edition, Open, Session, Absent, Room}
 use Rattle.carrying.specs.Carrying.{stepTold, stepCall}
 use Rattle.carrying.specs.declared.StepInfo.{StepInfo}
 use Rattle.carrying.specs.declared.StepAnswer.{StepAnswer}
@@ -29,7 +29,7 @@ carry-finished = refl
 pub carry-refused : (cause : Cause) (spot : ℕ) → carryResult (stepTold (Refused cause spot)) ≡ causeNumber cause + spot * 4294967296
 carry-refused cause spot = rw (cause-not-zero cause)
 
-pub cause-small : (cause : Cause) → causeNumber cause ≤ 14
+pub cause-small : (cause : Cause) → causeNumber cause ≤ 22
 cause-small Shape = omega arith
 cause-small Record = omega arith
 cause-small Twice = omega arith
@@ -44,6 +44,14 @@ cause-small Short = omega arith
 cause-small Write = omega arith
 cause-small Line = omega arith
 cause-small Image = omega arith
+cause-small Uncrossed = omega arith
+cause-small Plan = omega arith
+cause-small Damage = omega arith
+cause-small Edition = omega arith
+cause-small Open = omega arith
+cause-small Session = omega arith
+cause-small Absent = omega arith
+cause-small Room = omega arith
 
 -- a refusal's number and spot are the halves of it
 pub carry-halves : (cause : Cause) (spot : ℕ) → spot < 4294967296
@@ -76,11 +84,11 @@ carry-result-once (Refused cause spot) (Refused other place) f g e =
     (cause-number-once cause other (omega (arith, same, cause-small cause, cause-small other)), omega (arith, same, cause-small cause, cause-small other))
 
 -- the spot of every call's answer has 32 bits where the writes done have, so that this is said of any two calls
-pub step-spot-fits : (w : ℕ) (t plan rule : List ℕ) (done total : ℕ) (a : StepAnswer) → stepTold a ≡ stepCall w t plan rule done total
+pub step-spot-fits : (w edition : ℕ) (t plan rule : List ℕ) (done total : ℕ) (a : StepAnswer) → stepTold a ≡ stepCall w edition t plan rule done total
     → done < 4294967296 → SpotFits a
-step-spot-fits w t plan rule done total (Wrote info) e h = tt
-step-spot-fits w t plan rule done total Finished e h = tt
-step-spot-fits w t plan rule done total (Refused cause spot) e h = call-spot w t plan rule done total 4294967296 (omega arith) h cause spot e
+step-spot-fits w edition t plan rule done total (Wrote info) e h = tt
+step-spot-fits w edition t plan rule done total Finished e h = tt
+step-spot-fits w edition t plan rule done total (Refused cause spot) e h = call-spot w edition t plan rule done total 4294967296 (omega arith) h cause spot e
 
 -- the writes done after an answer, and the number that tells it
 abbrev pub carriedTold : Told → ℕ → Carried
@@ -91,9 +99,9 @@ pub carried-refused : (cause : Cause) (spot done : ℕ) {n : ℕ} → n ≡ caus
 carried-refused cause spot done e = rw (e, cause-not-zero cause)
 
 -- what is told of a call is what crosses
-pub carry-ends : (w : ℕ) (t plan rule : List ℕ) (done total : ℕ) {told : Told} {carried : Carried} → told ≡ stepCall w t plan rule done total
-    → carried ≡ carriedTold told done → carried ≡ carriedStep w t plan rule done total
-carry-ends w t plan rule done total e m =
-    let d = ap (λ (x : Told). doneTold x done) e ∙ call-done-told w t plan rule done total in
+pub carry-ends : (w edition : ℕ) (t plan rule : List ℕ) (done total : ℕ) {told : Told} {carried : Carried} → told ≡ stepCall w edition t plan rule done total
+    → carried ≡ carriedTold told done → carried ≡ carriedStep w edition t plan rule done total
+carry-ends w edition t plan rule done total e m =
+    let d = ap (λ (x : Told). doneTold x done) e ∙ call-done-told w edition t plan rule done total in
     let n = ap carryResult e in
     m ∙ (λ i. record { done = d i; result = n i })

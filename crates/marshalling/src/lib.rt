@@ -39,15 +39,16 @@ pub fn carry(
     table: &mut [u64],
     width: u32,
     rule: &[u64],
+    edition: u32,
     plan: &[u32],
     done: u32,
     total: u32,
 ) -> Carried
-    ensures { λ r. ⌜ (r ≡ carriedStep width (now (table .entry)) (now (plan .entry)) (now (rule .entry)) done total)
-        × (now (table .exit) ≡ stepCallTable width (now (table .entry)) (now (plan .entry)) (now (rule .entry)) done total) ⌝ }
+    ensures { λ r. ⌜ (r ≡ carriedStep width edition (now (table .entry)) (now (plan .entry)) (now (rule .entry)) done total)
+        × (now (table .exit) ≡ stepCallTable width edition (now (table .entry)) (now (plan .entry)) (now (rule .entry)) done total) ⌝ }
 {
     let end = 4294967295;
-    match step(table, plan, rule, done, total, width as usize) {
+    match step(table, plan, rule, edition, done, total, width as usize) {
         StepAnswer::Wrote(info) => Carried {
             done: info.done,
             result: 0,

@@ -1,4 +1,4 @@
--- Laws on the tests of a pair: how they hang together, and what the answers on overlap and priority make of them.
+-- Laws on the tests of a pair: how they hang together, and what the answers on overlap and rank make of them.
 use mathlib.Core.Path.{_≡_, refl, sym, ap, _∙_}
 use mathlib.Core.Bool.{Bool, true, false, _&&_, and-false, false≢true}
 use mathlib.Core.Logic._⊎_.{inl}
@@ -39,7 +39,7 @@ and-between true c true e f = e
 and-between true c false e f = absurd (false≢true f)
 and-between false c b e f = e
 
--- the tests of a pair by the answer r whether its rules overlap, and then by their priorities
+-- the tests of a pair by the answer r whether its rules overlap, and then by their ranks
 module _ (w : ℕ) (a b : Words) {r : Bool} (told : r ≡ overlapping w a b && distinct w a b) where
   pub pair-apart : r ≡ false → (misordered w a b ≡ false) × (precedes w a b ≡ false)
   unfolding misordered precedes

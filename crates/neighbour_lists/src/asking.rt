@@ -1,5 +1,5 @@
 // One slot against the earlier ones, in blocks of 64 going down, the highest slot of a block first.
-// full: the rules before the slot; free: those of them without a dependant yet; low: for each block a number that no priority of its rules is below.
+// full: the rules before the slot; free: those of them without a dependant yet; low: for each block a number that no rank of its rules is below.
 use bitmaps::bits::clear_bit;
 use bitmaps::bits::drop_bit;
 use bitmaps::bits::lacking;
@@ -21,7 +21,7 @@ ghost use Rattle.records.specs.declared.Check.the-variants.{Pass};
 ghost use Rattle.neighbour_lists.specs.Lists.{precedesSlot, misorderedSlots, rankAt, occupiedAt};
 ghost use Rattle.neighbour_lists.specs.Row.{InRow, Marks, Tells, Inside, neededBits, settledPair, asked, askedFree, bothKept, closed, Quiet, Skipped};
 
-// The slots of a block that are to be asked. Once the later slot has its preceding rule, a block of higher priorities has nothing to
+// The slots of a block that are to be asked. Once the later slot has its preceding rule, a block of higher ranks has nothing to
 // tell but to the rules that have no dependant.
 fn needed(
     near: &[u16],
@@ -45,7 +45,7 @@ fn needed(
     free[block]
 }
 
-// Whether nothing is left to learn from a pair: the later slot has its preceding rule, the earlier one its dependant, and their priorities fall.
+// Whether nothing is left to learn from a pair: the later slot has its preceding rule, the earlier one its dependant, and their ranks fall.
 fn settled(table: &[u64], near: &[u16], slot: usize, later: usize, rank: u64, mode: Mode) -> bool
     requires { ⌜ (Width (mode .width)) × (slot < later) × (later < slots (mode .width) (now table)) × (2 * later + 1 < length (now near)) ⌝ }
     ensures { λ r. ⌜ r ≡ settledPair (now (near .entry)) slot later (rankAt (mode .width) (now (table .entry)) slot) rank ⌝ }

@@ -199,6 +199,7 @@ fn pass_with(
 {
     let mut full = [0u64; 16];
     let mut free = [0u64; 16];
+    // no rank is higher: a block without rules has none below it
     let mut low = [65536u64; 16];
     let mut others = [0usize; 64];
     let mut own = [0usize; 64];

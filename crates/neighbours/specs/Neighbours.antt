@@ -1,4 +1,4 @@
--- A new rule against a table: is its id known, does it tie, is there room, and its neighbours A and B. Checks 5 to 10 of document 01.
+-- A new rule against a table: is its id known, does it tie, is there room, and its neighbours A and B. Checks 6 and 8 to 10 of document 01, and all checks of an insert in their order.
 -- The new rule is given by its record's words, new.
 use mathlib.Core.Bool.{cond}
 use mathlib.Core.List.{List}
@@ -6,23 +6,20 @@ use Prim.Native.Nat.{ℕ, suc, _-_}
 use lib.Dec.{ltb}
 use Rattle.search.specs.Search.{any, least, afterLast}
 use Rattle.ternary.specs.Pattern.{Words}
-use Rattle.records.specs.Record.{slotWords, empty, soundRule, recordOf}
+use Rattle.records.specs.Record.{slotWords, empty, recordOf}
 use Rattle.records.specs.Order.{slots, sameId, tied, precedes}
 use Rattle.records.specs.Checks.{lowest, orElse, tableChecks}
+use Rattle.records.specs.Editions.{Given, ranked, checkGiven}
 use Rattle.records.specs.declared.Rule.{Rule}
-use Rattle.records.specs.declared.Cause.the-variants.{Rule as RuleCause, Known, Tie, Full, Crossed}
+use Rattle.records.specs.declared.Cause.the-variants.{Known, Tie, Full, Crossed}
 use Rattle.records.specs.declared.Check.{Check}
 use Rattle.records.specs.declared.Check.the-variants.{Pass, Fail}
-
--- 5: the rule is unsound
-unfoldable pub checkRule : ℕ → Rule → Check
-checkRule w rule = cond (soundRule w rule) Pass (Fail RuleCause 0)
 
 -- 6: the id is present, in the slot named
 unfoldable pub checkKnown : ℕ → List ℕ → Words → Check
 checkKnown w t new = lowest Known (λ (i : ℕ). sameId w (slotWords w t i) new) (slots w t)
 
--- 8: overlap at equal priority, the lowest such slot
+-- 8: overlap at equal rank, the lowest such slot
 unfoldable pub checkTie : ℕ → List ℕ → Words → Check
 checkTie w t new = lowest Tie (λ (i : ℕ). tied w (slotWords w t i) new) (slots w t)
 
@@ -53,6 +50,6 @@ newChecks w t new = orElse (checkKnown w t new) (orElse (checkTie w t new) (orEl
 abbrev pub ruleWords : ℕ → Rule → Words
 ruleWords w rule = slotWords w (recordOf w rule) 0
 
--- checks 1 to 10 of an insert: 7 does not apply
-unfoldable pub insertChecks : ℕ → List ℕ → Rule → Check
-insertChecks w t rule = orElse (tableChecks w t) (orElse (checkRule w rule) (newChecks w t (ruleWords w rule)))
+-- checks 1 to 10 of an insert, 18 after 5: 7 does not apply. From 6 on the rule has its rank
+unfoldable pub insertChecks : ℕ → List ℕ → Given → Check
+insertChecks w t given = orElse (tableChecks w t) (orElse (checkGiven w given) (newChecks w t (ruleWords w (ranked w given))))

@@ -7,14 +7,13 @@ use native.Mathlib.Omega.{arith}
 use borrow.Author.Tests.{lt-ltb, le-ltb}
 use Rattle.search.specs.SearchLaws.{any-some, any-none, least-law, after-last-law}
 use Rattle.ternary.specs.Pattern.{Words}
-use Rattle.records.specs.Record.{slotWords, empty, soundRule}
+use Rattle.records.specs.Record.{slotWords, empty}
 use Rattle.records.specs.Order.{slots, precedes}
 use Rattle.records.specs.Checks.{orElse}
-use Rattle.records.specs.declared.Rule.{Rule}
-use Rattle.records.specs.declared.Cause.the-variants.{Rule as RuleCause, Full, Crossed}
+use Rattle.records.specs.declared.Cause.the-variants.{Full, Crossed}
 use Rattle.records.specs.declared.Check.{Check}
 use Rattle.records.specs.declared.Check.the-variants.{Pass, Fail}
-use Rattle.neighbours.specs.Neighbours.{checkRule, checkKnown, checkTie, checkFull, afterA, slotB, crossedBy, checkCrossed, newChecks}
+use Rattle.neighbours.specs.Neighbours.{checkKnown, checkTie, checkFull, afterA, slotB, crossedBy, checkCrossed, newChecks}
 
 -- a loop over the slots ends in one of two ways
 pub room-at : (w : ℕ) (t : List ℕ) (i : ℕ) → i < slots w t → empty w (slotWords w t i) ≡ true → Pass ≡ checkFull w t
@@ -51,12 +50,3 @@ new-row w t new = four (checkKnown w t new) (checkTie w t new) (checkFull w t) (
     four Pass Pass c d = refl
     four Pass (Fail cause spot) c d = refl
     four (Fail cause spot) b c d = refl
-
--- a row that begins with check 5
-pub rule-refused : (w : ℕ) (rule : Rule) (next : Check) → soundRule w rule ≡ false → Fail RuleCause 0 ≡ orElse (checkRule w rule) next
-unfolding checkRule
-rule-refused w rule next e = rw e
-
-pub rule-accepted : (w : ℕ) (rule : Rule) {answer next : Check} → soundRule w rule ≡ true → answer ≡ next → answer ≡ orElse (checkRule w rule) next
-unfolding checkRule
-rule-accepted w rule e h = rw e h

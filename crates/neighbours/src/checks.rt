@@ -46,7 +46,7 @@ pub fn check_known(table: &[u64], new: &[u64], mode: Mode) -> Check
     check_known_by(table, new, Mode { width: WIDE })
 }
 
-// Check 8: no rule overlaps the new one at equal priority.
+// Check 8: no rule overlaps the new one at equal rank.
 fn check_tie_by(table: &[u64], new: &[u64], mode: Mode) -> Check
     requires { ⌜ (Width (mode .width)) × (slots (mode .width) (now table) ≤ mostSlots) × (length (now new) ≡ recordWords (mode .width)) ⌝ }
     ensures { λ r. ⌜ r ≡ checkTie (mode .width) (now (table .entry)) (slotWords (mode .width) (now (new .entry)) 0) ⌝ }

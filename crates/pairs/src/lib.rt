@@ -142,7 +142,7 @@ fn overlapping_rules(table: &[u64], slot: usize, others: &[u64], other: usize, w
     false
 }
 
-// Whether two rules overlap at equal priority.
+// Whether two rules overlap at equal rank.
 pub fn tied_pair(table: &[u64], slot: usize, others: &[u64], other: usize, mode: Mode) -> bool
     requires { ⌜ (Width (mode .width)) × (slot < slots (mode .width) (now table)) × (other < slots (mode .width) (now others)) ⌝ }
     ensures { λ r. ⌜ r ≡ tied (mode .width) (slotWords (mode .width) (now (table .entry)) slot) (slotWords (mode .width) (now (others .entry)) other) ⌝ }
@@ -154,7 +154,7 @@ pub fn tied_pair(table: &[u64], slot: usize, others: &[u64], other: usize, mode:
     false
 }
 
-// Whether a rule precedes another: they overlap, and its priority is the higher one.
+// Whether a rule precedes another: they overlap, and its rank is the higher one.
 pub fn precedes_pair(table: &[u64], slot: usize, others: &[u64], other: usize, mode: Mode) -> bool
     requires { ⌜ (Width (mode .width)) × (slot < slots (mode .width) (now table)) × (other < slots (mode .width) (now others)) ⌝ }
     ensures { λ r. ⌜ r ≡ precedes (mode .width) (slotWords (mode .width) (now (table .entry)) slot) (slotWords (mode .width) (now (others .entry)) other) ⌝ }

@@ -12,6 +12,7 @@ use Rattle.histories.specs.Demand2Laws.{demand-2-insert, demand-2-delete}
 use Rattle.image.specs.RoundTripLaws.{width-numbered, saved-loads}
 use Rattle.promises.specs.AnyWords.{AnyWords, AtWidth}
 use Rattle.promises.specs.KeysOfSlotLaws.{compares}
+use Rattle.promises.specs.EditionsLaws.{editions}
 use Rattle.promises.specs.SecondDemandLaws.{second-demand}
 use Rattle.promises.specs.ThirdDemandLaws.{least-words, third-demand}
 
@@ -30,7 +31,7 @@ any-words w = record {
 
 -- and cited for both
 at-width : (w : ℕ) → Width w → AtWidth w
-at-width w known = record { words = any-words w; offsets = width-numbered known; second = second-demand w known; third = third-demand w known }
+at-width w known = record { words = any-words w; offsets = width-numbered known; second = second-demand w known; third = third-demand w known; editions = editions w known }
 
 pub at-two-words : AtWidth 2
 at-two-words = at-width 2 two

@@ -4,7 +4,8 @@ use mathlib.Core.Path.{_≡_}
 use mathlib.Core.List.{List, [], _∷_}
 use Prim.Native.Nat.{ℕ, _≤_, _*_}
 use lib.ListN.{length, take, replicate}
-use Rattle.records.specs.Record.{word, recordWords, ruleOf}
+use Rattle.records.specs.Record.{recordWords}
+use Rattle.records.specs.Editions.{lentRule, ranked}
 use Rattle.histories.specs.RuleSet.{Change, insert, delete}
 use Rattle.tcam.specs.declared.carry.Progress.{Progress}
 use Rattle.tcam.specs.Carried.{CarryLeft}
@@ -19,24 +20,25 @@ finishedResult = 4294967295
 
 -- A plan under way: calls of tcam_carry_out from the plan's start, with its own rule, on the table it was drawn for, each of which made a write. As
 -- plan a call is lent the count's words of the buffer, the whole buffer, or any number of words between, one call more than another if it will.
--- w is the width that each call names; a rule is lent as its record.
-pub data Carrying (w : ℕ) (t plan rule : List ℕ) (count : ℕ) : List ℕ → Progress → Type 0 where
-  drawn : Carrying w t plan rule count t (record { done = 0; total = count })
-  wrote : (u : List ℕ) (progress : Progress) → Carrying w t plan rule count u progress
+-- w is the width that each call names; a rule is lent as its record, with its edition e, each time the same.
+pub data Carrying (w e : ℕ) (t plan rule : List ℕ) (count : ℕ) : List ℕ → Progress → Type 0 where
+  drawn : Carrying w e t plan rule count t (record { done = 0; total = count })
+  wrote : (u : List ℕ) (progress : Progress) → Carrying w e t plan rule count u progress
       → (words : ℕ) → count ≤ words → words ≤ length plan → (after : List ℕ) (progress′ : Progress)
-      → CarryLeft w u (take words plan) rule progress wroteResult after progress′ → Carrying w t plan rule count after progress′
+      → CarryLeft w e u (take words plan) rule progress wroteResult after progress′ → Carrying w e t plan rule count after progress′
 
 -- carried out in full: all writes are done
-abbrev pub CarriedOut : ℕ → List ℕ → List ℕ → List ℕ → ℕ → List ℕ → Type 0
-CarriedOut w t plan rule count after = (progress : Progress) × Carrying w t plan rule count after progress × (progress .done ≡ count)
+abbrev pub CarriedOut : ℕ → ℕ → List ℕ → List ℕ → List ℕ → ℕ → List ℕ → Type 0
+CarriedOut w e t plan rule count after = (progress : Progress) × Carrying w e t plan rule count after progress × (progress .done ≡ count)
 
 -- The tables that a caller comes to, with the changes made, the latest first: from 1 to 1,024 empty slots, by inserts and deletes that the planning
--- calls accepted and that were carried out in full, a delete with any record of as many words.
+-- calls accepted and that were carried out in full. Each insert names an edition of its own, and is carried out with the edition that it was planned with; a
+-- delete with any record of as many words, and any edition. An insert counts with the rank that its edition gives it.
 pub data CameTo (w : ℕ) : List Change → List ℕ → Type 0 where
   started : (n : ℕ) → 1 ≤ n → n ≤ 1024 → CameTo w [] (replicate (n * recordWords w) 0)
-  inserted : (history : List Change) (t : List ℕ) → CameTo w history t → (rule : List ℕ)
-      → (plan after : List ℕ) (count count′ spot spot′ : ℕ) → InsertLeft w t rule 0 plan after count count′ spot spot′
-      → (u : List ℕ) → CarriedOut w t after rule count′ u → CameTo w (insert (ruleOf w (word rule)) ∷ history) u
+  inserted : (history : List Change) (t : List ℕ) → CameTo w history t → (e : ℕ) (rule : List ℕ)
+      → (plan after : List ℕ) (count count′ spot spot′ : ℕ) → InsertLeft w e t rule 0 plan after count count′ spot spot′
+      → (u : List ℕ) → CarriedOut w e t after rule count′ u → CameTo w (insert (ranked w (lentRule w e rule)) ∷ history) u
   deleted : (history : List Change) (t : List ℕ) → CameTo w history t → (id : ℕ)
       → (plan after : List ℕ) (count count′ spot spot′ : ℕ) → DeleteLeft w t id 0 plan after count count′ spot spot′
-      → (rule : List ℕ) → length rule ≡ recordWords w → (u : List ℕ) → CarriedOut w t after rule count′ u → CameTo w (delete id ∷ history) u
+      → (e : ℕ) (rule : List ℕ) → length rule ≡ recordWords w → (u : List ℕ) → CarriedOut w e t after rule count′ u → CameTo w (delete id ∷ history) u

@@ -9,9 +9,10 @@ use Rattle.records.specs.Writes.{applyWord}
 use Rattle.script_printing.specs.Printing.{Shown}
 use Rattle.script_printing.specs.PrintedLines.{printed}
 use Rattle.records.specs.Checks.{causeNumber}
-use Rattle.records.specs.Record.{word, ruleOf}
+use Rattle.records.specs.Editions.{lentRule, ranked}
 use Rattle.records.specs.declared.Cause.{Cause}
 use Rattle.records.specs.declared.Cause.the-variants.{Shape, Record, Twice, Order, Rule as RuleCause, Known, Unknown, Tie, Full, Crossed, Short, Write, Line, Image}
+use Rattle.records.specs.declared.Cause.the-variants.{Uncrossed, Plan, Damage, Edition, Open, Session, Absent, Room}
 use Rattle.refusals.specs.Rows.{Row, Declines, Accepts}
 use Rattle.refusals.specs.Calls.{lookupCallRows, insertCallRows, deleteCallRows, saveCallRows, stepCallRows, loadCallRows}
 use Rattle.refusals.specs.Lines.{lineRows}
@@ -46,17 +47,20 @@ abbrev pub IsRefusal : ℕ → Type 0
 IsRefusal result = result ≡ 0 → ⊥
 
 pub record FirstDemand : Type 0 where
-  -- each refusal has one number: document 01's, 1 to 14, and no two causes have the same
+  -- each refusal has one number: document 01's, 1 to 14, and document 02's, 15 to 22, and no two causes have the same
   pub numbers : map causeNumber (Shape ∷ Record ∷ Twice ∷ Order ∷ RuleCause ∷ Known ∷ Unknown ∷ Tie ∷ Full ∷ Crossed ∷ Short ∷ Write ∷ Line ∷ Image ∷ [])
       ≡ 1 ∷ 2 ∷ 3 ∷ 4 ∷ 5 ∷ 6 ∷ 7 ∷ 8 ∷ 9 ∷ 10 ∷ 11 ∷ 12 ∷ 13 ∷ 14 ∷ []
+  pub later-numbers : map causeNumber (Uncrossed ∷ Plan ∷ Damage ∷ Edition ∷ Open ∷ Session ∷ Absent ∷ Room ∷ [])
+      ≡ 15 ∷ 16 ∷ 17 ∷ 18 ∷ 19 ∷ 20 ∷ 21 ∷ 22 ∷ []
   pub once : (cause other : Cause) → causeNumber cause ≡ causeNumber other → cause ≡ other
-  -- the calls that only read a table decline by their rows, and a refusal leaves what they are lent: at every width that a call may name, known or not
+  -- the calls that only read a table decline by their rows, and a refusal leaves what they are lent: at every width and with every
+  -- edition that a call may name, known or not
   pub lookup : (w : ℕ) (t key : List ℕ) (result slot slot′ id id′ action action′ spot spot′ : ℕ)
       → LookupLeft w t key result slot slot′ id id′ action action′ spot spot′
       → DeclinesBy (lookupCallRows w t key) result spot′ × (IsRefusal result → (slot′ ≡ slot) × (id′ ≡ id) × (action′ ≡ action))
-  pub insert : (w : ℕ) (t rule : List ℕ) (result : ℕ) (plan after : List ℕ) (count count′ spot spot′ : ℕ)
-      → InsertLeft w t rule result plan after count count′ spot spot′
-      → DeclinesBy (insertCallRows w t rule (length plan)) result spot′ × (IsRefusal result → (after ≡ plan) × (count′ ≡ count))
+  pub insert : (w e : ℕ) (t rule : List ℕ) (result : ℕ) (plan after : List ℕ) (count count′ spot spot′ : ℕ)
+      → InsertLeft w e t rule result plan after count count′ spot spot′
+      → DeclinesBy (insertCallRows w e t rule (length plan)) result spot′ × (IsRefusal result → (after ≡ plan) × (count′ ≡ count))
   pub delete : (w : ℕ) (t : List ℕ) (id result : ℕ) (plan after : List ℕ) (count count′ spot spot′ : ℕ)
       → DeleteLeft w t id result plan after count count′ spot spot′
       → DeclinesBy (deleteCallRows w t id (length plan)) result spot′ × (IsRefusal result → (after ≡ plan) × (count′ ≡ count))
@@ -69,11 +73,11 @@ pub record FirstDemand : Type 0 where
   -- carrying out: number and spot are the halves of its result. Where it does not write, a refusal or "finished", the table and the record are as they
   -- were; "finished" it returns exactly where nothing is refused and all writes are done. Where it writes, it makes the next write of the plan and no other,
   -- and one write more is done
-  pub carry : (w : ℕ) (t plan rule : List ℕ) (progress : Progress) (result : ℕ) (after : List ℕ) (progress′ : Progress)
-      → CarryLeft w t plan rule progress result after progress′ → CarriesBy (stepCallRows w t plan rule (progress .done) (progress .total)) progress result
+  pub carry : (w e : ℕ) (t plan rule : List ℕ) (progress : Progress) (result : ℕ) (after : List ℕ) (progress′ : Progress)
+      → CarryLeft w e t plan rule progress result after progress′ → CarriesBy (stepCallRows w e t plan rule (progress .done) (progress .total)) progress result
       × ((result ≡ wroteResult → ⊥) → (after ≡ t) × (progress′ .done ≡ progress .done) × (progress′ .total ≡ progress .total))
       × (result ≡ wroteResult
-      → (after ≡ applyWord w t (ruleOf w (word rule)) (getD plan (progress .done) 0)) × (progress′ .done ≡ progress .done + 1) × (progress′ .total ≡ progress .total))
+      → (after ≡ applyWord w t (ranked w (lentRule w e rule)) (getD plan (progress .done) 0)) × (progress′ .done ≡ progress .done + 1) × (progress′ .total ≡ progress .total))
   -- a script line, on the table that the memory holds: a refused one leaves the memory and its table, and prints `R number spot`
   pub line : (memory memory′ : List ℕ) (slots number : ℕ) (line out out′ : List ℕ) (ran : Ran)
       → Left (lineOutcome (tableIn memory slots) number line) ran memory memory′ out out′

@@ -8,11 +8,11 @@ use native.Mathlib.Omega.{arith}
 use lib.Dec.{eqb, leb}
 use lib.ListN.{length, getD, take, drop}
 use borrow.Author.Tests.{eqb-true, eqb-false, ne-eqb}
-use Rattle.records.specs.Record.{word, ruleOf}
+use Rattle.records.specs.Record.{word}
 use Rattle.records.specs.Checks.{Told, success, refusal, unless, orElse, passes, tableChecks, causeNumber}
 use Rattle.records.specs.Laws.{cause-number-once, cause-not-zero}
 use Rattle.records.specs.Widths.{checkWidth, checkRule, leaves}
-use Rattle.records.specs.declared.Rule.{Rule}
+use Rattle.records.specs.Editions.{Given, lentRule, under13, ranked}
 use Rattle.records.specs.declared.Cause.{Cause}
 use Rattle.records.specs.declared.Cause.the-variants.{Shape}
 use Rattle.records.specs.declared.Check.{Check}
@@ -162,10 +162,10 @@ pub data StepCase (progress : Progress) : Told → Type 0 where
   ended : progress .done ≡ progress .total → StepCase progress (success [])
   stopped : (cause : Cause) (spot : ℕ) → StepCase progress (refusal cause spot)
 
-step-case : (w : ℕ) (t plan : List ℕ) (rule : Rule) (progress : Progress) → StepCase progress (stepAnswer w t plan rule (progress .done) (progress .total))
-step-case w t plan rule progress =
-    subst (StepCase progress) (step-told w t plan rule (progress .done) (progress .total))
-    (pick (stepChecks w t plan rule (progress .done) (progress .total)) (eqb (progress .done) (progress .total)) refl)
+step-case : (w : ℕ) (t plan : List ℕ) (given : Given) (progress : Progress) → StepCase progress (stepAnswer w t plan given (progress .done) (progress .total))
+step-case w t plan given progress =
+    subst (StepCase progress) (step-told w t plan given (progress .done) (progress .total))
+    (pick (stepChecks w t plan given (progress .done) (progress .total)) (eqb (progress .done) (progress .total)) refl)
   where
     pick : (x : Check) (b : Bool) → eqb (progress .done) (progress .total) ≡ b
         → StepCase progress (unless x (cond b (success []) (success ((progress .done + 1) ∷ []))))
@@ -173,11 +173,11 @@ step-case w t plan rule progress =
     pick Pass true e = ended (eqb-true _ _ e)
     pick Pass false e = wrote (progress .done + 1) (eqb-false _ _ e)
 
-call-case : (w : ℕ) (t plan rule : List ℕ) (progress : Progress) → StepCase progress (stepCall w t plan rule (progress .done) (progress .total))
-call-case w t plan rule progress = pick (checkRule w (length rule))
+call-case : (w e : ℕ) (t plan rule : List ℕ) (progress : Progress) → StepCase progress (stepCall w e t plan rule (progress .done) (progress .total))
+call-case w e t plan rule progress = pick (checkRule w (length rule))
   where
-    pick : (x : Check) → StepCase progress (unless x (stepAnswer w t plan (ruleOf w (word rule)) (progress .done) (progress .total)))
-    pick Pass = step-case w t plan (ruleOf w (word rule)) progress
+    pick : (x : Check) → StepCase progress (unless x (stepAnswer w t plan (lentRule w e rule) (progress .done) (progress .total)))
+    pick Pass = step-case w t plan (lentRule w e rule) progress
     pick (Fail cause spot) = stopped cause spot
 
 carries-by : (rows : List Row) (progress : Progress) (told : Told) (result : ℕ) → AnsweredBy rows told → StepCase progress told → result ≡ carryResult told
@@ -214,11 +214,11 @@ carries-by rows progress told result answer (stopped c s) e =
     }
 
 -- where it does not write nothing changes
-step-kept : (w : ℕ) (t plan : List ℕ) (rule : Rule) (done total : ℕ) → (carryResult (stepAnswer w t plan rule done total) ≡ 0 → ⊥)
-    → (stepTable w t plan rule done total ≡ t) × (stepDone w t plan rule done total ≡ done)
+step-kept : (w : ℕ) (t plan : List ℕ) (given : Given) (done total : ℕ) → (carryResult (stepAnswer w t plan given done total) ≡ 0 → ⊥)
+    → (stepTable w t plan given done total ≡ t) × (stepDone w t plan given done total ≡ done)
 unfolding stepAnswer stepTable stepDone stepWrites
-step-kept w t plan rule done total other =
-    let still = pick (progressChecks w t (length plan) done total) (eqb done total) (writeChecks w t rule (getD plan done 0) done) other in
+step-kept w t plan given done total other =
+    let still = pick (progressChecks w t (length plan) done total) (eqb done total) (writeChecks w t given (getD plan done 0) done) other in
     (rw still, rw still)
   where
     pick : (p : Check) (b : Bool) (c : Check) → (carryResult (unless p (cond b (success []) (unless c (success ((done + 1) ∷ []))))) ≡ 0 → ⊥)
@@ -228,13 +228,13 @@ step-kept w t plan rule done total other =
     pick Pass false Pass other = absurd (other refl)
     pick Pass false (Fail cause spot) other = refl
 
-carry-kept : (w : ℕ) (t plan rule : List ℕ) (done total : ℕ) → (carryResult (stepCall w t plan rule done total) ≡ 0 → ⊥)
-    → (stepCallTable w t plan rule done total ≡ t) × (stepCallDone w t plan rule done total ≡ done)
-carry-kept w t plan rule done total other = lent (checkRule w (length rule)) other
+carry-kept : (w e : ℕ) (t plan rule : List ℕ) (done total : ℕ) → (carryResult (stepCall w e t plan rule done total) ≡ 0 → ⊥)
+    → (stepCallTable w e t plan rule done total ≡ t) × (stepCallDone w e t plan rule done total ≡ done)
+carry-kept w e t plan rule done total other = lent (checkRule w (length rule)) other
   where
-    lent : (x : Check) → (carryResult (unless x (stepAnswer w t plan (ruleOf w (word rule)) done total)) ≡ 0 → ⊥)
-        → (leaves x (stepTable w t plan (ruleOf w (word rule)) done total) t ≡ t) × (leaves x (stepDone w t plan (ruleOf w (word rule)) done total) done ≡ done)
-    lent Pass other = step-kept w t plan (ruleOf w (word rule)) done total other
+    lent : (x : Check) → (carryResult (unless x (stepAnswer w t plan (lentRule w e rule) done total)) ≡ 0 → ⊥)
+        → (leaves x (stepTable w t plan (lentRule w e rule) done total) t ≡ t) × (leaves x (stepDone w t plan (lentRule w e rule) done total) done ≡ done)
+    lent Pass other = step-kept w t plan (lentRule w e rule) done total other
     lent (Fail cause spot) other = (refl, refl)
 
 -- a script line that is refused
@@ -266,7 +266,7 @@ line-refused t number (Table new) e = pick (leb 1 (new .slots) && leb (new .slot
         ≡ outcomeOf t (toldBytes (cond good (lettered 78 (success (new .slots ∷ []))) (lettered 82 (refusal Shape 0)) .told))
     pick true e = absurd (omega (arith, e))
     pick false e = refl
-line-refused t number (Insert insertion) e = change-refused t (insertChecks 2 t (insertedRule insertion)) _ _ e
+line-refused t number (Insert insertion) e = change-refused t (insertChecks 2 t (under13 (insertedRule insertion))) _ _ e
 line-refused t number (Delete deletion) e = change-refused t (deleteChecks 2 t (deletion .id)) _ _ e
 line-refused t number (Lookup query) e = looked (lookupAnswer 2 t (word (keyOf query))) e
   where
@@ -305,11 +305,11 @@ never-wrote : (cause : Cause) (spot : ℕ) → carryResult (refusal cause spot) 
 never-wrote cause spot e = omega (arith, sym (carry-refused cause spot) ∙ e, cause-some cause)
 
 -- where it writes, it makes the next write of the plan
-step-made : (w : ℕ) (t plan : List ℕ) (rule : Rule) (done total : ℕ) → carryResult (stepAnswer w t plan rule done total) ≡ 0
-    → (stepTable w t plan rule done total ≡ applyWord w t rule (getD plan done 0)) × (stepDone w t plan rule done total ≡ done + 1)
+step-made : (w : ℕ) (t plan : List ℕ) (given : Given) (done total : ℕ) → carryResult (stepAnswer w t plan given done total) ≡ 0
+    → (stepTable w t plan given done total ≡ applyWord w t (ranked w given) (getD plan done 0)) × (stepDone w t plan given done total ≡ done + 1)
 unfolding stepAnswer stepTable stepDone stepWrites
-step-made w t plan rule done total zero-result =
-    let makes = pick (progressChecks w t (length plan) done total) (eqb done total) (writeChecks w t rule (getD plan done 0) done) zero-result in
+step-made w t plan given done total zero-result =
+    let makes = pick (progressChecks w t (length plan) done total) (eqb done total) (writeChecks w t given (getD plan done 0) done) zero-result in
     (rw makes, rw makes)
   where
     pick : (p : Check) (b : Bool) (c : Check) → carryResult (unless p (cond b (success []) (unless c (success ((done + 1) ∷ []))))) ≡ 0
@@ -320,10 +320,10 @@ step-made w t plan rule done total zero-result =
     pick Pass false (Fail cause spot) e = absurd (never-wrote cause spot e)
 
 -- and that word is one of the plan's
-step-within : (w : ℕ) (t plan : List ℕ) (rule : Rule) (done total : ℕ) → carryResult (stepAnswer w t plan rule done total) ≡ 0 → done < length plan
+step-within : (w : ℕ) (t plan : List ℕ) (given : Given) (done total : ℕ) → carryResult (stepAnswer w t plan given done total) ≡ 0 → done < length plan
 unfolding stepAnswer
-step-within w t plan rule done total zero-result =
-    pick (progressChecks w t (length plan) done total) refl (eqb done total) refl (writeChecks w t rule (getD plan done 0) done) zero-result
+step-within w t plan given done total zero-result =
+    pick (progressChecks w t (length plan) done total) refl (eqb done total) refl (writeChecks w t given (getD plan done 0) done) zero-result
   where
     pick : (p : Check) → progressChecks w t (length plan) done total ≡ p → (b : Bool) → eqb done total ≡ b → (c : Check)
         → carryResult (unless p (cond b (success []) (unless c (success ((done + 1) ∷ []))))) ≡ 0 → done < length plan
@@ -333,22 +333,22 @@ step-within w t plan rule done total zero-result =
         let bounds = progress-within w t (length plan) done total e in omega (arith, bounds .0, bounds .1, eqb-false done total f)
 
 -- so it is of the call, which wrote at a width that there is, with a rule of so many words
-module _ (w : ℕ) (t plan rule : List ℕ) (done total : ℕ) (zero-result : carryResult (stepCall w t plan rule done total) ≡ 0) where
-  given : Rule
-  given = ruleOf w (word rule)
+module _ (w e : ℕ) (t plan rule : List ℕ) (done total : ℕ) (zero-result : carryResult (stepCall w e t plan rule done total) ≡ 0) where
+  given : Given
+  given = lentRule w e rule
 
   wrote-lent : checkRule w (length rule) ≡ Pass
   wrote-lent = pick (checkRule w (length rule)) zero-result
     where
-      pick : (x : Check) → carryResult (unless x (stepAnswer w t plan (ruleOf w (word rule)) done total)) ≡ 0 → x ≡ Pass
-      pick Pass e = refl
-      pick (Fail cause spot) e = absurd (never-wrote cause spot e)
+      pick : (x : Check) → carryResult (unless x (stepAnswer w t plan (lentRule w e rule) done total)) ≡ 0 → x ≡ Pass
+      pick Pass z = refl
+      pick (Fail cause spot) z = absurd (never-wrote cause spot z)
 
   wrote-step : carryResult (stepAnswer w t plan given done total) ≡ 0
   unfolding given
   wrote-step = sym (ap (λ (x : Check). carryResult (unless x (stepAnswer w t plan given done total))) wrote-lent) ∙ zero-result
 
-  pub carry-made : (stepCallTable w t plan rule done total ≡ applyWord w t (ruleOf w (word rule)) (getD plan done 0)) × (stepCallDone w t plan rule done total ≡ done + 1)
+  pub carry-made : (stepCallTable w e t plan rule done total ≡ applyWord w t (ranked w (lentRule w e rule)) (getD plan done 0)) × (stepCallDone w e t plan rule done total ≡ done + 1)
   unfolding given
   carry-made =
       let made = step-made w t plan given done total wrote-step in (
@@ -364,6 +364,7 @@ module _ (w : ℕ) (t plan rule : List ℕ) (done total : ℕ) (zero-result : ca
 pub first-demand : FirstDemand
 first-demand = record {
   numbers = refl;
+  later-numbers = refl;
   once = cause-number-once;
   lookup = λ w t key result slot slot′ id id′ action action′ spot spot′ left.
       let told = lookupCall w t key in (
@@ -374,10 +375,10 @@ first-demand = record {
           left .acted ∙ cell-kept told 2 action declines,
         ),
       );
-  insert = λ w t rule result plan after count count′ spot spot′ left.
-      let given = ruleOf w (word rule) in
-      buffer-call _ (checkRule w (length rule)) (insertChecks w t given) (insertWords w t given) plan after _ result count count′ spot spot′ refl
-      (insert-call-rows w t rule (length plan)) (left .left);
+  insert = λ w e t rule result plan after count count′ spot spot′ left.
+      let given = lentRule w e rule in
+      buffer-call _ (checkRule w (length rule)) (insertChecks w t given) (insertWords w t (ranked w given)) plan after _ result count count′ spot spot′ refl
+      (insert-call-rows w e t rule (length plan)) (left .left);
   delete = λ w t id result plan after count count′ spot spot′ left.
       buffer-call _ (checkWidth w) (deleteChecks w t id) (deleteWords w t id) plan after _ result count count′ spot spot′ refl
       (delete-call-rows w t id (length plan)) left;
@@ -388,11 +389,11 @@ first-demand = record {
     told-declines _ (loadCall w b t) result spot spot′ (load-call-rows w b t) (left .number) (left .spotted),
     λ refused. left .loaded ∙ lent-kept (checkWidth w) (loadAnswer w b t) _ t (load-kept w b t) (λ z. refused (left .number ∙ z)),
   );
-  carry = λ w t plan rule progress result after progress′ left. (
-    carries-by _ progress _ result (step-call-rows w t plan rule (progress .done) (progress .total)) (call-case w t plan rule progress) (left .told),
-    λ other. let kept = carry-kept w t plan rule (progress .done) (progress .total) (λ z. other (left .told ∙ z)) in
+  carry = λ w e t plan rule progress result after progress′ left. (
+    carries-by _ progress _ result (step-call-rows w e t plan rule (progress .done) (progress .total)) (call-case w e t plan rule progress) (left .told),
+    λ other. let kept = carry-kept w e t plan rule (progress .done) (progress .total) (λ z. other (left .told ∙ z)) in
         (left .table ∙ kept .0, left .advanced ∙ kept .1, left .in-all),
-    λ zero-result. let made = carry-made w t plan rule (progress .done) (progress .total) (sym (left .told) ∙ zero-result) in
+    λ zero-result. let made = carry-made w e t plan rule (progress .done) (progress .total) (sym (left .told) ∙ zero-result) in
         (left .table ∙ made .0, left .advanced ∙ made .1, left .in-all),
   );
   line = λ memory memory′ slots number line out out′ ran left told. (

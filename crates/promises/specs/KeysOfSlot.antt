@@ -9,10 +9,10 @@ use lib.ListN.{getD}
 use Rattle.ternary.specs.Bit.{bit}
 use Rattle.ternary.specs.Pattern.{Words}
 use Rattle.records.specs.Record.{slotWords}
+use Rattle.records.specs.Sound.{SoundRecord}
 use Rattle.records.specs.Order.{slots}
 use Rattle.records.specs.Checks.{checkRecords, comparedAt}
 use Rattle.records.specs.declared.Check.the-variants.{Pass}
-use Rattle.refusals.specs.Calls.{SoundRecord}
 
 -- slot i of a table
 module _ (w : ℕ) (t : List ℕ) (i : ℕ) where
@@ -24,7 +24,7 @@ module _ (w : ℕ) (t : List ℕ) (i : ℕ) where
   abbrev pub EmptyAt : Type 0
   EmptyAt = (k : ℕ) → k < 2 * w + 2 → wordAt k ≡ 0
 
-  -- it holds a sound rule: id not 0, priority at most 65,535, each value bit outside the mask 0
+  -- it holds a sound rule: id not 0, rank at most 65,535, or 65,536 where every mask bit is set, each value bit outside the mask 0
   abbrev pub RuleAt : Type 0
   RuleAt = SoundRecord w (slotWords w t i)
 

@@ -1,13 +1,14 @@
 -- Document 01, demand 2: from an empty table, after any accepted inserts and deletes carried out in full, each key is answered by the highest-priority
 -- matching rule that was inserted and not since deleted, or by a miss. Within a plan every key keeps its old rule or miss until the last write, and from
--- then on has the reply of the changed rule set. Images load to the table they were saved from.
+-- then on has the reply of the changed rule set. Images load to the table they were saved from. By document 02, 2026-07, the rank counts for the priority.
 use mathlib.Core.Path.{_≡_}
 use mathlib.Core.Logic.{_⊎_}
 use mathlib.Core.List.{List, _∷_}
 use Prim.Native.Nat.{ℕ, _+_, _*_, _≤_, _<_, min}
 use lib.ListN.{length, getD, take}
-use Rattle.ternary.specs.Pattern.{Matches}
-use Rattle.records.specs.Record.{word, recordWords, recordOf, ruleOf}
+use Rattle.ternary.specs.Pattern.{Matches, FullMask}
+use Rattle.records.specs.Record.{word, recordWords, recordOf}
+use Rattle.records.specs.Editions.{Given, lentRule, ranked}
 use Rattle.records.specs.Writes.{applyWords}
 use Rattle.records.specs.declared.Rule.{Rule}
 use Rattle.histories.specs.RuleSet.{Change, ruleSet, without, Member}
@@ -26,7 +27,8 @@ abbrev pub KeyMatches : ℕ → List ℕ → Rule → Type 0
 KeyMatches w key rule = Matches w (word key) (word (rule .value)) (word (rule .mask))
 
 module _ (w : ℕ) (rules : List Rule) (key : List ℕ) where
-  -- this is the highest-priority rule of the list that matches the key: every other that matches has a lower priority
+  -- this is the highest-ranked rule of the list that matches the key: every other that matches has a lower rank, which each rule of a list of rules
+  -- has for its priority
   abbrev pub Highest : Rule → Type 0
   Highest rule =
       Member rule rules × KeyMatches w key rule
@@ -47,49 +49,62 @@ AllReplied w t rules =
     (key : List ℕ) → length key ≡ w → (result slot slot′ id id′ action action′ spot spot′ : ℕ)
     → LookupLeft w t key result slot slot′ id id′ action action′ spot spot′ → KeyReplied w rules key result id′ action′
 
--- The rules of a table: of one that a caller came to from an empty one, those inserted and not since deleted; of any sound one, as a loaded one
--- is, those that stand in its slots.
+-- The rules of a table, each with its rank: of one that a caller came to from an empty one, those inserted and not since deleted, with the rank that they
+-- were put in with; of any sound one, as a loaded one is, those that stand in its slots.
 pub data RulesOf (w : ℕ) : List Rule → List ℕ → Type 0 where
   ran : (history : List Change) (t : List ℕ) → CameTo w history t → RulesOf w (ruleSet history) t
   stand : (t : List ℕ) → Accepts (tableRows w t) → RulesOf w (tableRules w t) t
 
--- Within a plan, from the table it was drawn for, with its rule, lent as a record, and count: old are the rules before it, new those after it.
-pub record DuringPlan (w : ℕ) (t plan rule : List ℕ) (count : ℕ) (old new : List Rule) : Type 0 where
+-- Within a plan, from the table it was drawn for, with its rule, lent as a record, its edition and count: old are the rules before it, new those after it.
+pub record DuringPlan (w e : ℕ) (t plan rule : List ℕ) (count : ℕ) (old new : List Rule) : Type 0 where
   -- as many writes of the plan are made as are done, one by each call
-  pub made : (u : List ℕ) (progress : Progress) → Carrying w t plan rule count u progress
-      → u ≡ applyWords w t (ruleOf w (word rule)) (take (progress .done) plan)
+  pub made : (u : List ℕ) (progress : Progress) → Carrying w e t plan rule count u progress
+      → u ≡ applyWords w t (ranked w (lentRule w e rule)) (take (progress .done) plan)
   -- until the last write every key has its old reply, and from then on that of the changed rules
-  pub kept : (u : List ℕ) (progress : Progress) → Carrying w t plan rule count u progress → progress .done < count → AllReplied w u old
-  pub changed : (u : List ℕ) (progress : Progress) → Carrying w t plan rule count u progress → progress .done ≡ count → AllReplied w u new
+  pub kept : (u : List ℕ) (progress : Progress) → Carrying w e t plan rule count u progress → progress .done < count → AllReplied w u old
+  pub changed : (u : List ℕ) (progress : Progress) → Carrying w e t plan rule count u progress → progress .done ≡ count → AllReplied w u new
   -- until then each call makes a write, and then it answers "finished": so every plan can be carried out in full
-  pub few : (u : List ℕ) (progress : Progress) → Carrying w t plan rule count u progress → progress .done ≤ count
-  pub goes-on : (u : List ℕ) (progress : Progress) → Carrying w t plan rule count u progress
+  pub few : (u : List ℕ) (progress : Progress) → Carrying w e t plan rule count u progress → progress .done ≤ count
+  pub goes-on : (u : List ℕ) (progress : Progress) → Carrying w e t plan rule count u progress
       → (words result : ℕ) → count ≤ words → words ≤ length plan → (after : List ℕ) (progress′ : Progress)
-      → CarryLeft w u (take words plan) rule progress result after progress′
+      → CarryLeft w e u (take words plan) rule progress result after progress′
       → (progress .done < count → result ≡ wroteResult) × (progress .done ≡ count → result ≡ finishedResult)
 
--- the rule that a caller gives as a record: value words, mask words, id × 2^32 + action, priority
-pub record Gives (w : ℕ) (record-words : List ℕ) (rule : Rule) : Type 0 where
-  pub values : (j : ℕ) → j < w → word (rule .value) j ≡ getD record-words j 0
-  pub masks : (j : ℕ) → j < w → word (rule .mask) j ≡ getD record-words (w + j) 0
-  pub both : rule .id * 4294967296 + rule .action ≡ getD record-words (2 * w) 0
-  pub small : rule .action < 4294967296
+-- the rule that a caller gives as a record, value words, mask words, id × 2^32 + action, priority, with the edition that it names
+pub record Gives (w e : ℕ) (record-words : List ℕ) (given : Given) : Type 0 where
+  pub values : (j : ℕ) → j < w → word (given .rule .value) j ≡ getD record-words j 0
+  pub masks : (j : ℕ) → j < w → word (given .rule .mask) j ≡ getD record-words (w + j) 0
+  pub both : given .rule .id * 4294967296 + given .rule .action ≡ getD record-words (2 * w) 0
+  pub small : given .rule .action < 4294967296
   -- the struct's priority has 32 bits: a larger word, which no sound rule has, becomes the largest of those
-  pub priority : rule .priority ≡ min (getD record-words (2 * w + 1) 0) 4294967295
+  pub priority : given .rule .priority ≡ min (getD record-words (2 * w + 1) 0) 4294967295
+  pub edition : given .edition ≡ e
+
+-- the rule that is planned and put in: under 1.0 a rule with every mask bit of the width set has rank 65,536; any other rule's rank is its priority; all else is
+-- as it was given
+pub record Ranks (w : ℕ) (given : Given) (rule : Rule) : Type 0 where
+  pub exact : given .edition ≡ 10 → FullMask w (word (given .rule .mask)) → rule .priority ≡ 65536
+  pub other : (given .edition ≡ 10 → FullMask w (word (given .rule .mask)) → ⊥) → rule .priority ≡ given .rule .priority
+  pub id : rule .id ≡ given .rule .id
+  pub value : rule .value ≡ given .rule .value
+  pub mask : rule .mask ≡ given .rule .mask
+  pub action : rule .action ≡ given .rule .action
 
 -- w is the width that the calls name, and is one that there is
 pub record SecondDemand (w : ℕ) : Type 0 where
-  -- the contracts of tcam_plan_insert and tcam_carry_out speak of the rule that they are given
-  pub given : (rule : List ℕ) → Gives w rule (ruleOf w (word rule))
-  -- each key is answered by the highest-priority match of the table's rules, or by a miss
+  -- the contracts of tcam_plan_insert and tcam_carry_out speak of the rule and the edition that they are given, and of the rank that the one gives the other
+  pub given : (e : ℕ) (rule : List ℕ) → Gives w e rule (lentRule w e rule)
+  pub ranks : (given : Given) → Ranks w given (ranked w given)
+  -- each key is answered by the highest-ranked match of the table's rules, or by a miss
   pub answered : (rules : List Rule) (t : List ℕ) → RulesOf w rules t → AllReplied w t rules
-  -- within the plan of an insert, and of a delete, which is carried out with any record of as many words
-  pub insert : (rules : List Rule) (t : List ℕ) → RulesOf w rules t → (rule : List ℕ)
-      → (plan after : List ℕ) (count count′ spot spot′ : ℕ) → InsertLeft w t rule 0 plan after count count′ spot spot′
-      → DuringPlan w t after rule count′ rules (ruleOf w (word rule) ∷ rules)
+  -- within the plan of an insert, carried out with the edition that it was planned with, and of a delete, which is carried out with any record of as many
+  -- words and any edition
+  pub insert : (rules : List Rule) (t : List ℕ) → RulesOf w rules t → (e : ℕ) (rule : List ℕ)
+      → (plan after : List ℕ) (count count′ spot spot′ : ℕ) → InsertLeft w e t rule 0 plan after count count′ spot spot′
+      → DuringPlan w e t after rule count′ rules (ranked w (lentRule w e rule) ∷ rules)
   pub delete : (rules : List Rule) (t : List ℕ) → RulesOf w rules t → (id : ℕ)
       → (plan after : List ℕ) (count count′ spot spot′ : ℕ) → DeleteLeft w t id 0 plan after count count′ spot spot′
-      → (rule : List ℕ) → length rule ≡ recordWords w → DuringPlan w t after rule count′ rules (without id rules)
+      → (e : ℕ) (rule : List ℕ) → length rule ≡ recordWords w → DuringPlan w e t after rule count′ rules (without id rules)
   -- an image loads, into any table of as many words of 64 bits, to the table it was saved from
   pub loads : (t image saved : List ℕ) (bytes bytes′ spot spot′ : ℕ) → Words64 t → SaveLeft w t 0 image saved bytes bytes′ spot spot′
       → (lent loaded : List ℕ) (result place place′ : ℕ) → length lent ≡ length t → LoadLeft w (take bytes′ saved) result lent loaded place place′

@@ -19,6 +19,8 @@ use Rattle.records.specs.WidthsLaws.{rule-law}
 use Rattle.records.specs.RulesLaws.{word-listed, rule-action}
 use Rattle.lookups.specs.Lookup.{lookupAnswer}
 use Rattle.lookups.specs.WidthsLaws.{lookup-at}
+use Rattle.records.specs.Editions.{Given, lentRule, rankOf, ranked}
+use Rattle.records.specs.EditionsLaws.{rank-full, rank-kept}
 use Rattle.records.specs.declared.Rule.{Rule}
 use Rattle.records.specs.declared.Check.{Check}
 use Rattle.neighbours.specs.Neighbours.{insertChecks}
@@ -44,7 +46,7 @@ use Rattle.tcam.specs.ImagesLaws.{save-load-call}
 use Rattle.promises.specs.Calls.{Carrying, CameTo}
 use Rattle.promises.specs.CallsLaws.{At, made-so-far, carrying-at, carried-at, goes-on-at}
 use Rattle.promises.specs.FirstDemandLaws.{lent-accepted, counted-answer}
-use Rattle.promises.specs.SecondDemand.{KeyMatches, Highest, NoneMatches, KeyReplied, AllReplied, RulesOf, DuringPlan, Gives, SecondDemand}
+use Rattle.promises.specs.SecondDemand.{KeyMatches, Highest, NoneMatches, KeyReplied, AllReplied, RulesOf, DuringPlan, Gives, Ranks, SecondDemand}
 
 -- what the cells for id and action hold after a lookup that is answered with this reply
 cell-of : (told : Told) (values : List ℕ) (k before : ℕ) → told .number ≡ 0 → drop 1 (told .values) ≡ values → dataCell told (suc k) before ≡ getD values k 0
@@ -99,20 +101,20 @@ module _ (w : ℕ) (known : Width w) where
       (left .named ∙ ap (λ (x : Told). dataCell x 1 id) told) (left .acted ∙ ap (λ (x : Told). dataCell x 2 action) told)
 
   -- a plan drawn and carried out
-  module _ (t plan rule : List ℕ) (size : length rule ≡ recordWords w) (words : List ℕ) (count : ℕ) (change : List Rule → List Rule)
-      (d : Demand2 w t plan (ruleOf w (word rule)) words count change) where
-    state-at : (u : List ℕ) (progress : Progress) → Carrying w t plan rule count u progress → (k : ℕ) × At w t plan (ruleOf w (word rule)) count u progress k
-    state-at u progress under = carrying-at w t plan rule known size words count change d u progress under
+  module _ (e : ℕ) (t plan rule : List ℕ) (size : length rule ≡ recordWords w) (words : List ℕ) (count : ℕ) (change : List Rule → List Rule)
+      (d : Demand2 w t plan (lentRule w e rule) words count change) where
+    state-at : (u : List ℕ) (progress : Progress) → Carrying w e t plan rule count u progress → (k : ℕ) × At w t plan (lentRule w e rule) count u progress k
+    state-at u progress under = carrying-at w e t plan rule known size words count change d u progress under
 
-    during : (rules : List Rule) → Holding w rules t → DuringPlan w t plan rule count rules (change rules)
+    during : (rules : List Rule) → Holding w rules t → DuringPlan w e t plan rule count rules (change rules)
     during rules h = record {
-      made = λ u progress under. made-so-far w t plan rule count u progress under;
+      made = λ u progress under. made-so-far w e t plan rule count u progress under;
       kept = λ u progress under less.
           let state = state-at u progress under in
           let k = state .0 in
           let at = state .1 in
           answers rules u t h (λ key. subst (λ (v : List ℕ). Replies w v key (setReply w rules key)) (sym (at .table))
-          (subst (Replies w (afterCalls w t plan (ruleOf w (word rule)) count k .table) key) (holding-reply w rules t h key)
+          (subst (Replies w (afterCalls w t plan (lentRule w e rule) count k .table) key) (holding-reply w rules t h key)
           (d .kept k (omega (arith, at .done)) key)));
       changed = λ u progress under all.
           let state = state-at u progress under in
@@ -122,51 +124,52 @@ module _ (w : ℕ) (known : Width w) where
           (λ key. subst (λ (v : List ℕ). Replies w v key (setReply w (change rules) key)) (sym (at .table)) (d .changed rules h k (omega (arith, at .done)) key));
       few = λ u progress under. let state = state-at u progress under in omega (arith, state .1 .done, state .1 .few);
       goes-on = λ u progress under n result long room after progress′ left.
-          goes-on-at w t plan rule known size words count change d u progress under n result long after progress′ left;
+          goes-on-at w e t plan rule known size words count change d u progress under n result long after progress′ left;
     }
 
   -- a planning call that returned 0
-  inserting : (t rule plan after : List ℕ) (count count′ spot spot′ : ℕ) → InsertLeft w t rule 0 plan after count count′ spot spot′
-      → (length rule ≡ recordWords w) × Demand2 w t after (ruleOf w (word rule)) (insertWords w t (ruleOf w (word rule))) count′ (λ rules. ruleOf w (word rule) ∷ rules)
-  inserting t rule plan after count count′ spot spot′ left =
-      let given = ruleOf w (word rule) in
+  pub inserting : (e : ℕ) (t rule plan after : List ℕ) (count count′ spot spot′ : ℕ) → InsertLeft w e t rule 0 plan after count count′ spot spot′
+      → (length rule ≡ recordWords w)
+      × Demand2 w t after (lentRule w e rule) (insertWords w t (ranked w (lentRule w e rule))) count′ (λ rules. ranked w (lentRule w e rule) ∷ rules)
+  inserting e t rule plan after count count′ spot spot′ left =
+      let given = lentRule w e rule in
       let passed = lent-accepted (checkRule w (length rule)) _ (sym (left .left .number)) in
       let told = counted-answer (checkRule w (length rule)) (insertChecks w t given) _ _ _ after count count′ spot spot′ (left .left) in
       let is = left .left .plan ∙ ap (λ (x : Check). leaves x (insertPlan w t given plan) plan) passed in (
         rule-law w (length rule) .0 passed .1,
-        subst (λ (p : List ℕ). Demand2 w t p given (insertWords w t given) count′ (λ rules. given ∷ rules)) (sym is)
+        subst (λ (p : List ℕ). Demand2 w t p given (insertWords w t (ranked w given)) count′ (λ rules. ranked w given ∷ rules)) (sym is)
             (demand-2-insert w t given plan count′ (rule-action w (word rule)) told),
       )
 
-  deleting : (t : List ℕ) (id : ℕ) (plan after : List ℕ) (count count′ spot spot′ : ℕ) → DeleteLeft w t id 0 plan after count count′ spot spot′
-      → (rule : Rule) → Demand2 w t after rule (deleteWords w t id) count′ (without id)
-  deleting t id plan after count count′ spot spot′ left rule =
+  pub deleting : (t : List ℕ) (id : ℕ) (plan after : List ℕ) (count count′ spot spot′ : ℕ) → DeleteLeft w t id 0 plan after count count′ spot spot′
+      → (given : Given) → Demand2 w t after given (deleteWords w t id) count′ (without id)
+  deleting t id plan after count count′ spot spot′ left given =
       let passed = lent-accepted (checkWidth w) _ (sym (left .number)) in
       let told = counted-answer (checkWidth w) (deleteChecks w t id) _ _ _ after count count′ spot spot′ left in
       let is = left .plan ∙ ap (λ (x : Check). leaves x (deletePlan w t id plan) plan) passed in
-      subst (λ (p : List ℕ). Demand2 w t p rule (deleteWords w t id) count′ (without id)) (sym is) (demand-2-delete w t id plan count′ rule told)
+      subst (λ (p : List ℕ). Demand2 w t p given (deleteWords w t id) count′ (without id)) (sym is) (demand-2-delete w t id plan count′ given told)
 
   -- a table that a caller came to is one of the histories below: there the whole buffer is lent, and as many calls are made as are counted
   came-reached : (history : List Change) (t : List ℕ) → CameTo w history t → Reached w history t
   came-reached history t (CameTo.started n some-slot few) = Reached.start n some-slot few
-  came-reached history t (CameTo.inserted before u came rule plan after count count′ spot spot′ left v full) =
-      let given = ruleOf w (word rule) in
-      let planned = inserting u rule plan after count count′ spot spot′ left in
+  came-reached history t (CameTo.inserted before u came e rule plan after count count′ spot spot′ left v full) =
+      let given = lentRule w e rule in
+      let planned = inserting e u rule plan after count count′ spot spot′ left in
       let d = planned .1 in
       let told = counted-answer (checkRule w (length rule)) (insertChecks w u given) _ _ _ after count count′ spot spot′ (left .left) in
       let is = left .left .plan ∙ ap (λ (x : Check). leaves x (insertPlan w u given plan) plan) (lent-accepted (checkRule w (length rule)) _ (sym (left .left .number))) in
       let lent = subst (Lent (insertPlan w u given plan) count′) (sym is)
       (lent-whole (insertPlan w u given plan) count′ (demand-2-room (demand-2-insert w u given plan count′ (rule-action w (word rule)) told))) in
-      subst (Reached w history) (sym (carried-at w u after rule known (planned .0) _ count′ (λ rules. given ∷ rules) d t full))
+      subst (Reached w history) (sym (carried-at w e u after rule known (planned .0) _ count′ (λ rules. ranked w given ∷ rules) d t full))
       (Reached.inserted before u (came-reached before u came) given (rule-action w (word rule)) plan count′ told after lent count′ (d .finished count′ (omega arith)))
-  came-reached history t (CameTo.deleted before u came id plan after count count′ spot spot′ left rule size v full) =
-      let given = ruleOf w (word rule) in
+  came-reached history t (CameTo.deleted before u came id plan after count count′ spot spot′ left e rule size v full) =
+      let given = lentRule w e rule in
       let d = deleting u id plan after count count′ spot spot′ left given in
       let told = counted-answer (checkWidth w) (deleteChecks w u id) _ _ _ after count count′ spot spot′ left in
       let is = left .plan ∙ ap (λ (x : Check). leaves x (deletePlan w u id plan) plan) (lent-accepted (checkWidth w) _ (sym (left .number))) in
       let lent = subst (Lent (deletePlan w u id plan) count′) (sym is)
       (lent-whole (deletePlan w u id plan) count′ (demand-2-room (demand-2-delete w u id plan count′ given told))) in
-      subst (Reached w history) (sym (carried-at w u after rule known size _ count′ (without id) d t full))
+      subst (Reached w history) (sym (carried-at w e u after rule known size _ count′ (without id) d t full))
       (Reached.deleted before u (came-reached before u came) id plan count′ told given after lent count′ (d .finished count′ (omega arith)))
 
   -- a table's rules are held by it, and lookups tell them
@@ -179,26 +182,41 @@ module _ (w : ℕ) (known : Width w) where
   told rules t (RulesOf.stand u sound) key = holding-lookup w (tableRules w u) u (held rules t (RulesOf.stand u sound)) key
 
 -- the rule that is given is the record's
-gives : (w : ℕ) (rule : List ℕ) → Gives w rule (ruleOf w (word rule))
+gives : (w e : ℕ) (rule : List ℕ) → Gives w e rule (lentRule w e rule)
 unfolding ruleOf
-gives w rule = record {
+gives w e rule = record {
   values = λ j h. word-listed w (value (word rule)) j h;
   masks = λ j h. word-listed w (mask w (word rule)) j h;
   both = div-add-mod' (word rule (2 * w)) 4294967296;
   small = rule-action w (word rule);
   priority = refl;
+  edition = refl;
+}
+
+-- the rank that an edition gives a rule
+ranks : (w : ℕ) (given : Given) → Ranks w given (ranked w given)
+unfolding ranked
+ranks w given = record {
+  exact = λ e full. ap (λ (n : ℕ). rankOf w n (given .rule .priority) (word (given .rule .mask))) e ∙ rank-full w (given .rule .priority) (word (given .rule .mask)) full;
+  other = λ not-exact. rank-kept w (given .edition) (given .rule .priority) (word (given .rule .mask)) not-exact;
+  id = refl;
+  value = refl;
+  mask = refl;
+  action = refl;
 }
 
 -- document 01's demand 2, at every width that there is
 pub second-demand : (w : ℕ) → Width w → SecondDemand w
 second-demand w known = record {
   given = gives w;
+  ranks = ranks w;
   answered = λ rules t of. answers w known rules t t (held w known rules t of) (told w known rules t of);
-  insert = λ rules t of rule plan after count count′ spot spot′ left.
-      let planned = inserting w known t rule plan after count count′ spot spot′ left in
-      during w known t after rule (planned .0) _ count′ (λ rs. ruleOf w (word rule) ∷ rs) (planned .1) rules (held w known rules t of);
-  delete = λ rules t of id plan after count count′ spot spot′ left rule size.
-      during w known t after rule size _ count′ (without id) (deleting w known t id plan after count count′ spot spot′ left (ruleOf w (word rule))) rules (held w known rules t of);
+  insert = λ rules t of e rule plan after count count′ spot spot′ left.
+      let planned = inserting w known e t rule plan after count count′ spot spot′ left in
+      during w known e t after rule (planned .0) _ count′ (λ rs. ranked w (lentRule w e rule) ∷ rs) (planned .1) rules (held w known rules t of);
+  delete = λ rules t of id plan after count count′ spot spot′ left e rule size.
+      during w known e t after rule size _ count′ (without id) (deleting w known t id plan after count count′ spot spot′ left (lentRule w e rule)) rules
+      (held w known rules t of);
   loads = λ t image saved bytes bytes′ spot spot′ words left lent loaded result place place′ size load.
       let r = save-load-call w t image saved bytes bytes′ spot spot′ words left lent loaded result place place′ size load in (r .0, r .1);
 }

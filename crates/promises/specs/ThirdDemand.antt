@@ -6,16 +6,17 @@ use mathlib.Core.Path.{_≡_}
 use mathlib.Core.Bool.{true}
 use mathlib.Core.Logic.{_↔_, _⊎_}
 use mathlib.Core.List.{List, _++_}
-use Prim.Native.Nat.{ℕ, suc, _≤_, _<_}
-use lib.ListN.{length, getD, take, drop}
+use Prim.Native.Nat.{ℕ, suc, _+_, _*_, _≤_, _<_}
+use lib.ListN.{length, getD, set, take, drop}
 use Rattle.layout.specs.Order.{Higher, Lower}
 use Rattle.layout.specs.Write.{copy, put}
 use Rattle.plan_words.specs.PlanWords.{writeOf}
-use Rattle.records.specs.Record.{word, recordWords, slotWords, empty, occupied, recordOf, ruleOf}
+use Rattle.records.specs.Record.{word, recordWords, slotWords, empty, occupied, recordOf}
 use Rattle.records.specs.Order.{slots, InOrder}
 use Rattle.records.specs.Entries.{entryAt}
 use Rattle.records.specs.Writes.{applyWords}
 use Rattle.records.specs.Inserts.{insertChoiceOf}
+use Rattle.records.specs.Editions.{lentRule, ranked}
 use Rattle.records.specs.declared.Rule.{Rule}
 use Rattle.refusals.specs.Rows.{Accepts}
 use Rattle.refusals.specs.Calls.{OneId, newRuleRows}
@@ -47,7 +48,7 @@ OneWay w t rule words = WritesToward Higher w t rule words ⊎ WritesToward Lowe
 abbrev pub Stands : ℕ → List ℕ → List ℕ → Type 0
 Stands w t x = (occupied w (word x) ≡ true) × ((i : ℕ) × (i < slots w t) × (entryAt w t i ≡ x))
 
--- What tcam_plan_insert returned and left: words are the plan; the rule is the one that was lent.
+-- What tcam_plan_insert returned and left: words are the plan; the rule is the one that was lent, with its rank.
 pub record InsertPlanned (w : ℕ) (t : List ℕ) (rule : Rule) (result : ℕ) (plan after : List ℕ) (count count′ spot spot′ : ℕ) : Type 0 where
   pub words : List ℕ
   -- it moves rules toward one end only, loses none, keeps the table in order, and its last write puts the new rule in
@@ -66,9 +67,11 @@ pub record InsertPlanned (w : ℕ) (t : List ℕ) (rule : Rule) (result : ℕ) (
   pub short : length plan < length words → (result ≡ 11) × (spot′ ≡ length words) × (after ≡ plan)
 
 -- Document 01 words the premises by the checks: a table that passes 1 to 4 is sound; a rule that passes 5 to 8 is sound, of new id and ties with none; 9 is
--- the empty slot, 10 the crossed neighbours. These are the rows of an insert without 11. The rule is lent as a record of as many words, whose own
--- words are then the record that stands; w is the width that the call names, and is one that there is.
+-- the empty slot, 10 the crossed neighbours; document 02 adds 18: a rule given with another edition is not sound in this sense. These are the rows of an
+-- insert without 11. The rule is lent as a record of as many words, whose last word becomes the rank in the record that stands; w is the width that the
+-- call names, and is one that there is.
 pub record ThirdDemand (w : ℕ) : Type 0 where
-  pub plans : (t rule : List ℕ) → length rule ≡ recordWords w → Accepts (newRuleRows w t (ruleOf w (word rule)))
-      → (result : ℕ) (plan after : List ℕ) (count count′ spot spot′ : ℕ) → InsertLeft w t rule result plan after count count′ spot spot′
-      → InsertPlanned w t (ruleOf w (word rule)) result plan after count count′ spot spot′ × (recordOf w (ruleOf w (word rule)) ≡ rule)
+  pub plans : (e : ℕ) (t rule : List ℕ) → length rule ≡ recordWords w → Accepts (newRuleRows w t (lentRule w e rule))
+      → (result : ℕ) (plan after : List ℕ) (count count′ spot spot′ : ℕ) → InsertLeft w e t rule result plan after count count′ spot spot′
+      → InsertPlanned w t (ranked w (lentRule w e rule)) result plan after count count′ spot spot′
+      × (recordOf w (ranked w (lentRule w e rule)) ≡ set rule (2 * w + 1) (ranked w (lentRule w e rule) .priority))

@@ -3,35 +3,38 @@ use mathlib.Core.Path.{_≡_, refl, sym, ap, _∙_}
 use mathlib.Core.Bool.{Bool, true, false, not, _&&_, _||_, true≢false}
 use mathlib.Core.Logic.{_↔_, inl, inr, ⊎-elim}
 use mathlib.Core.List.{List, [], _∷_, _++_}
-use Prim.Native.Nat.{ℕ, suc, _≤_, _<_}
+use Prim.Native.Nat.{ℕ, suc, _+_, _*_, _≤_, _<_}
 use native.Mathlib.Omega.{arith}
 use native.Mathlib.Decide.{decLt}
 use lib.Dec.{eqb, ltb}
-use lib.ListN.{length, getD, take, drop}
+use lib.ListN.{length, getD, set, take, drop}
+use lib.Seq.{getD-set-same}
 use borrow.Author.Tests.{eqb-false, ne-eqb, ltb-true, lt-ltb, not-true}
 use Rattle.search.specs.SearchLaws.{any-yes, any-some, and-law}
 use Rattle.layout.specs.Order.{Higher, Lower}
 use Rattle.layout.specs.Write.{copy, put}
 use Rattle.layout.specs.Held.{Held}
-use Rattle.records.specs.Record.{word, recordWords, slotWords, empty, occupied, recordOf, ruleOf}
+use Rattle.records.specs.Record.{word, recordWords, slotWords, rank, empty, occupied, recordOf}
 use Rattle.records.specs.Order.{slots, sameId}
 use Rattle.records.specs.Checks.{Told, success, unless}
 use Rattle.records.specs.Widths.{Width, checkRule, leaves}
 use Rattle.records.specs.WidthsLaws.{rule-law}
-use Rattle.records.specs.RulesLaws.{rule-action, rule-sound, given-record}
+use Rattle.records.specs.RulesLaws.{record-rank, rule-action}
 use Rattle.records.specs.Laws.{same-id-law, twice-law}
 use Rattle.records.specs.Entries.{vacant, entries, entryOccupied}
 use Rattle.records.specs.EntriesLaws.{entries-length, entry-at, unique-entries}
 use Rattle.records.specs.Writes.{applyWords, heldAt, standsElsewhere, freeAt, fitsWrite, fitsWord}
 use Rattle.records.specs.ClassWords.{ClassToward, InClassWords}
 use Rattle.records.specs.ClassWordsLaws.{class-words-law}
+use Rattle.records.specs.Editions.{Given, lentRule, ranked, lentRank}
+use Rattle.records.specs.EditionsLaws.{ranked-record}
 use Rattle.records.specs.declared.Rule.{Rule}
 use Rattle.records.specs.declared.Check.{Check}
 use Rattle.records.specs.declared.Check.the-variants.{Pass}
 use Rattle.buffers.specs.BuffersLaws.{buffer-short}
 use Rattle.neighbours.specs.Neighbours.{insertChecks}
 use Rattle.insert_plans.specs.Inserts.{insertWords, insertAnswer, insertPlan, insertCall}
-use Rattle.insert_plans.specs.Insertable.{Insertable}
+use Rattle.insert_plans.specs.Insertable.{InsertableGiven}
 use Rattle.insert_plans.specs.InsertableLaws.{insertable-law}
 use Rattle.insert_plans.specs.Demand3.{ShortestPlan, Demand3}
 use Rattle.insert_plans.specs.Demand3Laws.{demand-3, shortest-words}
@@ -144,7 +147,7 @@ one-way w t rule words = (
 )
 
 -- a record that stands is an entry that is held
-stands-law : (w : ℕ) (t x : List ℕ) → Held (vacant w) (entryOccupied w) (entries w t) x ↔ Stands w t x
+pub stands-law : (w : ℕ) (t x : List ℕ) → Held (vacant w) (entryOccupied w) (entries w t) x ↔ Stands w t x
 stands-law w t x = (
   λ h. let at = h .1 in
       let less : at .0 < slots w t = omega (arith, at .1, entries-length w t) in
@@ -153,32 +156,33 @@ stands-law w t x = (
 )
 
 -- for any number of words: the plan's words are of the class, no sequence of it is shorter, and with buffer enough they are what the call leaves
-pub least-words : (w : ℕ) (t : List ℕ) (rule : Rule) → rule .action < 4294967296 → Accepts (newRuleRows w t rule)
-    → (words : List ℕ) × OneWay w t rule words × ((other : List ℕ) → OneWay w t rule other → length words ≤ length other)
+pub least-words : (w : ℕ) (t : List ℕ) (given : Given) → given .rule .action < 4294967296 → Accepts (newRuleRows w t given)
+    → (words : List ℕ) × OneWay w t (ranked w given) words × ((other : List ℕ) → OneWay w t (ranked w given) other → length words ≤ length other)
     × ((plan : List ℕ) → length words ≤ length plan
-    → (insertAnswer w t rule (length plan) ≡ success (length words ∷ [])) × (insertPlan w t rule plan ≡ words ++ drop (length words) plan))
-least-words w t rule small accepts =
-    let insertable = insertable-law w t rule .0 (insert-rows w t rule .passes .1 accepts) in
-    let best = shortest-words w t rule small insertable in (
+    → (insertAnswer w t given (length plan) ≡ success (length words ∷ [])) × (insertPlan w t given plan ≡ words ++ drop (length words) plan))
+least-words w t given small accepts =
+    let rule = ranked w given in
+    let premises = insertable-law w t given .0 (insert-rows w t given .passes .1 accepts) in
+    let best = shortest-words w t given small premises in (
       insertWords w t rule,
       one-way w t rule (insertWords w t rule) .0 (best .class),
       λ other o. best .least other (one-way w t rule other .1 o),
-      λ plan room. let p = demand-3 w t rule small insertable plan .shortest room in (p .answer, p .buffer),
+      λ plan room. let p = demand-3 w t given small premises plan .shortest room in (p .answer, p .buffer),
     )
 
 -- document 01's demand 3, at every width that there is
-module _ (w : ℕ) (known : Width w) (t lent : List ℕ) (size : length lent ≡ recordWords w) (accepts : Accepts (newRuleRows w t (ruleOf w (word lent)))) where
+module _ (w : ℕ) (known : Width w) (e : ℕ) (t lent : List ℕ) (size : length lent ≡ recordWords w) (accepts : Accepts (newRuleRows w t (lentRule w e lent))) where
+  abbrev given : Given
+  given = lentRule w e lent
+
   abbrev rule : Rule
-  rule = ruleOf w (word lent)
+  rule = ranked w given
 
-  small : rule .action < 4294967296
-  small = rule-action w (word lent)
+  checks : insertChecks w t given ≡ Pass
+  checks = insert-rows w t given .passes .1 accepts
 
-  checks : insertChecks w t rule ≡ Pass
-  checks = insert-rows w t rule .passes .1 accepts
-
-  insertable : Insertable w t rule
-  insertable = insertable-law w t rule .0 checks
+  premises : InsertableGiven w t given
+  premises = insertable-law w t given .0 checks
 
   abbrev words : List ℕ
   words = insertWords w t rule
@@ -186,10 +190,10 @@ module _ (w : ℕ) (known : Width w) (t lent : List ℕ) (size : length lent ≡
   abbrev last-table : List ℕ
   last-table = applyWords w t rule words
 
-  best : ShortestPlan w t rule (insertAnswer w t rule (length words)) words (insertPlan w t rule words)
-  best = shortest-words w t rule small insertable
+  best : ShortestPlan w t rule (insertAnswer w t given (length words)) words (insertPlan w t given words)
+  best = shortest-words w t given (rule-action w (word lent)) premises
 
-  planned : (result : ℕ) (plan after : List ℕ) (count count′ spot spot′ : ℕ) → InsertLeft w t lent result plan after count count′ spot spot′
+  planned : (result : ℕ) (plan after : List ℕ) (count count′ spot spot′ : ℕ) → InsertLeft w e t lent result plan after count count′ spot spot′
       → InsertPlanned w t rule result plan after count count′ spot spot′
   planned result plan after count count′ spot spot′ left = record {
     words = words;
@@ -209,24 +213,28 @@ module _ (w : ℕ) (known : Width w) (t lent : List ℕ) (size : length lent ≡
         (left .left .number ∙ ap (λ (x : Told). x .number) (p .answer), left .left .counted ∙ ap (λ (x : Told). dataCell x 0 count) (p .answer), p .buffer);
     short = λ less.
         let r = buffer-short words plan refl checks less in
-        let told : insertCall w t lent (length plan) ≡ _ = ap (λ (x : Check). unless x (insertAnswer w t rule (length plan))) passed ∙ sym (r .0) in (
+        let told : insertCall w e t lent (length plan) ≡ _ = ap (λ (x : Check). unless x (insertAnswer w t given (length plan))) passed ∙ sym (r .0) in (
           left .left .number ∙ ap (λ (x : Told). x .number) told,
           left .left .spotted ∙ ap (λ (x : Told). spotCell x spot) told,
-          left .left .plan ∙ (ap (λ (x : Check). leaves x (insertPlan w t rule plan) plan) passed ∙ sym (r .1)),
+          left .left .plan ∙ (ap (λ (x : Check). leaves x (insertPlan w t given plan) plan) passed ∙ sym (r .1)),
         );
   }
     where
       passed : checkRule w (length lent) ≡ Pass
       passed = rule-law w (length lent) .1 (known, size)
 
-      promised : Demand3 w t rule (insertCall w t lent (length plan)) plan after
-      promised = left .shortest (record { width = known; words = size; insertable = insertable })
+      promised : Demand3 w t rule (insertCall w e t lent (length plan)) plan after
+      promised = left .shortest (record { width = known; words = size; given = premises })
 
-  same-record : recordOf w rule ≡ lent
-  same-record = given-record w lent size (sym (rule-sound w (word lent)) ∙ insertable .sound)
+  -- the record that stands is the one that was lent, with the rank for its last word
+  same-record : recordOf w rule ≡ set lent (2 * w + 1) (rule .priority)
+  same-record =
+      let made = ranked-record w e lent size (premises .sound) in
+      let stored = getD-set-same lent (2 * w + 1) (lentRank w e lent) 0 (omega (arith, size)) in
+      sym made ∙ ap (set lent (2 * w + 1)) (sym stored ∙ (ap (λ (l : List ℕ). rank w (word l)) made ∙ record-rank w rule))
 
 pub third-demand : (w : ℕ) → Width w → ThirdDemand w
 third-demand w known = record {
-  plans = λ t rule size accepts result plan after count count′ spot spot′ left.
-      (planned w known t rule size accepts result plan after count count′ spot spot′ left, same-record w known t rule size accepts);
+  plans = λ e t rule size accepts result plan after count count′ spot spot′ left.
+      (planned w known e t rule size accepts result plan after count count′ spot spot′ left, same-record w known e t rule size accepts);
 }

@@ -13,11 +13,11 @@ use Rattle.records.specs.Record.{recordWords, slotWords, empty, occupied
 use Rattle.records.specs.Order.{slots, sameId, misordered}
 use Rattle.records.specs.declared.Cause.{Cause}
 use Rattle.records.specs.declared.Cause.the-variants.{Shape, Record, Twice, Order, Rule, Known, Unknown, Tie, Full, Crossed, Short, Write, Line}
-use Rattle.records.specs.declared.Cause.the-variants.{Image}
+use Rattle.records.specs.declared.Cause.the-variants.{Image, Uncrossed, Plan, Damage, Edition, Open, Session, Absent, Room}
 use Rattle.records.specs.declared.Check.{Check}
 use Rattle.records.specs.declared.Check.the-variants.{Pass, Fail}
 
--- document 01's number of each cause
+-- the number of each cause: document 01's, and document 02's from 15 on
 abbrev pub causeNumber : Cause → ℕ
 causeNumber Shape = 1
 causeNumber Record = 2
@@ -33,6 +33,14 @@ causeNumber Short = 11
 causeNumber Write = 12
 causeNumber Line = 13
 causeNumber Image = 14
+causeNumber Uncrossed = 15
+causeNumber Plan = 16
+causeNumber Damage = 17
+causeNumber Edition = 18
+causeNumber Open = 19
+causeNumber Session = 20
+causeNumber Absent = 21
+causeNumber Room = 22
 
 -- an answer as document 01 has it: a number, 0 for a success, and values: a success's data, or a refusal's spot
 pub record Told : Type 0 where
@@ -88,7 +96,7 @@ twiceAt w t j = any (λ (i : ℕ). sameId w (slotWords w t i) (slotWords w t j))
 unfoldable pub checkTwice : ℕ → List ℕ → Check
 checkTwice w t = lowest Twice (twiceAt w t) (slots w t)
 
--- 4: an earlier overlapping rule has no higher priority
+-- 4: an earlier overlapping rule has no higher rank
 unfoldable pub disorderAt : ℕ → List ℕ → ℕ → Bool
 disorderAt w t j = any (λ (i : ℕ). misordered w (slotWords w t i) (slotWords w t j)) j
 

@@ -17,14 +17,14 @@ use Rattle.ternary.specs.PatternLaws.{matches-cong, overlaps-cong, within-cong}
 use Rattle.layout.specs.Order.{Laws, InOrder as LayoutInOrder}
 use Rattle.layout.specs.Held.{Unique}
 use Rattle.layout.specs.HeldLaws.{unique-earlier}
-use Rattle.records.specs.Record.{word, listed, recordWords, slotWords, value, mask, ident, action, rank, empty, occupied, sound, soundParts}
+use Rattle.records.specs.Record.{word, listed, recordWords, slotWords, value, mask, ident, action, rank, empty, occupied, rankFits, sound, soundParts}
 use Rattle.records.specs.Record.{slotMatches, recordOf}
 use Rattle.records.specs.Order.{slots, overlapping, sameId, distinct, misordered, InOrder}
 use Rattle.records.specs.Checks.{checkShape, checkTwice, checkOrder}
 use Rattle.records.specs.Laws.{shape-law, empty-law, ident-occupied, twice-law, same-id-law, misordered-law, ordered-law, order-law}
 use Rattle.records.specs.declared.Check.the-variants.{Pass}
 use Rattle.records.specs.declared.Rule.{Rule}
-use Rattle.records.specs.RulesLaws.{length-listed, word-listed, record-ident}
+use Rattle.records.specs.RulesLaws.{length-listed, word-listed, record-ident, fits-cong}
 use Rattle.records.specs.Entries.{entryAt, entrySame, entryMisordered, entryOccupied, SameRecord, vacant, entries}
 
 -- a layout of entries is in order, and each id stands once
@@ -88,8 +88,8 @@ module _ (w : ℕ) {x x′ y y′ : Words} (left : SameRecord w x x′) (right :
 pub sound-same : (w : ℕ) (x y : Words) → SameRecord w x y → sound w x ≡ sound w y
 unfolding soundParts
 sound-same w x y s =
-    ap₂ (λ (i p : ℕ). soundParts w i p (value x) (mask w x)) (ident-cong w s) (rank-cong w s)
-    ∙ ap (λ (b : Bool). not (eqb (ident w y) 0) && leb (rank w y) 65535 && b) (within-cong w (value-cong w s) (mask-cong w s))
+    ap₂ (λ (i : ℕ) (b : Bool). soundParts w i b (value x) (mask w x)) (ident-cong w s) (fits-cong w (rank-cong w s) (mask-cong w s))
+    ∙ ap (λ (b : Bool). not (eqb (ident w y) 0) && rankFits w (rank w y) (mask w y) && b) (within-cong w (value-cong w s) (mask-cong w s))
 
 -- a record as a list has the record's words
 pub listed-same : (w : ℕ) (x : Words) → SameRecord w (word (listed (recordWords w) x)) x

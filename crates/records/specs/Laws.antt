@@ -1,7 +1,7 @@
 -- End theorems on the checks, in document 01's words: shape, records, ids and order, each exactly, and each spot the lowest.
 -- These are the sentences a reader goes by; callers cite them and not the text of the definitions.
 use mathlib.Core.Path.{_≡_, refl, sym, ap, _∙_}
-use mathlib.Core.Bool.{Bool, true, false, not, cond, _&&_, and-comm, false≢true, true≢false}
+use mathlib.Core.Bool.{Bool, true, false, not, cond, _&&_, _||_, and-comm, and-false, false≢true, true≢false}
 use mathlib.Core.Logic.{_↔_, _⊎_, ⊎-elim}
 use mathlib.Core.Logic._⊎_.{inl, inr}
 use mathlib.Core.List.{List, [], _∷_}
@@ -12,19 +12,21 @@ use native.Mathlib.Omega.{arith}
 use lib.Arith.{digits-div, digits-mod}
 use lib.Dec.{eqb, ltb, leb}
 use lib.ListN.{length, getD}
-use borrow.Author.Tests.{eqb-true, eqb-false, eq-eqb, ne-eqb, leb-true, le-leb, lt-ltb, ltb-true, ltb-false, not-true}
+use borrow.Author.Tests.{eqb-true, eqb-false, eq-eqb, ne-eqb, leb-true, le-leb, lt-leb, lt-ltb, ltb-true, ltb-false, not-true}
 use Rattle.search.specs.Search.{least, Least, any}
 use Rattle.search.specs.SearchLaws.{all-law, all-not, least-law, least-cong, any-no, any-none, decided, and-law, and-left, and-right, and-both}
-use Rattle.ternary.specs.Pattern.{Words, Matches, Within, within}
-use Rattle.ternary.specs.PatternLaws.{overlaps-law, matches-law, within-law}
-use Rattle.records.specs.Record.{recordWords, slotWords, value, mask, ident, rank, empty, occupied, sound, soundParts, slotMatches}
-use Rattle.records.specs.Record.{patternMatches}
+use Rattle.ternary.specs.Pattern.{Words, Matches, Within, within, fullMask}
+use Rattle.ternary.specs.PatternLaws.{overlaps-law, matches-law, within-law, full-law}
+use Rattle.records.specs.Record.{word, recordWords, slotWords, value, mask, ident, rank, empty, occupied, rankFits, sound, soundParts, soundRule, soundLent}
+use Rattle.records.specs.Record.{slotMatches, patternMatches}
+use Rattle.records.specs.Sound.{RankFits, SoundRecord, SoundRule}
 use Rattle.records.specs.Order.{slots, overlapping, sameId, distinct, precedes, tied, misordered, Ordered, InOrder, Overlapping}
 use Rattle.records.specs.Checks.{causeNumber, Told, refusal, unless, orElse, lowest, shaped, checkShape, slotChecks, tableChecks, unsoundAt}
 use Rattle.records.specs.Checks.{checkRecords, twiceAt, checkTwice, disorderAt, checkOrder, matchesAt, firstMatch, EmptyOrSound, comparedAt, Shaped}
+use Rattle.records.specs.declared.Rule.{Rule}
 use Rattle.records.specs.declared.Cause.{Cause}
-use Rattle.records.specs.declared.Cause.the-variants.{Shape, Record, Twice, Order, Rule, Known, Unknown, Tie, Full, Crossed, Short, Write, Line}
-use Rattle.records.specs.declared.Cause.the-variants.{Image}
+use Rattle.records.specs.declared.Cause.the-variants.{Shape, Record, Twice, Order, Rule as RuleCause, Known, Unknown, Tie, Full, Crossed, Short, Write, Line}
+use Rattle.records.specs.declared.Cause.the-variants.{Image, Uncrossed, Plan, Damage, Edition, Open, Session, Absent, Room}
 use Rattle.records.specs.declared.Check.{Check}
 use Rattle.records.specs.declared.Check.the-variants.{Pass, Fail}
 use Rattle.records.specs.ChecksLaws.{lowest-at, lowest-none}
@@ -53,7 +55,7 @@ or-else-pass (Fail cause spot) y = (λ e. absurd (pass-fail e), λ p. absurd (pa
 
 -- the cause of a number: each cause has one number, and each number one cause
 causeOf : ℕ → Cause
-causeOf n = getD (Shape ∷ Record ∷ Twice ∷ Order ∷ Rule ∷ Known ∷ Unknown ∷ Tie ∷ Full ∷ Crossed ∷ Short ∷ Write ∷ Line ∷ Image ∷ []) (pred n) Shape
+causeOf n = getD (Shape ∷ Record ∷ Twice ∷ Order ∷ RuleCause ∷ Known ∷ Unknown ∷ Tie ∷ Full ∷ Crossed ∷ Short ∷ Write ∷ Line ∷ Image ∷ Uncrossed ∷ Plan ∷ Damage ∷ Edition ∷ Open ∷ Session ∷ Absent ∷ Room ∷ []) (pred n) Shape
 
 cause-back : (c : Cause) → causeOf (causeNumber c) ≡ c
 unfolding causeOf
@@ -61,7 +63,7 @@ cause-back Shape = refl
 cause-back Record = refl
 cause-back Twice = refl
 cause-back Order = refl
-cause-back Rule = refl
+cause-back RuleCause = refl
 cause-back Known = refl
 cause-back Unknown = refl
 cause-back Tie = refl
@@ -71,6 +73,14 @@ cause-back Short = refl
 cause-back Write = refl
 cause-back Line = refl
 cause-back Image = refl
+cause-back Uncrossed = refl
+cause-back Plan = refl
+cause-back Damage = refl
+cause-back Edition = refl
+cause-back Open = refl
+cause-back Session = refl
+cause-back Absent = refl
+cause-back Room = refl
 
 -- no cause has the number of a success
 pub cause-not-zero : (c : Cause) → eqb (causeNumber c) 0 ≡ false
@@ -78,7 +88,7 @@ cause-not-zero Shape = refl
 cause-not-zero Record = refl
 cause-not-zero Twice = refl
 cause-not-zero Order = refl
-cause-not-zero Rule = refl
+cause-not-zero RuleCause = refl
 cause-not-zero Known = refl
 cause-not-zero Unknown = refl
 cause-not-zero Tie = refl
@@ -88,6 +98,14 @@ cause-not-zero Short = refl
 cause-not-zero Write = refl
 cause-not-zero Line = refl
 cause-not-zero Image = refl
+cause-not-zero Uncrossed = refl
+cause-not-zero Plan = refl
+cause-not-zero Damage = refl
+cause-not-zero Edition = refl
+cause-not-zero Open = refl
+cause-not-zero Session = refl
+cause-not-zero Absent = refl
+cause-not-zero Room = refl
 
 pub cause-number-once : (c d : Cause) → causeNumber c ≡ causeNumber d → c ≡ d
 cause-number-once c d e = sym (cause-back c) ∙ (ap causeOf e ∙ cause-back d)
@@ -198,15 +216,89 @@ empty-law w x =
     let l = all-law (λ (j : ℕ). eqb (x j) 0) (recordWords w) in
     (λ e j h. eqb-true (x j) 0 (l .0 e j h), λ f. l .1 (λ j h. eq-eqb (x j) 0 (f j h)))
 
--- a sound rule: id not 0, priority at most 65,535, each value bit outside the mask 0
-pub sound-law : (w id rank : ℕ) (value mask : Words)
-    → (soundParts w id rank value mask ≡ true) ↔ ((id ≡ 0 → ⊥) × (rank ≤ 65535) × Within w value mask)
-unfolding soundParts
-sound-law w id rank value mask =
-    let tests = three (not (eqb id 0)) (leb rank 65535) (within w value mask) in (
-      λ e. let s = tests .0 e in (eqb-false id 0 (not-true (eqb id 0) (s .0)), leb-true rank 65535 (s .1), within-law w value mask .0 (s .2)),
-      λ s. tests .1 (ap not (ne-eqb id 0 (s .0)), le-leb rank 65535 (s .1), within-law w value mask .1 (s .2)),
+-- a test of two, of which the first fails, is the second; it holds where either holds
+or-right : (a b : Bool) → a ≡ false → a || b ≡ true → b ≡ true
+or-right true b f e = absurd (true≢false f)
+or-right false b f e = e
+
+or-first : (a b : Bool) → a ≡ true → a || b ≡ true
+or-first a b e = ap (λ (x : Bool). x || b) e
+
+or-second : (a b : Bool) → b ≡ true → a || b ≡ true
+or-second true b e = refl
+or-second false b e = e
+
+-- a number is one of two, as a width and an edition are
+pub one-of-two : (a b n : ℕ) → (eqb n a || eqb n b ≡ true) ↔ ((n ≡ a) ⊎ (n ≡ b))
+one-of-two a b n = (
+  λ f. ⊎-elim (λ s. inl (eqb-true n a s)) (λ s. inr (eqb-true n b (or-right (eqb n a) (eqb n b) s f))) (decided (eqb n a)),
+  λ k. ⊎-elim (λ s. or-first (eqb n a) (eqb n b) (eq-eqb n a s)) (λ s. or-second (eqb n a) (eqb n b) (eq-eqb n b s)) k,
+)
+
+-- document 02: a record's rank is at most 65,535, or 65,536 where every mask bit is set
+pub rank-law : (w rank : ℕ) (mask : Words) → (rankFits w rank mask ≡ true) ↔ RankFits w rank mask
+unfolding rankFits
+rank-law w rank mask =
+    let law = and-law (eqb rank 65536) (fullMask w mask) in
+    let bits = full-law w mask in (
+      λ e. ⊎-elim (λ low. inl (leb-true rank 65535 low))
+          (λ high. let s = law .0 (or-right (leb rank 65535) (eqb rank 65536 && fullMask w mask) high e) in inr (eqb-true rank 65536 (s .0), bits .0 (s .1)))
+          (decided (leb rank 65535)),
+      λ r. ⊎-elim (λ low. or-first (leb rank 65535) (eqb rank 65536 && fullMask w mask) (le-leb rank 65535 low))
+          (λ high. or-second (leb rank 65535) (eqb rank 65536 && fullMask w mask) (law .1 (eq-eqb rank 65536 (high .0), bits .1 (high .1)))) r,
     )
+
+-- the same as it is asked: the mask where the rank is above all priorities
+pub rank-low : (w rank : ℕ) (mask : Words) → rank ≤ 65535 → rankFits w rank mask ≡ true
+rank-low w rank mask low = rank-law w rank mask .1 (inl low)
+
+pub rank-exact : (w rank : ℕ) (mask : Words) → rank ≡ 65536 → rankFits w rank mask ≡ fullMask w mask
+unfolding rankFits
+rank-exact w rank mask e = ap (λ (r : ℕ). leb r 65535 || (eqb r 65536 && fullMask w mask)) e
+
+pub rank-past : (w rank : ℕ) (mask : Words) → 65535 < rank → (rank ≡ 65536 → ⊥) → rankFits w rank mask ≡ false
+unfolding rankFits
+rank-past w rank mask high other = rw (lt-leb rank 65535 high, ne-eqb rank 65536 other)
+
+-- a sound rule: id not 0, priority or rank in its range, each value bit outside the mask 0
+pub sound-law : (w id : ℕ) (ranged : Bool) (value mask : Words)
+    → (soundParts w id ranged value mask ≡ true) ↔ ((id ≡ 0 → ⊥) × (ranged ≡ true) × Within w value mask)
+unfolding soundParts
+sound-law w id ranged value mask =
+    let tests = three (not (eqb id 0)) ranged (within w value mask) in (
+      λ e. let s = tests .0 e in (eqb-false id 0 (not-true (eqb id 0) (s .0)), s .1, within-law w value mask .0 (s .2)),
+      λ s. tests .1 (ap not (ne-eqb id 0 (s .0)), s .1, within-law w value mask .1 (s .2)),
+    )
+
+-- of a record and of a rule that is given, in words
+pub sound-record-law : (w : ℕ) (x : Words) → (sound w x ≡ true) ↔ SoundRecord w x
+sound-record-law w x =
+    let law = sound-law w (ident w x) (rankFits w (rank w x) (mask w x)) (value x) (mask w x) in
+    let fits = rank-law w (rank w x) (mask w x) in
+    (λ e. let s = law .0 e in (s .0, fits .0 (s .1), s .2), λ s. law .1 (s .0, fits .1 (s .1), s .2))
+
+pub sound-rule-law : (w : ℕ) (r : Rule) → (soundRule w r ≡ true) ↔ SoundRule w r
+sound-rule-law w r =
+    let law = sound-law w (r .id) (leb (r .priority) 65535) (word (r .value)) (word (r .mask)) in
+    (λ e. let s = law .0 e in (s .0, leb-true (r .priority) 65535 (s .1), s .2), λ s. law .1 (s .0, le-leb (r .priority) 65535 (s .1), s .2))
+
+-- a record that is sound as a rule is given is a sound record; so a slot that is empty or holds such a rule passes check 2
+pub lent-record : (w : ℕ) (x : Words) → soundLent w x ≡ true → sound w x ≡ true
+lent-record w x e =
+    let s = sound-law w (ident w x) (leb (rank w x) 65535) (value x) (mask w x) .0 e in
+    sound-record-law w x .1 (s .0, inl (leb-true (rank w x) 65535 (s .1)), s .2)
+
+pub plain-sound : (w : ℕ) (t : List ℕ) (i : ℕ) → empty w (slotWords w t i) || soundLent w (slotWords w t i) ≡ true → unsoundAt w t i ≡ false
+unfolding unsoundAt
+plain-sound w t i e = pick (decided (empty w (slotWords w t i)))
+  where
+    pick : (empty w (slotWords w t i) ≡ true) ⊎ (empty w (slotWords w t i) ≡ false) → not (sound w (slotWords w t i)) && not (empty w (slotWords w t i)) ≡ false
+    pick (inl s) = rw (s, and-false (not (sound w (slotWords w t i))))
+    pick (inr s) = rw (lent-record w (slotWords w t i) (or-right (empty w (slotWords w t i)) (soundLent w (slotWords w t i)) s e))
+
+-- so a sound record's rank is at most 65,536
+pub sound-rank : (w : ℕ) (x : Words) → sound w x ≡ true → rank w x ≤ 65536
+sound-rank w x e = ⊎-elim (λ low. omega (arith, low)) (λ high. omega (arith, high .0)) (sound-record-law w x .0 e .1)
 
 -- exactly which keys a slot matches: those that equal its value at all bits cared for, and none where it is empty
 pub slot-matches-law : (w : ℕ) (key x : Words)
@@ -336,7 +428,7 @@ pair-law w a b test =
       λ s. whole .1 (left .1 (law .1 (s .0 .3), s .1), right .1 (ap not (ne-eqb (ident w a) (ident w b) (s .0 .2)), both .1 (s .0 .0, s .0 .1))),
     )
 
--- a pair out of order: the earlier of two overlapping rules has no higher priority
+-- a pair out of order: the earlier of two overlapping rules has no higher rank
 pub misordered-law : (w : ℕ) (a b : Words) → (misordered w a b ≡ true) ↔ (Overlapping w a b × (rank w a ≤ rank w b))
 unfolding misordered
 misordered-law w a b =
@@ -350,7 +442,7 @@ precedes-law w a b =
     let l = pair-law w a b (ltb (rank w b) (rank w a)) in
     (λ e. let p = l .0 e in (p .0, ltb-true _ _ (p .1)), λ s. l .1 (s .0, lt-ltb _ _ (s .1)))
 
--- document 01: overlap at equal priority
+-- document 01: overlap at equal priority, by document 02 at equal rank
 pub tied-law : (w : ℕ) (a b : Words) → (tied w a b ≡ true) ↔ (Overlapping w a b × (rank w a ≡ rank w b))
 unfolding tied
 tied-law w a b =
@@ -394,7 +486,7 @@ hit-id w t key e h =
     let record-at = records-law w t .0 (slot-checks-law w t .0 e .1) (firstMatch w t key) h in
     sound-law w _ _ _ _ .0 (rule-matches-law w key (slotWords w t (firstMatch w t key)) record-at .0 (first-match-law w t key .hit h) .0) .0
 
--- document 01: highest priority match. In a table that passes checks 3 and 4 every other match has a lower priority than the first.
+-- document 01: highest priority match, by document 02 of the highest rank. In a table that passes checks 3 and 4 every other match has a lower rank than the first.
 pub highest-match : (w : ℕ) (t : List ℕ) (key : Words) → checkTwice w t ≡ Pass → checkOrder w t ≡ Pass → (j : ℕ) → j < slots w t
     → slotMatches w key (slotWords w t j) ≡ true → firstMatch w t key < j → rank w (slotWords w t j) < rank w (slotWords w t (firstMatch w t key))
 highest-match w t key twice order j h m less =

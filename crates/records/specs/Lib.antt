@@ -1,6 +1,7 @@
 -- What the words of a lent table mean: slot records, rules, order, the first match, and the checks that refuse a table.
--- Record, Order, Checks: the definitions; Laws: what they say. Widths: which numbers of words the calls take. Rules: rules as records. Entries, Writes, ClassWords, Inserts: tables as layouts.
+-- Record, Order, Checks: the definitions; Laws: what they say. Widths: which numbers of words the calls take. Rules: rules as records. Editions: the rank that a rule is given. Entries, Writes, ClassWords, Inserts: tables as layouts.
 pub mod Record
+pub mod Sound
 pub mod Order
 pub mod OrderLaws
 pub mod Checks
@@ -10,6 +11,8 @@ pub mod Widths
 pub mod WidthsLaws
 pub mod Rules
 pub mod RulesLaws
+pub mod Editions
+pub mod EditionsLaws
 pub mod Entries
 pub mod EntriesLaws
 pub mod PutSlotLaws

@@ -29,7 +29,7 @@ distinct w a b = not (eqb (ident w a) (ident w b)) && (occupied w a && occupied 
 unfoldable pub precedes : ℕ → Words → Words → Bool
 precedes w a b = (overlapping w a b && ltb (rank w b) (rank w a)) && distinct w a b
 
--- document 01: an overlap at equal priority
+-- document 01: an overlap at equal priority, by document 02 at equal rank
 unfoldable pub tied : ℕ → Words → Words → Bool
 tied w a b = (overlapping w a b && eqb (rank w a) (rank w b)) && distinct w a b
 
@@ -37,7 +37,7 @@ tied w a b = (overlapping w a b && eqb (rank w a) (rank w b)) && distinct w a b
 unfoldable pub sameId : ℕ → Words → Words → Bool
 sameId w a b = eqb (ident w a) (ident w b) && (occupied w a && occupied w b)
 
--- a standing before b is out of order: two rules that overlap, and a's priority is not higher
+-- a standing before b is out of order: two rules that overlap, and a's rank is not higher
 unfoldable pub misordered : ℕ → Words → Words → Bool
 misordered w a b = (overlapping w a b && leb (rank w a) (rank w b)) && distinct w a b
 
@@ -47,12 +47,12 @@ Ordered w a b =
     occupied w a ≡ true → occupied w b ≡ true → (ident w a ≡ ident w b → ⊥)
     → Overlap w (value a) (mask w a) (value b) (mask w b) → rank w b < rank w a
 
--- document 01: of two overlapping rules in the table the one in the lower-numbered slot must have the strictly higher priority;
+-- document 01: of two overlapping rules in the table the one in the lower-numbered slot must have the strictly higher priority, by document 02 rank;
 -- copies of one id are not compared with each other
 abbrev pub InOrder : ℕ → List ℕ → Type 0
 InOrder w t = (x y : ℕ) → x < y → y < slots w t → Ordered w (slotWords w t x) (slotWords w t y)
 
--- Two rules of different ids that overlap: what every comparison of two slots asks besides their priorities.
+-- Two rules of different ids that overlap: what every comparison of two slots asks besides their ranks.
 abbrev pub Overlapping : ℕ → Words → Words → Type 0
 Overlapping w a b =
     (occupied w a ≡ true) × (occupied w b ≡ true) × (ident w a ≡ ident w b → ⊥) × Overlap w (value a) (mask w a) (value b) (mask w b)

@@ -1,4 +1,4 @@
--- Laws on a pair that is not out of order: a higher priority stands before, or a slot is empty.
+-- Laws on a pair that is not out of order: a higher rank stands before, or a slot is empty.
 use mathlib.Core.Path.{_≡_}
 use mathlib.Core.Bool.{true, false, and-false}
 use Prim.Native.Nat.{ℕ}

@@ -8,12 +8,12 @@ use native.Mathlib.Nat.{mul-le-mul-right}
 use native.Mathlib.Decide.{ℕ-discrete, decLt}
 use native.Mathlib.Omega.{arith}
 use lib.ListN.{length, getD, set, take, drop, length-append, length-drop, length-set, List·getD-append}
-use lib.Seq.{length-take-le, getD-append-add, getD-take, getD-drop, getD-set-same, getD-set-other, ext-getD}
+use lib.Seq.{length-take-le, getD-append-add, getD-take, getD-drop, getD-set-same, getD-set-other, set-append-left, ext-getD}
 use Rattle.records.specs.Record.{word, recordWords, slotWords, putSlot}
 use Rattle.records.specs.Order.{slots}
 use Rattle.records.specs.Laws.{slot-within}
 use Rattle.records.specs.Entries.{vacant, entryAt, entries, SameRecord}
-use Rattle.records.specs.RulesLaws.{listed-words, listed-cong}
+use Rattle.records.specs.RulesLaws.{set-behind, listed-words, listed-cong}
 use Rattle.records.specs.EntriesLaws.{entries-length, entry-at}
 
 module _ (w : ℕ) (t : List ℕ) (i : ℕ) (x : List ℕ) (inside : i < slots w t) (whole : length x ≡ recordWords w) where
@@ -54,6 +54,14 @@ module _ (w : ℕ) (t : List ℕ) (i : ℕ) (x : List ℕ) (inside : i < slots w
       ap (λ (n : ℕ). getD (take (i * recordWords w) t ++ x ++ drop (i * recordWords w + recordWords w) t) n 0) (sym there)
       ∙ (getD-append-add (take (i * recordWords w) t ++ x) (drop (i * recordWords w + recordWords w) t) m 0
       ∙ (getD-drop (i * recordWords w + recordWords w) t m 0 ∙ ap (λ (n : ℕ). getD t n 0) back))
+
+  -- a word stored in the slot is stored in the record
+  pub put-word : (j v : ℕ) → j < recordWords w → set (putSlot w t i x) (i * recordWords w + j) v ≡ putSlot w t i (set x j v)
+  unfolding putSlot
+  put-word j v h =
+      set-append-left (take (i * recordWords w) t ++ x) (drop (i * recordWords w + recordWords w) t) (i * recordWords w + j) v (omega (arith, front))
+      ∙ ap (λ (l : List ℕ). l ++ drop (i * recordWords w + recordWords w) t)
+      (ap (λ (k : ℕ). set (take (i * recordWords w) t ++ x) (k + j) v) (sym start) ∙ set-behind (take (i * recordWords w) t) x j v)
 
   -- each other slot keeps its words
   pub put-other : (k : ℕ) → k ≢ i → SameRecord w (slotWords w (putSlot w t i x) k) (slotWords w t k)

@@ -1,12 +1,12 @@
 -- Slot records: which word is what, when a slot is empty, when a rule is sound, and a rule's record.
 -- w is the number of words of a value; document 01 has two, so that a record has six.
-use mathlib.Core.Bool.{Bool, not, _&&_}
+use mathlib.Core.Bool.{Bool, not, _&&_, _||_}
 use mathlib.Core.List.{List, [], _∷_, _++_}
 use Prim.Native.Nat.{ℕ, zero, suc, _+_, _*_, _/_, _%_, min}
 use lib.Dec.{eqb, leb}
 use lib.ListN.{getD, take, drop}
 use Rattle.search.specs.Search.{all}
-use Rattle.ternary.specs.Pattern.{Words, matches, within}
+use Rattle.ternary.specs.Pattern.{Words, matches, within, fullMask}
 use Rattle.records.specs.declared.Rule.{Rule}
 
 -- the words of a list, by their index
@@ -33,7 +33,7 @@ mostWords w = mostSlots * recordWords w
 abbrev pub slotWords : ℕ → List ℕ → ℕ → Words
 slotWords w t i j = getD t (i * recordWords w + j) 0
 
--- the parts of a record: value words, mask words, id × 2^32 + action, priority (called rank: the number that order compares)
+-- the parts of a record: value words, mask words, id × 2^32 + action, rank (the number that order compares: document 01's priority, document 02's rank)
 abbrev pub value : Words → Words
 value x j = x j
 
@@ -56,15 +56,27 @@ empty w x = all (λ (j : ℕ). eqb (x j) 0) (recordWords w)
 abbrev pub occupied : ℕ → Words → Bool
 occupied w x = not (empty w x)
 
--- document 01: id not 0, priority 0 to 65,535, each value bit outside the mask 0
-unfoldable pub soundParts : ℕ → ℕ → ℕ → Words → Words → Bool
-soundParts w id rank value mask = not (eqb id 0) && leb rank 65535 && within w value mask
+-- document 02: a record's rank is a priority, or 65,536 where every mask bit is set
+unfoldable pub rankFits : ℕ → ℕ → Words → Bool
+rankFits w rank mask = leb rank 65535 || (eqb rank 65536 && fullMask w mask)
 
+-- document 01: id not 0, priority in its range, each value bit outside the mask 0
+unfoldable pub soundParts : ℕ → ℕ → Bool → Words → Words → Bool
+soundParts w id ranged value mask = not (eqb id 0) && ranged && within w value mask
+
+-- a record of a table, and a rule with its rank for its priority
 abbrev pub sound : ℕ → Words → Bool
-sound w x = soundParts w (ident w x) (rank w x) (value x) (mask w x)
+sound w x = soundParts w (ident w x) (rankFits w (rank w x) (mask w x)) (value x) (mask w x)
 
+abbrev pub soundRanked : ℕ → Rule → Bool
+soundRanked w r = soundParts w (r .id) (rankFits w (r .priority) (word (r .mask))) (word (r .value)) (word (r .mask))
+
+-- a rule as a call is given it, priority 0 to 65,535; and one that is lent as a record, whose last word is that priority
 abbrev pub soundRule : ℕ → Rule → Bool
-soundRule w r = soundParts w (r .id) (r .priority) (word (r .value)) (word (r .mask))
+soundRule w r = soundParts w (r .id) (leb (r .priority) 65535) (word (r .value)) (word (r .mask))
+
+abbrev pub soundLent : ℕ → Words → Bool
+soundLent w x = soundParts w (ident w x) (leb (rank w x) 65535) (value x) (mask w x)
 
 abbrev pub patternMatches : ℕ → Words → Words → Bool
 patternMatches w key x = matches w key (value x) (mask w x)

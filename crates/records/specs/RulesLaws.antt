@@ -1,21 +1,21 @@
 -- End theorems on a rule and its slot record: each field of the record is the rule's, and there and back nothing is lost where the priority has 32 bits.
 -- So the record, which a table holds, and the rule, which a call takes, say the same.
 use mathlib.Core.Path.{_≡_, refl, sym, ap, ap₂, _∙_}
-use mathlib.Core.Bool.{Bool, true, not, _&&_}
+use mathlib.Core.Bool.{Bool, not, _&&_, _||_}
 use mathlib.Core.List.{List, [], _∷_, _++_}
 use Prim.Native.Nat.{ℕ, zero, suc, _+_, _-_, _*_, _/_, _%_, _≤_, _<_, min}
-use native.Mathlib.Nat.{div-add-mod', mod-lt}
+use native.Mathlib.Nat.{zero-add, suc-add, div-add-mod', mod-lt}
 use native.Mathlib.Decide.{ℕ-discrete, decLt, decLe}
 use native.Mathlib.Omega.{arith}
 use lib.Arith.{digits-div, digits-mod}
 use lib.Dec.{eqb, leb}
 use borrow.Author.Tests.{le-leb, lt-leb}
-use lib.ListN.{length, getD, replicate, length-append, List·getD-append}
+use lib.ListN.{length, getD, set, replicate, length-append, List·getD-append}
 use lib.Seq.{getD-append-add, getD-at, ext-getD}
-use Rattle.ternary.specs.Pattern.{Words}
-use Rattle.ternary.specs.PatternLaws.{within-cong}
-use Rattle.records.specs.Record.{word, listed, recordWords, value, mask, ident, action, rank, sound, soundParts, soundRule, recordOf, ruleOf}
-use Rattle.records.specs.Laws.{sound-law}
+use Rattle.ternary.specs.Pattern.{Words, fullMask}
+use Rattle.ternary.specs.PatternLaws.{within-cong, full-cong}
+use Rattle.records.specs.Record.{word, listed, recordWords, value, mask, ident, action, rank, rankFits, sound, soundParts, soundRanked, soundRule}
+use Rattle.records.specs.Record.{soundLent, recordOf, ruleOf}
 use Rattle.records.specs.declared.Rule.{Rule}
 use Rattle.records.specs.Rules.{Fields}
 
@@ -49,10 +49,22 @@ unfolding listed
 listed-cong zero h = refl
 listed-cong (suc n) {f} {g} h = rw (listed-cong n (λ j l. h j (omega arith)), h n (omega arith))
 
-sound-cong : (w id rank : ℕ) {v v′ m m′ : Words} → ((j : ℕ) → j < w → v j ≡ v′ j) → ((j : ℕ) → j < w → m j ≡ m′ j)
-    → soundParts w id rank v m ≡ soundParts w id rank v′ m′
+sound-cong : (w id : ℕ) (ranged : Bool) {v v′ m m′ : Words} → ((j : ℕ) → j < w → v j ≡ v′ j) → ((j : ℕ) → j < w → m j ≡ m′ j)
+    → soundParts w id ranged v m ≡ soundParts w id ranged v′ m′
 unfolding soundParts
-sound-cong w id rank hv hm = ap (λ (b : Bool). not (eqb id 0) && leb rank 65535 && b) (within-cong w hv hm)
+sound-cong w id ranged hv hm = ap (λ (b : Bool). not (eqb id 0) && ranged && b) (within-cong w hv hm)
+
+-- a rank's range reads the mask's words alone
+pub fits-cong : (w : ℕ) {rank rank′ : ℕ} {m m′ : Words} → rank ≡ rank′ → ((j : ℕ) → j < w → m j ≡ m′ j) → rankFits w rank m ≡ rankFits w rank′ m′
+unfolding rankFits
+fits-cong w {rank = rank} {m′ = m′} e hm =
+    ap (λ (b : Bool). leb rank 65535 || (eqb rank 65536 && b)) (full-cong w hm)
+    ∙ ap (λ (r : ℕ). leb r 65535 || (eqb r 65536 && fullMask w m′)) e
+
+-- a word stored past a list's front is stored in its rest
+pub set-behind : (xs ys : List ℕ) (n a : ℕ) → set (xs ++ ys) (length xs + n) a ≡ xs ++ set ys n a
+set-behind [] ys n a = ap (λ (k : ℕ). set ys k a) (zero-add n)
+set-behind (x ∷ xs) ys n a = ap (λ (k : ℕ). set (x ∷ (xs ++ ys)) k a) (suc-add (length xs) n) ∙ ap (λ (l : List ℕ). x ∷ l) (set-behind xs ys n a)
 
 -- the words of a record that is put together from its parts
 module _ (w : ℕ) (values masks : Words) (both priority : ℕ) where
@@ -118,11 +130,17 @@ module _ (w : ℕ) (r : Rule) where
   pub record-action : r .action < 4294967296 → action w (word (recordOf w r)) ≡ r .action
   record-action h = ap (λ (x : ℕ). x % 4294967296) record-both ∙ digits-mod (r .id) h
 
-  -- a rule is sound exactly when its record is
-  pub record-sound : r .action < 4294967296 → sound w (word (recordOf w r)) ≡ soundRule w r
+  -- a rule with its rank is sound exactly when its record is
+  pub record-sound : r .action < 4294967296 → sound w (word (recordOf w r)) ≡ soundRanked w r
   record-sound h =
-      ap₂ (λ (i p : ℕ). soundParts w i p (value (word (recordOf w r))) (mask w (word (recordOf w r)))) (record-ident h) record-rank
-      ∙ sound-cong w (r .id) (r .priority) record-value record-mask
+      ap₂ (λ (i : ℕ) (b : Bool). soundParts w i b (value (word (recordOf w r))) (mask w (word (recordOf w r)))) (record-ident h) (fits-cong w record-rank record-mask)
+      ∙ sound-cong w (r .id) (rankFits w (r .priority) (word (r .mask))) record-value record-mask
+
+  -- as a rule that is given it is sound exactly when its record, lent as a rule, is
+  pub record-lent : r .action < 4294967296 → soundLent w (word (recordOf w r)) ≡ soundRule w r
+  record-lent h =
+      ap₂ (λ (i p : ℕ). soundParts w i (leb p 65535) (value (word (recordOf w r))) (mask w (word (recordOf w r)))) (record-ident h) record-rank
+      ∙ sound-cong w (r .id) (leb (r .priority) 65535) record-value record-mask
 
   -- there and back: the rule
   pub rule-of-record : Fields w r → ruleOf w (word (recordOf w r)) ≡ r
@@ -160,12 +178,12 @@ module _ (w : ℕ) (x : Words) (small : rank w x < 4294967296) where
       (record-length w (ruleOf w x) ∙ sym (length-listed (recordWords w) x))
       (λ j l. let h : j < recordWords w = (let e = record-length w (ruleOf w x) in omega arith) in word-of-rule j h ∙ sym (word-listed (recordWords w) x j h))
 
--- a record and its rule are sound alike, whatever the record's words
-pub rule-sound : (w : ℕ) (x : Words) → soundRule w (ruleOf w x) ≡ sound w x
-unfolding ruleOf soundParts
+-- a record that is lent as a rule and the rule are sound alike, whatever its words
+pub rule-sound : (w : ℕ) (x : Words) → soundRule w (ruleOf w x) ≡ soundLent w x
+unfolding ruleOf
 rule-sound w x =
-    ap₂ (λ (p v : Bool). not (eqb (ident w x) 0) && p && v) (limit (rank w x))
-    (within-cong w (word-listed w (value x)) (word-listed w (mask w x)))
+    ap (λ (b : Bool). soundParts w (ident w x) b (word (listed w (value x))) (word (listed w (mask w x)))) (limit (rank w x))
+    ∙ sound-cong w (ident w x) (leb (rank w x) 65535) (word-listed w (value x)) (word-listed w (mask w x))
   where
     limit : (r : ℕ) → leb (min r 4294967295) 65535 ≡ leb r 65535
     limit r = pick (decLe r 65535)
@@ -174,10 +192,9 @@ rule-sound w x =
         pick (yes h) = le-leb (min r 4294967295) 65535 (omega arith) ∙ sym (le-leb r 65535 h)
         pick (no h) = lt-leb (min r 4294967295) 65535 (omega arith) ∙ sym (lt-leb r 65535 (omega arith))
 
--- a record lent as a sound rule is the record of its rule
-pub given-record : (w : ℕ) (l : List ℕ) → length l ≡ recordWords w → sound w (word l) ≡ true → recordOf w (ruleOf w (word l)) ≡ l
-given-record w l size e =
-    record-of-rule w (word l) (let h = sound-law w _ _ _ _ .0 e in omega (arith, h .1)) ∙ listed-words (recordWords w) l size
+-- a record whose last word has 32 bits is the record of its rule
+pub given-record : (w : ℕ) (l : List ℕ) → length l ≡ recordWords w → rank w (word l) < 4294967296 → recordOf w (ruleOf w (word l)) ≡ l
+given-record w l size small = record-of-rule w (word l) small ∙ listed-words (recordWords w) l size
 
 -- an action has 32 bits
 pub rule-action : (w : ℕ) (x : Words) → ruleOf w x .action < 4294967296

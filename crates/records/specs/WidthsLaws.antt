@@ -1,6 +1,6 @@
--- Laws on widths: what the check of a width means, and the slots of a table at one.
-use mathlib.Core.Path.{_≡_, refl, ap, _∙_, fun-ext}
-use mathlib.Core.Bool.{Bool, true, false, _||_, true≢false}
+-- Laws on widths: what the check of a width means, how a call ends behind such a check, and the slots of a table at one.
+use mathlib.Core.Path.{_≡_, refl, sym, ap, _∙_, fun-ext}
+use mathlib.Core.Bool.{true, _||_}
 use mathlib.Core.Logic.{_↔_, ⊎-elim}
 use mathlib.Core.Logic._⊎_.{inl, inr}
 use mathlib.Core.List.{List}
@@ -10,14 +10,15 @@ use native.Mathlib.Omega.{arith}
 use lib.Dec.{eqb}
 use lib.ListN.{length}
 use borrow.Author.Tests.{eqb-true, eq-eqb}
-use Rattle.search.specs.SearchLaws.{decided}
 use Rattle.records.specs.Record.{word, recordWords, slotWords}
 use Rattle.records.specs.Order.{slots}
-use Rattle.records.specs.Checks.{orElse}
-use Rattle.records.specs.Laws.{pass-law, or-else-pass}
-use Rattle.records.specs.Widths.{known, Width, checkWidth, checkWords, checkKey, checkRule}
+use Rattle.records.specs.Checks.{Told, refusal, unless, orElse}
+use Rattle.records.specs.Laws.{one-of-two, pass-law, or-else-pass, told-refused, told-answered}
+use Rattle.records.specs.Widths.{known, Width, checkWidth, checkWords, checkKey, checkRule, leaves}
+use Rattle.records.specs.declared.Cause.{Cause}
 use Rattle.records.specs.declared.Cause.the-variants.{Shape}
-use Rattle.records.specs.declared.Check.the-variants.{Pass}
+use Rattle.records.specs.declared.Check.{Check}
+use Rattle.records.specs.declared.Check.the-variants.{Pass, Fail}
 
 pub two : Width 2
 two = (omega arith, omega arith, inl refl)
@@ -36,21 +37,10 @@ unfolding known
 known-law w = (to, from)
   where
     to : eqb w 2 || eqb w 5 ≡ true → Width w
-    to e = ⊎-elim (λ narrow. at-two (eqb-true w 2 narrow)) (λ other. at-five (eqb-true w 5 (wide other e))) (decided (eqb w 2))
-      where
-        at-two : w ≡ 2 → Width w
-        at-two same = (omega arith, omega arith, inl same)
-
-        at-five : w ≡ 5 → Width w
-        at-five same = (omega arith, omega arith, inr same)
-
-        wide : {a b : Bool} → a ≡ false → a || b ≡ true → b ≡ true
-        wide {a = true} f g = absurd (true≢false f)
-        wide {a = false} f g = g
+    to e = ⊎-elim (λ same. (omega arith, omega arith, inl same)) (λ same. (omega arith, omega arith, inr same)) (one-of-two 2 5 w .0 e)
 
     from : Width w → eqb w 2 || eqb w 5 ≡ true
-    from (l, h, inl e) = ap (λ (k : ℕ). eqb k 2 || eqb k 5) e
-    from (l, h, inr e) = ap (λ (k : ℕ). eqb k 2 || eqb k 5) e
+    from known = one-of-two 2 5 w .1 (known .2)
 
 pub width-law : (w : ℕ) → (checkWidth w ≡ Pass) ↔ Width w
 unfolding checkWidth
@@ -87,3 +77,12 @@ lent-slot w l size = let one : slots w l ≡ 1 = ap (λ (n : ℕ). n / recordWor
 
 pub lent-words : (w : ℕ) (l : List ℕ) → slotWords w l 0 ≡ word l
 lent-words w l = fun-ext (λ j. ap (word l) (ap (λ (k : ℕ). k + j) (zero-mul (recordWords w)) ∙ zero-add j))
+
+-- a call behind a check of its own ends in one of two ways: refused, with the lent words as they were, or as what stands behind the check ends
+pub call-refused : {x y : Check} {cause : Cause} {spot : ℕ} (answer : Told) (after before : List ℕ) → x ≡ y → x ≡ Fail cause spot
+    → (refusal cause spot ≡ unless y answer) × (before ≡ leaves y after before)
+call-refused answer after before e f = (told-refused answer e f, ap (λ (z : Check). leaves z after before) (sym f ∙ e))
+
+pub call-answered : {x y : Check} {told answer : Told} {left after : List ℕ} (before : List ℕ) → x ≡ y → x ≡ Pass → (told ≡ answer) × (left ≡ after)
+    → (told ≡ unless y answer) × (left ≡ leaves y after before)
+call-answered {after = after} before e f h = (told-answered e f (h .0), h .1 ∙ ap (λ (z : Check). leaves z after before) (sym f ∙ e))

@@ -1,10 +1,11 @@
-// A rule, the sizes of records and tables, the causes of refusals and what a check answers; specs/ has what the words of a lent table mean, for any
+// A rule, the sizes of records and tables, the editions, the causes of refusals and what a check answers; specs/ has what the words of a lent table mean, for any
 // number of words of a value. The code that reads the words is in `slots`, the checks of a whole table in `table_checks`.
 ghost use mathlib.Core.Path.{_≡_};
 ghost use Prim.Native.Nat.{_≤_};
 ghost use Rattle.records.specs.Record.{recordWords};
 ghost use Rattle.records.specs.Checks.{causeNumber};
 ghost use Rattle.records.specs.Widths.{checkWidth, checkWords, checkKey, checkRule};
+ghost use Rattle.records.specs.Editions.{checkEdition};
 
 // How many words a value has, and a mask: document 01's two, or document 02's five.
 pub const NARROW: usize = 2;
@@ -25,12 +26,22 @@ pub const NARROW_RECORD: usize = 6;
 
 pub const WIDE_RECORD: usize = 12;
 
+// The editions of OpenFlow that a call may name with a rule: 1.0, in which a rule without wildcards stands above all that have them, and 1.3.
+pub const EDITION_10: u32 = 10;
+
+pub const EDITION_13: u32 = 13;
+
+// The highest priority that a rule is given with, and the rank above all priorities.
+pub const MOST_PRIORITY: u64 = 65535;
+
+pub const EXACT_RANK: u64 = 65536;
+
 // How a call reads its tables.
 pub struct Mode {
     pub width: usize,
 }
 
-// How many words a slot record has: value, mask, id and action, priority.
+// How many words a slot record has: value, mask, id and action, rank.
 pub fn record_words(width: usize) -> usize
     requires { ⌜ width ≤ 5 ⌝ }
     ensures { λ r. ⌜ r ≡ recordWords width ⌝ }
@@ -47,7 +58,8 @@ pub struct Rule {
     pub action: u32,
 }
 
-// Why a call declines: the causes of document 01, in the order of their numbers.
+// Why a call declines: the causes of document 01 and, from Uncrossed on, those of document 02, in the order of their numbers. Of the latter
+// Edition alone is returned by a call as yet.
 pub enum Cause {
     Shape,
     Record,
@@ -63,6 +75,14 @@ pub enum Cause {
     Write,
     Line,
     Image,
+    Uncrossed,
+    Plan,
+    Damage,
+    Edition,
+    Open,
+    Session,
+    Absent,
+    Room,
 }
 
 // What a check of a table answers: it passes, or fails with its cause and spot.
@@ -71,7 +91,7 @@ pub enum Check {
     Fail(Cause, u32),
 }
 
-// Document 01's number of a cause.
+// The number of a cause.
 pub fn cause_number(cause: Cause) -> u32
     ensures { λ r. ⌜ r ≡ causeNumber cause ⌝ }
 {
@@ -90,6 +110,14 @@ pub fn cause_number(cause: Cause) -> u32
         Cause::Write => 12,
         Cause::Line => 13,
         Cause::Image => 14,
+        Cause::Uncrossed => 15,
+        Cause::Plan => 16,
+        Cause::Damage => 17,
+        Cause::Edition => 18,
+        Cause::Open => 19,
+        Cause::Session => 20,
+        Cause::Absent => 21,
+        Cause::Room => 22,
     }
 }
 
@@ -133,4 +161,14 @@ pub fn check_rule(width: usize, words: usize) -> Check
         return Check::Fail(cause, spot);
     }
     check_words(words, record_words(width))
+}
+
+// 18 for an edition that is neither 1.0 nor 1.3.
+pub fn check_edition(edition: u32) -> Check
+    ensures { λ r. ⌜ r ≡ checkEdition edition ⌝ }
+{
+    if (edition == EDITION_10) | (edition == EDITION_13) {
+        return Check::Pass;
+    }
+    Check::Fail(Cause::Edition, 0)
 }

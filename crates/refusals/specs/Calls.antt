@@ -7,31 +7,23 @@ use mathlib.Core.Logic.{_⊎_}
 use mathlib.Core.List.{List, [], _∷_, _++_}
 use Prim.Native.Nat.{ℕ, zero, suc, _+_, _≤_, _<_}
 use lib.ListN.{length, getD}
-use Rattle.ternary.specs.Pattern.{Words, Within}
+use Rattle.ternary.specs.Pattern.{Words}
 use Rattle.layout.specs.Write.{put}
 use Rattle.plan_words.specs.PlanWords.{writeOf}
-use Rattle.records.specs.Record.{word, recordWords, slotWords, occupied, ident, rank, value, mask, recordOf, ruleOf}
+use Rattle.records.specs.Record.{word, recordWords, slotWords, occupied, ident, rank, recordOf}
+use Rattle.records.specs.Sound.{SoundRecord, SoundRule}
 use Rattle.records.specs.Order.{slots, Overlapping}
 use Rattle.records.specs.Checks.{Shaped}
 use Rattle.records.specs.Entries.{entries}
 use Rattle.records.specs.Writes.{EntryFits}
+use Rattle.records.specs.Editions.{Given, lentRule, ranked}
 use Rattle.records.specs.declared.Rule.{Rule}
 use Rattle.records.specs.declared.Cause.the-variants.{Shape, Record, Twice, Order, Rule as RuleCause, Known, Unknown, Tie, Full, Crossed, Short}
-use Rattle.records.specs.declared.Cause.the-variants.{Write as WriteCause, Image}
+use Rattle.records.specs.declared.Cause.the-variants.{Write as WriteCause, Image, Edition as EditionCause}
 use Rattle.insert_plans.specs.Inserts.{insertWords}
 use Rattle.image.specs.Format.{imageBytes, bodyPlace, entryPlace, ruleCount, slotsIn, rulesIn, idAt, entrySlot, offsetAt, recordAt}
 use Rattle.image.specs.Checks.{lowestSlot, meant}
 use Rattle.refusals.specs.Rows.{Row, rowAt, slotRow}
-
--- a sound rule: id not 0, priority at most 65,535, each value bit outside the mask 0
-abbrev pub SoundParts : ℕ → ℕ → ℕ → Words → Words → Type 0
-SoundParts w id priority values masks = (id ≡ 0 → ⊥) × (priority ≤ 65535) × Within w values masks
-
-abbrev pub SoundRecord : ℕ → Words → Type 0
-SoundRecord w x = SoundParts w (ident w x) (rank w x) (value x) (mask w x)
-
-abbrev pub SoundRule : ℕ → Rule → Type 0
-SoundRule w rule = SoundParts w (rule .id) (rule .priority) (word (rule .value)) (word (rule .mask))
 
 -- two rules of one id
 abbrev pub OneId : ℕ → Words → Words → Type 0
@@ -41,7 +33,7 @@ OneId w a b = (occupied w a ≡ true) × (occupied w b ≡ true) × (ident w a �
 abbrev pub Precedes : ℕ → Words → Words → Type 0
 Precedes w a b = Overlapping w a b × (rank w b < rank w a)
 
--- the first of an overlapping pair has no higher priority; the two have the same
+-- the first of an overlapping pair has no higher rank; the two have the same
 abbrev pub NotHigher : ℕ → Words → Words → Type 0
 NotHigher w a b = Overlapping w a b × (rank w a ≤ rank w b)
 
@@ -61,7 +53,7 @@ module _ (w : ℕ) (t : List ℕ) where
   abbrev pub twiceRow : Row
   twiceRow = slotRow Twice (slots w t) (λ j. (i : ℕ) × (i < j) × OneId w (slotWords w t i) (slotWords w t j))
 
-  -- 4: an earlier overlapping rule has no higher priority
+  -- 4: an earlier overlapping rule has no higher rank
   abbrev pub orderRow : Row
   orderRow = slotRow Order (slots w t) (λ j. (i : ℕ) × (i < j) × NotHigher w (slotWords w t i) (slotWords w t j))
 
@@ -79,7 +71,7 @@ module _ (w : ℕ) (t : List ℕ) where
   abbrev pub unknownRow : ℕ → Row
   unknownRow id = rowAt Unknown ((i : ℕ) → i < slots w t → occupied w (slotWords w t i) ≡ true → ident w (slotWords w t i) ≡ id → ⊥) 0
 
-  -- 8: overlap at equal priority
+  -- 8: overlap at equal rank
   abbrev pub tieRow : Words → Row
   tieRow new = slotRow Tie (slots w t) (λ i. Ties w (slotWords w t i) new)
 
@@ -100,12 +92,19 @@ module _ (w : ℕ) (t : List ℕ) where
     spot = IsA new;
   }
 
--- 5: rule unsound, or id 0 to delete
+-- 5: rule unsound, as it is given: its priority is at most 65,535; or id 0 to delete
 abbrev pub ruleRow : ℕ → Rule → Row
 ruleRow w rule = rowAt RuleCause (SoundRule w rule → ⊥) 0
 
 abbrev pub idRow : ℕ → Row
 idRow id = rowAt RuleCause (id ≡ 0) 0
+
+-- 18: the edition is neither 1.0 nor 1.3
+abbrev pub OtherEdition : ℕ → Type 0
+OtherEdition e = (e ≡ 10 → ⊥) × (e ≡ 13 → ⊥)
+
+abbrev pub editionRow : ℕ → Row
+editionRow e = rowAt EditionCause (OtherEdition e) 0
 
 -- 11: plan or image buffer too short: the words or bytes needed, and those that there are
 abbrev pub shortRow : ℕ → ℕ → Row
@@ -115,18 +114,19 @@ shortRow needed room = rowAt Short (room < needed) needed
 abbrev pub lookupRows : ℕ → List ℕ → List Row
 lookupRows w t = slotRows w t
 
--- planning makes checks 1 to 11, as far as each applies; those of a table and a rule, or an id, alone
-abbrev pub newRuleRows : ℕ → List ℕ → Rule → List Row
-newRuleRows w t rule =
-    let new = word (recordOf w rule) in
-    tableRows w t ++ (ruleRow w rule ∷ knownRow w t new ∷ tieRow w t new ∷ fullRow w t ∷ crossedRow w t new ∷ [])
+-- planning makes checks 1 to 11, as far as each applies, and 18 after 5; those of a table and a rule, or an id, alone. From 6 on the rule has its rank
+abbrev pub newRuleRows : ℕ → List ℕ → Given → List Row
+newRuleRows w t given =
+    let new = word (recordOf w (ranked w given)) in
+    tableRows w t
+    ++ (ruleRow w (given .rule) ∷ editionRow (given .edition) ∷ knownRow w t new ∷ tieRow w t new ∷ fullRow w t ∷ crossedRow w t new ∷ [])
 
 abbrev pub oldRuleRows : ℕ → List ℕ → ℕ → List Row
 oldRuleRows w t id = tableRows w t ++ (idRow id ∷ unknownRow w t id ∷ [])
 
 -- and with a buffer of so many words
-abbrev pub insertRows : ℕ → List ℕ → Rule → ℕ → List Row
-insertRows w t rule room = newRuleRows w t rule ++ (shortRow (length (insertWords w t rule)) room ∷ [])
+abbrev pub insertRows : ℕ → List ℕ → Given → ℕ → List Row
+insertRows w t given room = newRuleRows w t given ++ (shortRow (length (insertWords w t (ranked w given))) room ∷ [])
 
 abbrev pub deleteRows : ℕ → List ℕ → ℕ → ℕ → List Row
 deleteRows w t id room = oldRuleRows w t id ++ (shortRow 1 room ∷ [])
@@ -135,14 +135,15 @@ deleteRows w t id room = oldRuleRows w t id ++ (shortRow 1 room ∷ [])
 abbrev pub saveRows : ℕ → List ℕ → ℕ → List Row
 saveRows w t room = tableRows w t ++ (shortRow (imageBytes w (ruleCount w t)) room ∷ [])
 
--- carrying out: 1, 2; then 12 if done > in all or in all > the plan's words; then, where the next write is to be made, 5 for an unsound rule where one is
--- put in, and 12 unless it fits
-abbrev pub stepRows : ℕ → List ℕ → List ℕ → Rule → ℕ → ℕ → List Row
-stepRows w t plan rule done total =
+-- carrying out: 1, 2; then 12 if done > in all or in all > the plan's words; then, where the next write is to be made, 5 for an unsound rule and 18 for
+-- another edition where a rule is put in, and 12 unless it fits
+abbrev pub stepRows : ℕ → List ℕ → List ℕ → Given → ℕ → ℕ → List Row
+stepRows w t plan given done total =
     let next = writeOf (getD plan done 0) in
     slotRows w t
     ++ (rowAt WriteCause ((total < done) ⊎ (length plan < total)) done ∷ [])
-    ++ (rowAt RuleCause ((done < total) × ((to : ℕ) × (next ≡ put to)) × (SoundRule w rule → ⊥)) 0
+    ++ (rowAt RuleCause ((done < total) × ((to : ℕ) × (next ≡ put to)) × (SoundRule w (given .rule) → ⊥)) 0
+    ∷ rowAt EditionCause ((done < total) × ((to : ℕ) × (next ≡ put to)) × OtherEdition (given .edition)) 0
     ∷ rowAt WriteCause ((done < total) × (EntryFits w (entries w t) next → ⊥)) done
     ∷ [])
 
@@ -164,7 +165,7 @@ entryRows w b n e k =
     ∷ fieldRow (offsetAt b k ≡ bodyPlace w e k → ⊥) (entryPlace k + 6)
     ∷ []
 
--- body k: an unsound value or priority
+-- body k: an unsound value or rank
 abbrev pub bodyRows : ℕ → List ℕ → ℕ → ℕ → List Row
 bodyRows w b e k = fieldRow (SoundRecord w (word (recordAt w b e k)) → ⊥) (bodyPlace w e k) ∷ []
 
@@ -194,12 +195,12 @@ abbrev pub rowsOr : Type 0 → List Row → List Row
 rowsOr Other [] = []
 rowsOr Other (row ∷ rows) = record { cause = row .cause; condition = Other ⊎ row .condition; spot = row .spot } ∷ rows
 
--- each exported call, on what is lent to it: of a rule its record
+-- each exported call, on what is lent to it: of a rule its record, with its edition e
 abbrev pub lookupCallRows : ℕ → List ℕ → List ℕ → List Row
 lookupCallRows w t key = rowsOr (OtherKey w key) (lookupRows w t)
 
-abbrev pub insertCallRows : ℕ → List ℕ → List ℕ → ℕ → List Row
-insertCallRows w t rule room = rowsOr (OtherRule w rule) (insertRows w t (ruleOf w (word rule)) room)
+abbrev pub insertCallRows : ℕ → ℕ → List ℕ → List ℕ → ℕ → List Row
+insertCallRows w e t rule room = rowsOr (OtherRule w rule) (insertRows w t (lentRule w e rule) room)
 
 abbrev pub deleteCallRows : ℕ → List ℕ → ℕ → ℕ → List Row
 deleteCallRows w t id room = rowsOr (OtherWidth w) (deleteRows w t id room)
@@ -210,5 +211,5 @@ saveCallRows w t room = rowsOr (OtherWidth w) (saveRows w t room)
 abbrev pub loadCallRows : ℕ → List ℕ → List ℕ → List Row
 loadCallRows w b t = rowsOr (OtherWidth w) (loadRows w b t)
 
-abbrev pub stepCallRows : ℕ → List ℕ → List ℕ → List ℕ → ℕ → ℕ → List Row
-stepCallRows w t plan rule done total = rowsOr (OtherRule w rule) (stepRows w t plan (ruleOf w (word rule)) done total)
+abbrev pub stepCallRows : ℕ → ℕ → List ℕ → List ℕ → List ℕ → ℕ → ℕ → List Row
+stepCallRows w e t plan rule done total = rowsOr (OtherRule w rule) (stepRows w t plan (lentRule w e rule) done total)

@@ -6,10 +6,10 @@ use Prim.Native.Nat.{ℕ, _+_}
 use lib.Dec.{eqb, ltb}
 use lib.ListN.{length}
 use Rattle.ternary.specs.Pattern.{Words}
-use Rattle.records.specs.Record.{word, ruleOf}
+use Rattle.records.specs.Record.{word}
 use Rattle.records.specs.Order.{slots}
 use Rattle.records.specs.Checks.{success, unless, slotChecks, firstMatch}
-use Rattle.records.specs.declared.Rule.{Rule}
+use Rattle.records.specs.Editions.{Given, lentRule, ranked}
 use Rattle.records.specs.declared.Check.{Check}
 use Rattle.buffers.specs.Buffers.{checkRoom, bufferAnswer}
 use Rattle.lookups.specs.Lookup.{matchTold, lookupAnswer, lookupCall}
@@ -43,8 +43,8 @@ unfolding bufferAnswer
 buffer-answered checks rows needed room agree =
     answered _ _ (needed ∷ []) (rows-then checks (checkRoom needed room) rows (shortRow needed room ∷ []) agree (λ e. short-row needed room))
 
-pub insert-by-rows : (w : ℕ) (t : List ℕ) (rule : Rule) (room : ℕ) → AnsweredBy (insertRows w t rule room) (insertAnswer w t rule room)
-insert-by-rows w t rule room = buffer-answered _ _ (length (insertWords w t rule)) room (insert-rows w t rule)
+pub insert-by-rows : (w : ℕ) (t : List ℕ) (given : Given) (room : ℕ) → AnsweredBy (insertRows w t given room) (insertAnswer w t given room)
+insert-by-rows w t given room = buffer-answered _ _ (length (insertWords w t (ranked w given))) room (insert-rows w t given)
 
 pub delete-by-rows : (w : ℕ) (t : List ℕ) (id room : ℕ) → AnsweredBy (deleteRows w t id room) (deleteAnswer w t id room)
 delete-by-rows w t id room = buffer-answered _ _ 1 room (delete-rows w t id)
@@ -56,23 +56,23 @@ pub load-by-rows : (w : ℕ) (b t : List ℕ) → AnsweredBy (loadRows w b t) (l
 unfolding loadAnswer
 load-by-rows w b t = answered _ _ [] (load-rows w b t)
 
-pub step-by-rows : (w : ℕ) (t plan : List ℕ) (rule : Rule) (done total : ℕ)
-    → AnsweredBy (stepRows w t plan rule done total) (stepAnswer w t plan rule done total)
-step-by-rows w t plan rule done total =
-    subst (AnsweredBy (stepRows w t plan rule done total)) (step-told w t plan rule done total) (pick (eqb done total))
+pub step-by-rows : (w : ℕ) (t plan : List ℕ) (given : Given) (done total : ℕ)
+    → AnsweredBy (stepRows w t plan given done total) (stepAnswer w t plan given done total)
+step-by-rows w t plan given done total =
+    subst (AnsweredBy (stepRows w t plan given done total)) (step-told w t plan given done total) (pick (eqb done total))
   where
-    pick : (finished : Bool) → AnsweredBy (stepRows w t plan rule done total)
-        (unless (stepChecks w t plan rule done total) (cond finished (success []) (success ((done + 1) ∷ []))))
-    pick true = answered (stepChecks w t plan rule done total) _ [] (step-rows w t plan rule done total)
-    pick false = answered (stepChecks w t plan rule done total) _ ((done + 1) ∷ []) (step-rows w t plan rule done total)
+    pick : (finished : Bool) → AnsweredBy (stepRows w t plan given done total)
+        (unless (stepChecks w t plan given done total) (cond finished (success []) (success ((done + 1) ∷ []))))
+    pick true = answered (stepChecks w t plan given done total) _ [] (step-rows w t plan given done total)
+    pick false = answered (stepChecks w t plan given done total) _ ((done + 1) ∷ []) (step-rows w t plan given done total)
 
 -- the exported calls: what is lent with them is checked first
 pub lookup-call-rows : (w : ℕ) (t key : List ℕ) → AnsweredBy (lookupCallRows w t key) (lookupCall w t key)
 unfolding lookupCall
 lookup-call-rows w t key = lent-answered _ _ _ _ _ (key-row w key) (lookup-by-rows w t (word key))
 
-pub insert-call-rows : (w : ℕ) (t rule : List ℕ) (room : ℕ) → AnsweredBy (insertCallRows w t rule room) (insertCall w t rule room)
-insert-call-rows w t rule room = lent-answered _ _ _ _ _ (rule-row w rule) (insert-by-rows w t (ruleOf w (word rule)) room)
+pub insert-call-rows : (w e : ℕ) (t rule : List ℕ) (room : ℕ) → AnsweredBy (insertCallRows w e t rule room) (insertCall w e t rule room)
+insert-call-rows w e t rule room = lent-answered _ _ _ _ _ (rule-row w rule) (insert-by-rows w t (lentRule w e rule) room)
 
 pub delete-call-rows : (w : ℕ) (t : List ℕ) (id room : ℕ) → AnsweredBy (deleteCallRows w t id room) (deleteCall w t id room)
 delete-call-rows w t id room = lent-answered _ _ _ _ _ (width-row w) (delete-by-rows w t id room)
@@ -83,5 +83,5 @@ save-call-rows w t room = lent-answered _ _ _ _ _ (width-row w) (save-by-rows w 
 pub load-call-rows : (w : ℕ) (b t : List ℕ) → AnsweredBy (loadCallRows w b t) (loadCall w b t)
 load-call-rows w b t = lent-answered _ _ _ _ _ (width-row w) (load-by-rows w b t)
 
-pub step-call-rows : (w : ℕ) (t plan rule : List ℕ) (done total : ℕ) → AnsweredBy (stepCallRows w t plan rule done total) (stepCall w t plan rule done total)
-step-call-rows w t plan rule done total = lent-answered _ _ _ _ _ (rule-row w rule) (step-by-rows w t plan (ruleOf w (word rule)) done total)
+pub step-call-rows : (w e : ℕ) (t plan rule : List ℕ) (done total : ℕ) → AnsweredBy (stepCallRows w e t plan rule done total) (stepCall w e t plan rule done total)
+step-call-rows w e t plan rule done total = lent-answered _ _ _ _ _ (rule-row w rule) (step-by-rows w t plan (lentRule w e rule) done total)

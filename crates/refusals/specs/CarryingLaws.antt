@@ -1,4 +1,4 @@
--- Laws on the rows of a step: 12 for the progress, and 5 and 12 for the next write, where one is to be made.
+-- Laws on the rows of a step: 12 for the progress, and 5, 18 and 12 for the next write, where one is to be made.
 use mathlib.Core.Path.{_≡_, refl, sym, _∙_}
 use mathlib.Core.Bool.{Bool, true, false, cond, _&&_, true≢false}
 use mathlib.Core.Logic.{_⊎_, inl, inr, ⊎-elim}
@@ -13,37 +13,39 @@ use borrow.Author.Tests.{eqb-true, eqb-false, leb-true, le-leb}
 use Rattle.search.specs.SearchLaws.{and-law, decided}
 use Rattle.layout.specs.Write.{Write, copy, put, clear}
 use Rattle.plan_words.specs.PlanWords.{writeOf}
-use Rattle.records.specs.Record.{word}
+use Rattle.records.specs.Record.{soundRule}
+use Rattle.records.specs.Sound.{SoundRule}
 use Rattle.records.specs.Checks.{Told, success, unless, orElse}
 use Rattle.records.specs.Entries.{entries}
 use Rattle.records.specs.Writes.{fitsWrite, EntryFits}
 use Rattle.records.specs.WritesLaws.{fits-write-law}
-use Rattle.records.specs.Laws.{sound-law}
-use Rattle.records.specs.declared.Rule.{Rule}
-use Rattle.records.specs.declared.Cause.the-variants.{Rule as RuleCause, Write as WriteCause}
+use Rattle.records.specs.Laws.{sound-rule-law}
+use Rattle.records.specs.Editions.{Given, knownEdition, checkSound, checkEdition, checkGiven}
+use Rattle.records.specs.declared.Cause.the-variants.{Rule as RuleCause, Write as WriteCause, Edition as EditionCause}
 use Rattle.records.specs.declared.Check.{Check}
 use Rattle.records.specs.declared.Check.the-variants.{Pass, Fail}
-use Rattle.carrying.specs.Carrying.{putSound, progressChecks, writeChecks, stepAnswer}
+use Rattle.carrying.specs.Carrying.{putChecks, progressChecks, writeChecks, stepAnswer}
 use Rattle.carrying.specs.StepsLaws.{progress-within}
 use Rattle.refusals.specs.Rows.{Row, rowAt}
 use Rattle.refusals.specs.RowsLaws.{Agrees, rows-then, passing}
-use Rattle.refusals.specs.Calls.{SoundRule, slotRows, stepRows}
+use Rattle.refusals.specs.Calls.{OtherEdition, slotRows, stepRows}
 use Rattle.refusals.specs.TableLaws.{test-row, slot-rows}
+use Rattle.refusals.specs.PlanningLaws.{edition-one, edition-other}
 
 -- all checks of a step: those of the next write only where one is to be made
-abbrev pub stepChecks : ℕ → List ℕ → List ℕ → Rule → ℕ → ℕ → Check
-stepChecks w t plan rule done total =
-    orElse (progressChecks w t (length plan) done total) (cond (eqb done total) Pass (writeChecks w t rule (getD plan done 0) done))
+abbrev pub stepChecks : ℕ → List ℕ → List ℕ → Given → ℕ → ℕ → Check
+stepChecks w t plan given done total =
+    orElse (progressChecks w t (length plan) done total) (cond (eqb done total) Pass (writeChecks w t given (getD plan done 0) done))
 
 -- a step's answer where they pass: "finished", or the writes done after one more
 abbrev pub stepSuccess : ℕ → ℕ → Told
 stepSuccess done total = cond (eqb done total) (success []) (success ((done + 1) ∷ []))
 
-pub step-told : (w : ℕ) (t plan : List ℕ) (rule : Rule) (done total : ℕ)
-    → unless (stepChecks w t plan rule done total) (stepSuccess done total) ≡ stepAnswer w t plan rule done total
+pub step-told : (w : ℕ) (t plan : List ℕ) (given : Given) (done total : ℕ)
+    → unless (stepChecks w t plan given done total) (stepSuccess done total) ≡ stepAnswer w t plan given done total
 unfolding stepAnswer
-step-told w t plan rule done total =
-    pick (progressChecks w t (length plan) done total) (eqb done total) (writeChecks w t rule (getD plan done 0) done) (success []) (success ((done + 1) ∷ []))
+step-told w t plan given done total =
+    pick (progressChecks w t (length plan) done total) (eqb done total) (writeChecks w t given (getD plan done 0) done) (success []) (success ((done + 1) ∷ []))
   where
     pick : (p : Check) (b : Bool) (c : Check) (x y : Told) → unless (orElse p (cond b Pass c)) (cond b x y) ≡ unless p (cond b x (unless c y))
     pick (Fail cause spot) b c x y = refl
@@ -51,31 +53,19 @@ step-told w t plan rule done total =
     pick Pass false Pass x y = refl
     pick Pass false (Fail cause spot) x y = refl
 
--- a rule that is put in is sound, or the write puts none in
-put-law : (w : ℕ) (rule : Rule) (next : Write) → (putSound w rule next ≡ true → ((to : ℕ) × (next ≡ put to)) → SoundRule w rule)
-put-law w rule (copy from to) e p = absurd (apart (p .1))
-  where
-    apart : {k : ℕ} → copy from to ≡ put k → ⊥
-    apart f = let z : _≡_ {A = ℕ} 0 1 = cc in omega arith
-put-law w rule (put to) e p = sound-law w (rule .id) (rule .priority) (word (rule .value)) (word (rule .mask)) .0 e
-put-law w rule (clear to) e p = absurd (apart (p .1))
-  where
-    apart : {k : ℕ} → clear to ≡ put k → ⊥
-    apart f = let z : _≡_ {A = ℕ} 0 1 = cc in omega arith
-
-put-fails : (w : ℕ) (rule : Rule) (next : Write) → putSound w rule next ≡ false → ((to : ℕ) × (next ≡ put to)) × (SoundRule w rule → ⊥)
-put-fails w rule (copy from to) e = absurd (true≢false e)
-put-fails w rule (put to) e =
-    ((to, refl), λ good. true≢false (sym (sound-law w (rule .id) (rule .priority) (word (rule .value)) (word (rule .mask)) .1 good) ∙ e))
-put-fails w rule (clear to) e = absurd (true≢false e)
-
-module _ (w : ℕ) (t plan : List ℕ) (rule : Rule) (done total : ℕ) where
+module _ (w : ℕ) (t plan : List ℕ) (given : Given) (done total : ℕ) where
   -- the rows of the progress, and those of the next write
   abbrev progressRow : Row
   progressRow = rowAt WriteCause ((total < done) ⊎ (length plan < total)) done
 
-  abbrev putRow : Row
-  putRow = rowAt RuleCause ((done < total) × ((to : ℕ) × (writeOf (getD plan done 0) ≡ put to)) × (SoundRule w rule → ⊥)) 0
+  abbrev putRuleRow : Write → Row
+  putRuleRow next = rowAt RuleCause ((done < total) × ((to : ℕ) × (next ≡ put to)) × (SoundRule w (given .rule) → ⊥)) 0
+
+  abbrev putEditionRow : Write → Row
+  putEditionRow next = rowAt EditionCause ((done < total) × ((to : ℕ) × (next ≡ put to)) × OtherEdition (given .edition)) 0
+
+  abbrev putRows : Write → List Row
+  putRows next = putRuleRow next ∷ putEditionRow next ∷ []
 
   abbrev fitRow : Row
   fitRow = rowAt WriteCause ((done < total) × (EntryFits w (entries w t) (writeOf (getD plan done 0)) → ⊥)) done
@@ -96,22 +86,43 @@ module _ (w : ℕ) (t plan : List ℕ) (rule : Rule) (done total : ℕ) where
       either f (no less) (no fewer) =
           absurd (true≢false (sym (and-law (leb done total) (leb total (length plan)) .1 (le-leb done total (omega arith), le-leb total (length plan) (omega arith))) ∙ f))
 
-  write-rows : done < total → Agrees (writeChecks w t rule (getD plan done 0) done) (putRow ∷ fitRow ∷ [])
+  -- 5 and 18 look at a rule that is put in, and at none else
+  put-rows : done < total → (next : Write) → Agrees (putChecks w given next) (putRows next)
+  unfolding checkGiven checkSound checkEdition
+  put-rows h (copy from to) = passing (putRows (copy from to)) (λ bad. apart (bad .1 .1), (λ bad. apart (bad .1 .1), tt))
+    where
+      apart : {k : ℕ} → copy from to ≡ put k → ⊥
+      apart f = let z : _≡_ {A = ℕ} 0 1 = cc in omega arith
+  put-rows h (clear to) = passing (putRows (clear to)) (λ bad. apart (bad .1 .1), (λ bad. apart (bad .1 .1), tt))
+    where
+      apart : {k : ℕ} → clear to ≡ put k → ⊥
+      apart f = let z : _≡_ {A = ℕ} 0 1 = cc in omega arith
+  put-rows h (put to) =
+      let law = sound-rule-law w (given .rule) in
+      rows-then _ _ (putRuleRow (put to) ∷ []) _
+      (test-row RuleCause _ 0 (soundRule w (given .rule)) (λ e bad. bad .2 (law .0 e)) (λ e. (h, (to, refl), λ good. true≢false (sym (law .1 good) ∙ e))))
+      (λ e. test-row EditionCause _ 0 (knownEdition (given .edition)) (λ k bad. edition-one (given .edition) k (bad .2))
+      (λ k. (h, (to, refl), edition-other (given .edition) k)))
+
+  write-rows : done < total → Agrees (writeChecks w t given (getD plan done 0) done) (putRows (writeOf (getD plan done 0)) ++ (fitRow ∷ []))
   unfolding writeChecks
   write-rows h =
       let next = writeOf (getD plan done 0) in
-      rows-then _ _ (putRow ∷ []) _
-      (test-row RuleCause _ 0 (putSound w rule next) (λ e bad. bad .2 (put-law w rule next e (bad .1)))
-      (λ e. let f = put-fails w rule next e in (h, f .0, f .1)))
+      rows-then _ _ (putRows next) _ (put-rows h next)
       (λ e. test-row WriteCause _ done (fitsWrite w t next) (λ f bad. bad .1 (fits-write-law w t next .0 f))
       (λ f. (h, λ good. true≢false (sym (fits-write-law w t next .1 good) ∙ f))))
 
-  pub step-rows : Agrees (stepChecks w t plan rule done total) (stepRows w t plan rule done total)
-  step-rows = rows-then _ _ (slotRows w t ++ (progressRow ∷ [])) (putRow ∷ fitRow ∷ []) progress-rows (λ e. pick (progress-within w t (length plan) done total e .0) (decided (eqb done total)))
+  pub step-rows : Agrees (stepChecks w t plan given done total) (stepRows w t plan given done total)
+  step-rows =
+      rows-then _ _ (slotRows w t ++ (progressRow ∷ [])) next progress-rows
+      (λ e. pick (progress-within w t (length plan) done total e .0) (decided (eqb done total)))
     where
+      next : List Row
+      next = putRows (writeOf (getD plan done 0)) ++ (fitRow ∷ [])
+
       pick : done ≤ total → (eqb done total ≡ true) ⊎ (eqb done total ≡ false)
-          → Agrees (cond (eqb done total) Pass (writeChecks w t rule (getD plan done 0) done)) (putRow ∷ fitRow ∷ [])
+          → Agrees (cond (eqb done total) Pass (writeChecks w t given (getD plan done 0) done)) next
       pick l (inl e) =
           let same = eqb-true done total e in
-          rw e (passing (putRow ∷ fitRow ∷ []) (λ bad. omega (arith, bad .0), (λ bad. omega (arith, bad .0), tt)))
+          rw e (passing next (λ bad. omega (arith, bad .0), (λ bad. omega (arith, bad .0), (λ bad. omega (arith, bad .0), tt))))
       pick l (inr e) = let other = eqb-false done total e in rw e (write-rows (omega (arith, other)))

@@ -10,9 +10,9 @@ use native.Mathlib.Decide.{decLt, decLe}
 use lib.Dec.{eqb, ltb, leb}
 use lib.ListN.{length}
 use borrow.Author.Tests.{eqb-true, eqb-false, leb-true, le-leb, ltb-true, lt-ltb, not-true}
-use Rattle.records.specs.Record.{word, sound, ident, rank, value, mask}
+use Rattle.records.specs.Record.{word, sound}
 use Rattle.records.specs.Order.{slots}
-use Rattle.records.specs.Laws.{sound-law}
+use Rattle.records.specs.Laws.{sound-record-law}
 use Rattle.records.specs.declared.Cause.the-variants.{Image}
 use Rattle.records.specs.declared.Check.{Check}
 use Rattle.image.specs.Format.{imageBytes, bodyPlace, entryPlace, slotsIn, rulesIn, idAt, entrySlot, offsetAt, recordAt}
@@ -91,7 +91,7 @@ module _ (w : ℕ) (b : List ℕ) (n : ℕ) where
   unfolding checkBody
   body-rows e k =
       let x = word (recordAt w b e k) in
-      let law = sound-law w (ident w x) (rank w x) (value x) (mask w x) in
+      let law = sound-record-law w x in
       field-row (sound w x) _ (bodyPlace w e k) (λ s bad. bad (law .0 s)) (λ s good. true≢false (sym (law .1 good) ∙ s))
 
 pub load-rows : (w : ℕ) (b t : List ℕ) → Agrees (loadChecks w b t) (loadRows w b t)

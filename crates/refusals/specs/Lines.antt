@@ -4,6 +4,7 @@ use mathlib.Core.Path.{_≡_}
 use mathlib.Core.Logic.{_⊎_}
 use mathlib.Core.List.{List, [], _∷_}
 use Prim.Native.Nat.{ℕ, _<_}
+use Rattle.records.specs.Editions.{under13}
 use Rattle.records.specs.declared.Cause.the-variants.{Shape, Line}
 use Rattle.script_commands.specs.declared.Command.{Command}
 use Rattle.script_commands.specs.declared.Command.the-variants.{Table, Insert, Delete, Lookup, Malformed}
@@ -15,7 +16,7 @@ use Rattle.refusals.specs.Calls.{lookupRows, newRuleRows, oldRuleRows}
 -- T with a slot count that is not 1 to 1,024 is 1; the other lines are declined as the calls are
 abbrev pub commandRows : List ℕ → Command → List Row
 commandRows t (Table new) = rowAt Shape ((new .slots ≡ 0) ⊎ (1024 < new .slots)) 0 ∷ []
-commandRows t (Insert insertion) = newRuleRows 2 t (insertedRule insertion)
+commandRows t (Insert insertion) = newRuleRows 2 t (under13 (insertedRule insertion))
 commandRows t (Delete deletion) = oldRuleRows 2 t (deletion .id)
 commandRows t (Lookup query) = lookupRows 2 t
 commandRows t Malformed = []

@@ -12,6 +12,7 @@ use borrow.Author.Tests.{leb-true, le-leb}
 use Rattle.search.specs.SearchLaws.{and-law}
 use Rattle.records.specs.Record.{word}
 use Rattle.records.specs.Checks.{Told, success, refusal, unless}
+use Rattle.records.specs.Editions.{under13}
 use Rattle.records.specs.declared.Rule.{Rule}
 use Rattle.records.specs.declared.Cause.the-variants.{Shape, Line}
 use Rattle.records.specs.declared.Check.{Check}
@@ -53,9 +54,9 @@ change-told (Fail cause spot) words = refl
 change-answered : (checks : Check) (rows : List Row) (words : List ℕ) → Agrees checks rows → AnsweredBy rows (changeTold checks words .told)
 change-answered checks rows words agree = subst (AnsweredBy rows) (change-told checks words) (answered checks rows (length words ∷ []) agree)
 
-insert-line-answered : (t : List ℕ) (rule : Rule) → AnsweredBy (newRuleRows 2 t rule) (insertTold t rule .told)
+insert-line-answered : (t : List ℕ) (rule : Rule) → AnsweredBy (newRuleRows 2 t (under13 rule)) (insertTold t rule .told)
 unfolding insertTold
-insert-line-answered t rule = change-answered _ _ (insertWords 2 t rule) (insert-rows 2 t rule)
+insert-line-answered t rule = change-answered _ _ (insertWords 2 t rule) (insert-rows 2 t (under13 rule))
 
 delete-line-answered : (t : List ℕ) (id : ℕ) → AnsweredBy (oldRuleRows 2 t id) (deleteTold t id .told)
 unfolding deleteTold

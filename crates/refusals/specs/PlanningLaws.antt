@@ -1,6 +1,7 @@
--- Laws on the rows of a planning call: checks 5 to 11, each with its condition in plain terms.
+-- Laws on the rows of a planning call: checks 5 to 11 and 18, each with its condition in plain terms.
 use mathlib.Core.Path.{_≡_, sym, ap, _∙_, subst}
-use mathlib.Core.Bool.{true, not, true≢false}
+use mathlib.Core.Bool.{true, false, not, true≢false}
+use mathlib.Core.Logic.{⊎-elim}
 use mathlib.Core.List.{List, [], _∷_}
 use Prim.Native.Nat.{ℕ, suc, _-_, _<_}
 use native.Mathlib.Omega.{arith}
@@ -10,26 +11,42 @@ use borrow.Author.Tests.{eqb-true, eq-eqb, lt-ltb, ltb-true, ltb-false}
 use Rattle.search.specs.Search.{any, least}
 use Rattle.search.specs.SearchLaws.{any-yes, any-no, and-law, least-law}
 use Rattle.ternary.specs.Pattern.{Words}
-use Rattle.records.specs.Record.{word, slotWords, empty, occupied, ident, soundRule}
+use Rattle.records.specs.Record.{slotWords, empty, occupied, ident, soundRule}
 use Rattle.records.specs.Order.{slots}
-use Rattle.records.specs.Laws.{sound-law, same-id-law, tied-law, precedes-law}
+use Rattle.records.specs.Laws.{pass-law, sound-rule-law, same-id-law, tied-law, precedes-law}
+use Rattle.records.specs.Editions.{Given, ranked, knownEdition, checkSound, checkEdition, checkGiven}
+use Rattle.records.specs.EditionsLaws.{edition-law}
 use Rattle.records.specs.declared.Rule.{Rule}
 use Rattle.records.specs.declared.Cause.{Cause}
-use Rattle.records.specs.declared.Cause.the-variants.{Rule as RuleCause, Known, Unknown, Tie, Full, Crossed, Short}
+use Rattle.records.specs.declared.Cause.the-variants.{Rule as RuleCause, Known, Unknown, Tie, Full, Crossed, Short, Edition as EditionCause}
 use Rattle.records.specs.declared.Check.the-variants.{Fail}
 use Rattle.buffers.specs.Buffers.{checkRoom}
-use Rattle.neighbours.specs.Neighbours.{checkRule, checkKnown, checkTie, checkFull, checkCrossed, afterA, slotB, newChecks, ruleWords, insertChecks}
+use Rattle.neighbours.specs.Neighbours.{checkKnown, checkTie, checkFull, checkCrossed, afterA, slotB, newChecks, ruleWords, insertChecks}
 use Rattle.delete_plans.specs.Deletes.{hasId, slotOfId, checkId, checkUnknown, deleteChecks}
 use Rattle.insert_plans.specs.InsertableLaws.{rule-words, crossed-pass, crossed-fail}
 use Rattle.refusals.specs.RowsLaws.{Agrees, one-row, rows-then}
-use Rattle.refusals.specs.Calls.{OneId, Ties, IsA, knownRow, unknownRow, tieRow, fullRow, crossedRow, tableRows, ruleRow, idRow, shortRow, newRuleRows, oldRuleRows}
+use Rattle.refusals.specs.Calls.{OneId, Ties, IsA, knownRow, unknownRow, tieRow, fullRow, crossedRow, tableRows, ruleRow, idRow, OtherEdition, editionRow}
+use Rattle.refusals.specs.Calls.{shortRow, newRuleRows, oldRuleRows}
 use Rattle.refusals.specs.TableLaws.{test-row, fault-row, only-cause, lowest-row, table-rows}
 
-pub rule-row : (w : ℕ) (rule : Rule) → Agrees (checkRule w rule) (ruleRow w rule ∷ [])
-unfolding checkRule
+rule-row : (w : ℕ) (rule : Rule) → Agrees (checkSound w rule) (ruleRow w rule ∷ [])
+unfolding checkSound
 rule-row w rule =
-    let law = sound-law w (rule .id) (rule .priority) (word (rule .value)) (word (rule .mask)) in
+    let law = sound-rule-law w rule in
     test-row RuleCause _ 0 (soundRule w rule) (λ e bad. bad (law .0 e)) (λ e good. true≢false (sym (law .1 good) ∙ e))
+
+-- an edition is one of the two, or another
+pub edition-one : (e : ℕ) → knownEdition e ≡ true → OtherEdition e → ⊥
+unfolding checkEdition
+edition-one e k other = ⊎-elim (other .0) (other .1) (edition-law e .0 (pass-law EditionCause 0 (knownEdition e) .1 k))
+
+pub edition-other : (e : ℕ) → knownEdition e ≡ false → OtherEdition e
+unfolding knownEdition
+edition-other e f = (λ s. true≢false (sym (ap knownEdition s) ∙ f), λ s. true≢false (sym (ap knownEdition s) ∙ f))
+
+edition-row : (e : ℕ) → Agrees (checkEdition e) (editionRow e ∷ [])
+unfolding checkEdition
+edition-row e = test-row EditionCause _ 0 (knownEdition e) (edition-one e) (edition-other e)
 
 pub short-row : (needed room : ℕ) → Agrees (checkRoom needed room) (shortRow needed room ∷ [])
 unfolding checkRoom
@@ -87,12 +104,18 @@ module _ (w : ℕ) (t : List ℕ) where
       (λ e. rows-then _ _ (tieRow w t new ∷ []) _ (tie-row new)
       (λ f. rows-then _ _ (fullRow w t ∷ []) _ full-row (λ g. crossed-row new)))
 
+  -- checks 5 and 18
+  given-rows : (given : Given) → Agrees (checkGiven w given) (ruleRow w (given .rule) ∷ editionRow (given .edition) ∷ [])
+  unfolding checkGiven
+  given-rows given = rows-then _ _ (ruleRow w (given .rule) ∷ []) _ (rule-row w (given .rule)) (λ e. edition-row (given .edition))
+
   -- checks 1 to 10 of an insert
-  pub insert-rows : (rule : Rule) → Agrees (insertChecks w t rule) (newRuleRows w t rule)
+  pub insert-rows : (given : Given) → Agrees (insertChecks w t given) (newRuleRows w t given)
   unfolding insertChecks
-  insert-rows rule =
+  insert-rows given =
+      let rule = ranked w given in
       rows-then _ _ (tableRows w t) _ (table-rows w t)
-      (λ e. rows-then _ _ (ruleRow w rule ∷ []) _ (rule-row w rule)
+      (λ e. rows-then _ _ (ruleRow w (given .rule) ∷ editionRow (given .edition) ∷ []) _ (given-rows given)
       (λ f. subst (λ (new : Words). Agrees (newChecks w t (ruleWords w rule)) (knownRow w t new ∷ tieRow w t new ∷ fullRow w t ∷ crossedRow w t new ∷ []))
       (rule-words w rule) (new-rows (ruleWords w rule))))
 

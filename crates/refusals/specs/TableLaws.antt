@@ -9,17 +9,18 @@ use lib.Dec.{ltb}
 use borrow.Author.Tests.{not-true}
 use Rattle.search.specs.Search.{any, least}
 use Rattle.search.specs.SearchLaws.{any-yes, any-some, and-law}
-use Rattle.records.specs.Record.{slotWords, occupied, sound, ident, rank, value, mask}
+use Rattle.records.specs.Record.{slotWords, occupied, sound}
+use Rattle.records.specs.Sound.{SoundRecord}
 use Rattle.records.specs.Order.{slots, sameId, misordered}
 use Rattle.records.specs.Checks.{lowest, checkShape, shaped, unsoundAt, checkRecords, checkTwice, twiceAt, checkOrder, disorderAt, slotChecks, tableChecks}
-use Rattle.records.specs.Laws.{shape-law, pass-law, lowest-pass, lowest-fail, sound-law, same-id-law, misordered-law}
+use Rattle.records.specs.Laws.{shape-law, pass-law, lowest-pass, lowest-fail, sound-record-law, same-id-law, misordered-law}
 use Rattle.records.specs.EntriesLaws.{refuted}
 use Rattle.records.specs.declared.Cause.{Cause}
 use Rattle.records.specs.declared.Cause.the-variants.{Shape, Record, Twice, Order}
 use Rattle.records.specs.declared.Check.the-variants.{Pass, Fail}
 use Rattle.refusals.specs.Rows.{rowAt, slotRow}
 use Rattle.refusals.specs.RowsLaws.{Agrees, pass-not-fail, one-row, rows-then, lowest-once, number-once}
-use Rattle.refusals.specs.Calls.{SoundRecord, OneId, NotHigher, shapeRow, recordRow, twiceRow, orderRow, slotRows, tableRows}
+use Rattle.refusals.specs.Calls.{OneId, NotHigher, shapeRow, recordRow, twiceRow, orderRow, slotRows, tableRows}
 
 -- a test that picks between passing and one refusal: its row's condition holds exactly where the test fails
 pub test-row : (cause : Cause) (condition : Type 0) (spot : ℕ) (passing : Bool) → (passing ≡ true → condition → ⊥) → (passing ≡ false → condition)
@@ -70,7 +71,7 @@ module _ (w : ℕ) (t : List ℕ) where
   unfolding unsoundAt
   unsound-law i =
       let x = slotWords w t i in
-      let law = sound-law w (ident w x) (rank w x) (value x) (mask w x) in
+      let law = sound-record-law w x in
       let both = and-law (not (sound w x)) (occupied w x) in (
         λ e. let p = both .0 e in (p .1, λ good. true≢false (sym (law .1 good) ∙ not-true (sound w x) (p .0))),
         λ p. both .1 (ap not (refuted (λ e. p .1 (law .0 e))), p .0),

@@ -8,6 +8,7 @@ use lib.Dec.{eqb}
 use lib.ListN.{length, getD, take}
 use Rattle.records.specs.Checks.{Told, causeNumber}
 use Rattle.records.specs.Writes.{applyWords}
+use Rattle.records.specs.Editions.{under13}
 use Rattle.records.specs.declared.Rule.{Rule}
 use Rattle.records.specs.declared.Check.{Check}
 use Rattle.records.specs.declared.Check.the-variants.{Pass, Fail}
@@ -33,9 +34,9 @@ abbrev pub changeOutcome : List ℕ → Check → List ℕ → List ℕ → Outc
 changeOutcome t Pass words after = outcomeOf after (planBytes words)
 changeOutcome t (Fail cause spot) words after = refused t (causeNumber cause) spot
 
--- `I id priority pattern action` inserts and carries out
+-- `I id priority pattern action` inserts and carries out, under 1.3: a rule's rank is its priority
 unfoldable pub insertOutcome : List ℕ → Rule → Outcome (List ℕ)
-insertOutcome t rule = changeOutcome t (insertChecks 2 t rule) (insertWords 2 t rule) (applyWords 2 t rule (insertWords 2 t rule))
+insertOutcome t rule = changeOutcome t (insertChecks 2 t (under13 rule)) (insertWords 2 t rule) (applyWords 2 t rule (insertWords 2 t rule))
 
 -- `D id`; its one write puts no rule in
 abbrev pub noRule : Rule
@@ -59,7 +60,7 @@ pub record Changed (told : Outcome (List ℕ)) (count : ℕ) (table′ out out�
 unfoldable pub planOutcome : Told → List ℕ → List ℕ → Rule → Outcome (List ℕ)
 planOutcome told t plan rule =
     let count = getD (told .values) 0 0 in
-    cond (eqb (told .number) 0) (outcomeOf (afterCalls 2 t plan rule count count .table) (planBytes (take count plan))) (refused t (told .number) count)
+    cond (eqb (told .number) 0) (outcomeOf (afterCalls 2 t plan (under13 rule) count count .table) (planBytes (take count plan))) (refused t (told .number) count)
 
 -- the words that a planning call counted are in the buffer
 abbrev pub WithinRoom : Told → ℕ → Type 0

@@ -11,6 +11,7 @@ use lib.Seq.{take-append-seam}
 use borrow.Author.Tests.{le-ltb}
 use Rattle.records.specs.Checks.{Told, causeNumber, success, refusal}
 use Rattle.records.specs.Writes.{applyWords}
+use Rattle.records.specs.Editions.{under13, rankOf, ranked}
 use Rattle.records.specs.declared.Rule.{Rule}
 use Rattle.records.specs.declared.Check.{Check}
 use Rattle.records.specs.declared.Check.the-variants.{Pass, Fail}
@@ -35,7 +36,7 @@ use Rattle.script_operations.specs.Told.{changeTold, insertTold, deleteT
 
 -- a plan's answer is carried out and printed, or the refusal is
 module _ (t plan : List ℕ) (rule : Rule) {told : Told} {r : ℕ} {out out′ : List ℕ} where
-  pub changed-planned : (count : ℕ) {after : List ℕ} → told ≡ success (count ∷ []) → after ≡ afterCalls 2 t plan rule count count .table
+  pub changed-planned : (count : ℕ) {after : List ℕ} → told ≡ success (count ∷ []) → after ≡ afterCalls 2 t plan (under13 rule) count count .table
       → Shown out (planBytes (take count plan)) r out′ → Changed (planOutcome told t plan rule) r after out out′
   unfolding planOutcome
   changed-planned count {after} e f s =
@@ -50,7 +51,7 @@ module _ (t plan : List ℕ) (rule : Rule) {told : Told} {r : ℕ} {out out′ :
 -- what a planning call answers and leaves in a buffer that is long enough comes to the change
 plan-is : (t : List ℕ) (rule : Rule) (checks : Check) (words plan : List ℕ) (after : List ℕ)
     → (checks ≡ Pass → length words ≤ length plan)
-    → (checks ≡ Pass → afterCalls 2 t (bufferAfter checks words plan) rule (length words) (length words) .table ≡ after)
+    → (checks ≡ Pass → afterCalls 2 t (bufferAfter checks words plan) (under13 rule) (length words) (length words) .table ≡ after)
     → WithinRoom (bufferAnswer checks (length words) (length plan)) (length (bufferAfter checks words plan))
     × (planOutcome (bufferAnswer checks (length words) (length plan)) t (bufferAfter checks words plan) rule ≡ changeOutcome t checks words after)
 unfolding planOutcome
@@ -79,39 +80,40 @@ told-is (Fail cause spot) words room long = rw (cause-not-zero cause)
 told-is Pass words room long = rw (le-ltb room (length words) (long refl))
 
 -- the plan of an insert has at most as many words as the table has slots
-insert-short : (t : List ℕ) (rule : Rule) → rule .action < 4294967296 → insertChecks 2 t rule ≡ Pass → length (insertWords 2 t rule) ≤ 1024
+insert-short : (t : List ℕ) (rule : Rule) → rule .action < 4294967296 → insertChecks 2 t (under13 rule) ≡ Pass → length (insertWords 2 t rule) ≤ 1024
+unfolding ranked rankOf
 insert-short t rule small e =
-    let p = insertable-law 2 t rule .0 e in
-    let shape = slot-checks-law 2 t .0 (table-checks-law 2 t .0 (p .table) .0) .0 in
-    omega (arith, demand-3 2 t rule small p [] .few, shaped-slots 2 t shape .1)
+    let p = insertable-law 2 t (under13 rule) .0 e in
+    let shape = slot-checks-law 2 t .0 (table-checks-law 2 t .0 (p .insertable .table) .0) .0 in
+    omega (arith, demand-3 2 t (under13 rule) small p [] .few, shaped-slots 2 t shape .1)
 
 -- an I line
 pub insert-is : (t : List ℕ) (rule : Rule) (plan plan′ : List ℕ) (told : Told) → rule .action < 4294967296 → length plan ≡ 1024
-    → told ≡ insertAnswer 2 t rule (length plan) → plan′ ≡ insertPlan 2 t rule plan
+    → told ≡ insertAnswer 2 t (under13 rule) (length plan) → plan′ ≡ insertPlan 2 t (under13 rule) plan
     → WithinRoom told (length plan′) × (planOutcome told t plan′ rule ≡ insertOutcome t rule)
-unfolding insertOutcome
+unfolding insertOutcome ranked rankOf
 insert-is t rule plan plan′ told small n e f =
     let words = insertWords 2 t rule in
-    let long : insertChecks 2 t rule ≡ Pass → length words ≤ length plan = λ p. omega (arith, insert-short t rule small p, n) in
-    let r = plan-is t rule (insertChecks 2 t rule) words plan (applyWords 2 t rule words) long
-    (λ p. carried-whole (demand-2-insert 2 t rule plan (length words) small (sym (buffer-written words plan refl p (long p) .0)))) in
+    let long : insertChecks 2 t (under13 rule) ≡ Pass → length words ≤ length plan = λ p. omega (arith, insert-short t rule small p, n) in
+    let r = plan-is t rule (insertChecks 2 t (under13 rule)) words plan (applyWords 2 t rule words) long
+    (λ p. carried-whole (demand-2-insert 2 t (under13 rule) plan (length words) small (sym (buffer-written words plan refl p (long p) .0)))) in
     subst₂ (λ (x : Told) (y : List ℕ). WithinRoom x (length y) × (planOutcome x t y rule ≡ insertOutcome t rule)) (sym e) (sym f) r
 
 pub insert-told : (t : List ℕ) (rule : Rule) (room : ℕ) (told : Told) → rule .action < 4294967296 → room ≡ 1024
-    → told ≡ insertAnswer 2 t rule room → plannedTold told ≡ insertTold t rule
-unfolding insertTold
+    → told ≡ insertAnswer 2 t (under13 rule) room → plannedTold told ≡ insertTold t rule
+unfolding insertTold ranked rankOf
 insert-told t rule room told small n e =
-    ap plannedTold e ∙ told-is (insertChecks 2 t rule) (insertWords 2 t rule) room (λ p. omega (arith, insert-short t rule small p, n))
+    ap plannedTold e ∙ told-is (insertChecks 2 t (under13 rule)) (insertWords 2 t rule) room (λ p. omega (arith, insert-short t rule small p, n))
 
 -- a D line
 pub delete-is : (t : List ℕ) (id : ℕ) (plan plan′ : List ℕ) (told : Told) → length plan ≡ 1024
     → told ≡ deleteAnswer 2 t id (length plan) → plan′ ≡ deletePlan 2 t id plan
     → WithinRoom told (length plan′) × (planOutcome told t plan′ noRule ≡ deleteOutcome t id)
-unfolding deleteOutcome
+unfolding deleteOutcome ranked rankOf
 delete-is t id plan plan′ told n e f =
     let words = deleteWords 2 t id in
     let r = plan-is t noRule (deleteChecks 2 t id) words plan (applyWords 2 t noRule words) (λ p. omega (arith, n))
-    (λ p. carried-whole (demand-2-delete 2 t id plan 1 noRule (sym (buffer-written words plan refl p (omega (arith, n)) .0)))) in
+    (λ p. carried-whole (demand-2-delete 2 t id plan 1 (under13 noRule) (sym (buffer-written words plan refl p (omega (arith, n)) .0)))) in
     subst₂ (λ (x : Told) (y : List ℕ). WithinRoom x (length y) × (planOutcome x t y noRule ≡ deleteOutcome t id)) (sym e) (sym f) r
 
 pub delete-told : (t : List ℕ) (id room : ℕ) (told : Told) → room ≡ 1024 → told ≡ deleteAnswer 2 t id room → plannedTold told ≡ deleteTold t id

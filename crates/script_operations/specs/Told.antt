@@ -6,6 +6,7 @@ use Prim.Native.Nat.{ℕ}
 use lib.Dec.{eqb}
 use lib.ListN.{length}
 use Rattle.records.specs.Checks.{Told, success, refusal}
+use Rattle.records.specs.Editions.{under13}
 use Rattle.records.specs.declared.Rule.{Rule}
 use Rattle.records.specs.declared.Check.{Check}
 use Rattle.records.specs.declared.Check.the-variants.{Pass, Fail}
@@ -37,7 +38,7 @@ changeTold Pass words = lettered 80 (success (length words ∷ []))
 changeTold (Fail cause spot) words = lettered 82 (refusal cause spot)
 
 unfoldable pub insertTold : List ℕ → Rule → LineTold
-insertTold t rule = changeTold (insertChecks 2 t rule) (insertWords 2 t rule)
+insertTold t rule = changeTold (insertChecks 2 t (under13 rule)) (insertWords 2 t rule)
 
 unfoldable pub deleteTold : List ℕ → ℕ → LineTold
 deleteTold t id = changeTold (deleteChecks 2 t id) (deleteWords 2 t id)

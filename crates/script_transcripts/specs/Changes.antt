@@ -7,6 +7,7 @@ use mathlib.Core.List.{List, [], _∷_}
 use Prim.Native.Nat.{ℕ}
 use lib.Dec.{leb}
 use Rattle.records.specs.Checks.{passes}
+use Rattle.records.specs.Editions.{under13}
 use Rattle.records.specs.declared.Rule.{Rule}
 use Rattle.neighbours.specs.Neighbours.{insertChecks}
 use Rattle.delete_plans.specs.Deletes.{deleteChecks}
@@ -23,7 +24,7 @@ use Rattle.script.specs.Script.{lineOutcome}
 -- accepted delete are changes, anything else keeps them
 abbrev pub historyAfter : List ℕ → List Change → Command → List Change
 historyAfter t history (Table new) = cond (leb 1 (new .slots) && leb (new .slots) 1024) [] history
-historyAfter t history (Insert insertion) = cond (passes (insertChecks 2 t (insertedRule insertion))) (insert (insertedRule insertion) ∷ history) history
+historyAfter t history (Insert insertion) = cond (passes (insertChecks 2 t (under13 (insertedRule insertion)))) (insert (insertedRule insertion) ∷ history) history
 historyAfter t history (Delete deletion) = cond (passes (deleteChecks 2 t (deletion .id))) (delete (deletion .id) ∷ history) history
 historyAfter t history (Lookup query) = history
 historyAfter t history Malformed = history

@@ -16,6 +16,7 @@ use Rattle.records.specs.Record.{word, slotWords, ident, action}
 use Rattle.records.specs.Checks.{Told, passes, checkShape, shaped, slotChecks, tableChecks}
 use Rattle.records.specs.Laws.{cause-not-zero}
 use Rattle.records.specs.Writes.{applyWords}
+use Rattle.records.specs.Editions.{under13, rankOf, ranked}
 use Rattle.records.specs.declared.Rule.{Rule}
 use Rattle.records.specs.declared.Cause.the-variants.{Shape}
 use Rattle.records.specs.declared.Check.{Check}
@@ -99,7 +100,7 @@ unfolding commandOf
 line-small line = small-if (leb (length line) 256) (ofFields (parts 32 line)) Malformed (λ e. fields-small (parts 32 line)) tt
 
 -- a table without slots refuses every change with 1
-none-inserts : (rule : Rule) → insertChecks 2 [] rule ≡ Fail Shape 0
+none-inserts : (rule : Rule) → insertChecks 2 [] (under13 rule) ≡ Fail Shape 0
 unfolding insertChecks tableChecks slotChecks checkShape shaped
 none-inserts rule = refl
 
@@ -118,28 +119,28 @@ delete-none id = rw (none-deletes id)
 -- one accepted change more
 module _ (history : List Change) (t : List ℕ) (reached : Reached 2 history t) where
   -- the plan's own words are buffer enough, and as many calls as it has carry it out
-  insert-reached : (rule : Rule) → rule .action < 4294967296 → (x : Check) → insertChecks 2 t rule ≡ x
-      → Reached 2 (cond (passes (insertChecks 2 t rule)) (insert rule ∷ history) history) (insertOutcome t rule .table)
-  unfolding insertOutcome
+  insert-reached : (rule : Rule) → rule .action < 4294967296 → (x : Check) → insertChecks 2 t (under13 rule) ≡ x
+      → Reached 2 (cond (passes (insertChecks 2 t (under13 rule))) (insert rule ∷ history) history) (insertOutcome t rule .table)
+  unfolding insertOutcome ranked rankOf
   insert-reached rule small (Fail cause spot) e = rw e reached
   insert-reached rule small Pass e =
       let words = insertWords 2 t rule in
       let count = length words in
       let accepted = sym (buffer-written words words refl e (omega arith) .0) in
-      let after = reached-insert reached rule small words count accepted in
-      let made = carried-whole (demand-2-insert 2 t rule words count small accepted) in
+      let after = reached-insert reached (under13 rule) small words count accepted in
+      let made = carried-whole (demand-2-insert 2 t (under13 rule) words count small accepted) in
       let there : Reached 2 (insert rule ∷ history) (applyWords 2 t rule words) = subst (Reached 2 (insert rule ∷ history)) made after in
       rw e there
 
   delete-reached : (id : ℕ) (x : Check) → deleteChecks 2 t id ≡ x
       → Reached 2 (cond (passes (deleteChecks 2 t id)) (delete id ∷ history) history) (deleteOutcome t id .table)
-  unfolding deleteOutcome
+  unfolding deleteOutcome ranked rankOf
   delete-reached id (Fail cause spot) e = rw e reached
   delete-reached id Pass e =
       let words = deleteWords 2 t id in
       let accepted = sym (buffer-written words words refl e (omega arith) .0) in
-      let after = reached-delete reached id words 1 accepted noRule in
-      let made = carried-whole (demand-2-delete 2 t id words 1 noRule accepted) in
+      let after = reached-delete reached id words 1 accepted (under13 noRule) in
+      let made = carried-whole (demand-2-delete 2 t id words 1 (under13 noRule) accepted) in
       let there : Reached 2 (delete id ∷ history) (applyWords 2 t noRule words) = subst (Reached 2 (delete id ∷ history)) made after in
       rw e there
 
@@ -152,11 +153,11 @@ table-since history t since slots true e =
 table-since history t since slots false e = rw e since
 
 insert-since : (history : List Change) (t : List ℕ) → Since history t → (rule : Rule) → rule .action < 4294967296
-    → Since (cond (passes (insertChecks 2 t rule)) (insert rule ∷ history) history) (insertOutcome t rule .table)
+    → Since (cond (passes (insertChecks 2 t (under13 rule))) (insert rule ∷ history) history) (insertOutcome t rule .table)
 insert-since history t (inl (e, f)) rule small =
-    subst (λ (u : List ℕ). Since (cond (passes (insertChecks 2 u rule)) (insert rule ∷ history) history) (insertOutcome u rule .table)) (sym e)
+    subst (λ (u : List ℕ). Since (cond (passes (insertChecks 2 u (under13 rule))) (insert rule ∷ history) history) (insertOutcome u rule .table)) (sym e)
     (rw (none-inserts rule) (inl (ap (λ (x : Outcome (List ℕ)). x .table) (insert-none rule), f)))
-insert-since history t (inr reached) rule small = inr (insert-reached history t reached rule small (insertChecks 2 t rule) refl)
+insert-since history t (inr reached) rule small = inr (insert-reached history t reached rule small (insertChecks 2 t (under13 rule)) refl)
 
 delete-since : (history : List Change) (t : List ℕ) → Since history t → (id : ℕ)
     → Since (cond (passes (deleteChecks 2 t id)) (delete id ∷ history) history) (deleteOutcome t id .table)
@@ -281,7 +282,7 @@ unfolding insertOutcome deleteOutcome
 command-kept t number (Table new) e = table-kept t (new .slots) e
 command-kept t number (Insert insertion) e =
     let rule = insertedRule insertion in
-    change-kept t (insertChecks 2 t rule) (insertWords 2 t rule) (applyWords 2 t rule (insertWords 2 t rule)) e
+    change-kept t (insertChecks 2 t (under13 rule)) (insertWords 2 t rule) (applyWords 2 t rule (insertWords 2 t rule)) e
 command-kept t number (Delete deletion) e =
     let id = deletion .id in
     change-kept t (deleteChecks 2 t id) (deleteWords 2 t id) (applyWords 2 t noRule (deleteWords 2 t id)) e

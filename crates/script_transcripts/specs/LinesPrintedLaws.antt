@@ -16,6 +16,7 @@ use Rattle.records.specs.Record.{word, putSlot}
 use Rattle.records.specs.Checks.{shaped, checkShape}
 use Rattle.records.specs.Entries.{vacant}
 use Rattle.records.specs.Writes.{applyWords}
+use Rattle.records.specs.Editions.{under13, rankOf, ranked}
 use Rattle.records.specs.Laws.{slot-checks-law, table-checks-law}
 use Rattle.records.specs.EntriesLaws.{shaped-slots}
 use Rattle.records.specs.declared.Cause.the-variants.{Shape}
@@ -92,14 +93,14 @@ parted-printed words (copies, slot, e) =
 
 -- An accepted I line prints `P count`, a line for each write of its plan, in order, and makes these writes.
 pub insert-printed : (t : List ℕ) (number : ℕ) (line : List ℕ) (insertion : Insertion) → commandOf line ≡ Insert insertion
-    → insertChecks 2 t (insertedRule insertion) ≡ Pass
+    → insertChecks 2 t (under13 (insertedRule insertion)) ≡ Pass
     → InsertPrinted (insertWords 2 t (insertedRule insertion)) (lineOutcome t number line .printed)
     × (lineOutcome t number line .table ≡ applyWords 2 t (insertedRule insertion) (insertWords 2 t (insertedRule insertion)))
-unfolding insertOutcome
+unfolding insertOutcome ranked rankOf
 insert-printed t number line insertion e pass =
     let rule = insertedRule insertion in
     let small : Small (Insert insertion) = subst Small e (line-small line) in
-    let class = shortest-words 2 t rule small (insertable-law 2 t rule .0 pass) .class in
+    let class = shortest-words 2 t (under13 rule) small (insertable-law 2 t (under13 rule) .0 pass) .class in
     let parted = ⊎-elim sequence-parted sequence-parted class in
     rw (e, pass) (parted-printed (insertWords 2 t rule) parted, refl)
 

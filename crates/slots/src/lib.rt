@@ -1,19 +1,22 @@
-// One slot of a table, read in the table itself: empty, sound, matching a key; and a rule's record.
+// One slot of a table, read in the table itself: empty, sound, matching a key; and a rule's record and rank.
 // The width, the number of words of a value, is given with each call: two or five, with one text for both.
 // A function on a slot asks that it exists, `slot_vacant` that check 2 passes; else the table may hold anything.
+pub mod given;
 pub mod rules;
 
+use records::EXACT_RANK;
+use records::MOST_PRIORITY;
 use records::NARROW;
 use records::WIDE;
 use records::record_words;
 ghost use mathlib.Core.Path.{_≡_};
-ghost use mathlib.Core.Bool.{_&&_};
+ghost use mathlib.Core.Bool.{_&&_, _||_};
 ghost use Prim.Native.Nat.{_*_, _<_};
-ghost use lib.Dec.{eqb, leb};
+ghost use lib.Dec.{eqb};
 ghost use lib.ListN.{length};
 ghost use Rattle.ternary.specs.Word.{agree, inside};
-ghost use Rattle.ternary.specs.Pattern.{within};
-ghost use Rattle.records.specs.Record.{word, recordWords, slotWords, value, mask, rank, empty, ident, sound, patternMatches, putSlot};
+ghost use Rattle.ternary.specs.Pattern.{within, fullMask};
+ghost use Rattle.records.specs.Record.{word, recordWords, slotWords, value, mask, rank, empty, ident, rankFits, soundLent, patternMatches, putSlot};
 ghost use Rattle.records.specs.Order.{slots};
 ghost use Rattle.records.specs.Entries.{entryAt};
 ghost use Rattle.records.specs.Checks.{unsoundAt, checkRecords, comparedAt};
@@ -66,7 +69,7 @@ pub fn mask_word(table: &[u64], slot: usize, index: usize, width: usize) -> u64
     slot_word(table, slot, width + index, width)
 }
 
-// A slot's priority.
+// A slot's rank: the priority that its rule was given with, or 65,536.
 pub fn slot_rank(table: &[u64], slot: usize, width: usize) -> u64
     requires { ⌜ (Width width) × (slot < slots width (now table)) ⌝ }
     ensures { λ r. ⌜ r ≡ rank width (slotWords width (now (table .entry)) slot) ⌝ }
@@ -141,7 +144,7 @@ fn word_inside(table: &[u64], slot: usize, index: usize, width: usize) -> bool
 }
 
 // Whether each value bit of a slot outside its mask is 0.
-fn slot_within(table: &[u64], slot: usize, width: usize) -> bool
+pub fn slot_within(table: &[u64], slot: usize, width: usize) -> bool
     requires { ⌜ (Width width) × (slot < slots width (now table)) ⌝ }
     ensures { λ r. ⌜ r ≡ within width (value (slotWords width (now (table .entry)) slot)) (mask width (slotWords width (now (table .entry)) slot)) ⌝ }
 {
@@ -155,27 +158,46 @@ fn slot_within(table: &[u64], slot: usize, width: usize) -> bool
     true
 }
 
-// Whether a slot's priority and value are those of a sound rule, each word read where it is asked for.
-fn slot_bounded(table: &[u64], slot: usize, width: usize) -> bool
+// Whether every mask bit of a slot is set: its rule is without wildcards.
+pub fn mask_full(table: &[u64], slot: usize, width: usize) -> bool
     requires { ⌜ (Width width) × (slot < slots width (now table)) ⌝ }
-    ensures { λ r. ⌜ r ≡ (leb (rank width (slotWords width (now (table .entry)) slot)) 65535
-        && within width (value (slotWords width (now (table .entry)) slot)) (mask width (slotWords width (now (table .entry)) slot))) ⌝ }
+    ensures { λ r. ⌜ r ≡ fullMask width (mask width (slotWords width (now (table .entry)) slot)) ⌝ }
 {
-    if slot_rank(table, slot, width) <= 65535 {
-        return slot_within(table, slot, width);
+    let mut index = 0;
+    while index < width {
+        if !ternary::word_full(mask_word(table, slot, index, width)) {
+            return false;
+        }
+        index += 1;
+    }
+    true
+}
+
+// Whether a slot's rank is a record's: at most 65,535, or 65,536 where every mask bit is set.
+fn slot_ranked(table: &[u64], slot: usize, width: usize) -> bool
+    requires { ⌜ (Width width) × (slot < slots width (now table)) ⌝ }
+    ensures { λ r. ⌜ r ≡ rankFits width (rank width (slotWords width (now (table .entry)) slot)) (mask width (slotWords width (now (table .entry)) slot)) ⌝ }
+{
+    let rank = slot_rank(table, slot, width);
+    if rank <= MOST_PRIORITY {
+        return true;
+    }
+    if rank == EXACT_RANK {
+        return mask_full(table, slot, width);
     }
     false
 }
 
-// Whether a slot holds a sound rule; a rule that is given is lent as a table of one slot.
-pub fn slot_sound(table: &[u64], slot: usize, width: usize) -> bool
+// Whether a slot's rank and value are those of a sound record, each word read where it is asked for.
+fn slot_bounded(table: &[u64], slot: usize, width: usize) -> bool
     requires { ⌜ (Width width) × (slot < slots width (now table)) ⌝ }
-    ensures { λ r. ⌜ r ≡ sound width (slotWords width (now (table .entry)) slot) ⌝ }
+    ensures { λ r. ⌜ r ≡ (rankFits width (rank width (slotWords width (now (table .entry)) slot)) (mask width (slotWords width (now (table .entry)) slot))
+        && within width (value (slotWords width (now (table .entry)) slot)) (mask width (slotWords width (now (table .entry)) slot))) ⌝ }
 {
-    if slot_id(table, slot, width) == 0 {
-        return false;
+    if slot_ranked(table, slot, width) {
+        return slot_within(table, slot, width);
     }
-    slot_bounded(table, slot, width)
+    false
 }
 
 // Whether a slot is neither empty nor a sound rule: one without an id is no rule, and one with an id is not empty.
@@ -191,6 +213,31 @@ pub fn slot_unsound(table: &[u64], slot: usize, width: usize) -> bool
         return false;
     }
     true
+}
+
+// Whether a slot holds a sound rule whose rank is a priority, at most 65,535 whatever the mask: as a rule is given, lent as a table of one slot.
+pub fn slot_given(table: &[u64], slot: usize, width: usize) -> bool
+    requires { ⌜ (Width width) × (slot < slots width (now table)) ⌝ }
+    ensures { λ r. ⌜ r ≡ soundLent width (slotWords width (now (table .entry)) slot) ⌝ }
+{
+    if slot_id(table, slot, width) == 0 {
+        return false;
+    }
+    if slot_rank(table, slot, width) <= MOST_PRIORITY {
+        return slot_within(table, slot, width);
+    }
+    false
+}
+
+// Whether a slot is empty or holds such a rule: a screen for check 2, which does not ask for a full mask.
+pub fn slot_plain(table: &[u64], slot: usize, width: usize) -> bool
+    requires { ⌜ (Width width) × (slot < slots width (now table)) ⌝ }
+    ensures { λ r. ⌜ r ≡ (empty width (slotWords width (now (table .entry)) slot) || soundLent width (slotWords width (now (table .entry)) slot)) ⌝ }
+{
+    if slot_id(table, slot, width) == 0 {
+        return slot_zero(table, slot, width);
+    }
+    slot_given(table, slot, width)
 }
 
 // Whether a word of a key agrees with that word of a slot's pattern.

@@ -1,6 +1,6 @@
-// Document 01's rule struct, of two words, and its slot record; the halves of a record's word of id and action.
+// Document 01's rule struct, of two words, and its slot record, a rule's priority for its rank; the halves of a record's word of id and action.
 // Tables hold records, and the calls of either width take one.
-use crate::slot_sound;
+use crate::slot_given;
 use records::NARROW;
 use records::NARROW_RECORD;
 use records::Rule;
@@ -68,10 +68,10 @@ pub fn rule_of(words: [u64; NARROW_RECORD]) -> Rule
     }
 }
 
-// Whether a rule is sound.
+// Whether a rule is sound, as it is given.
 pub fn rule_sound(rule: Rule) -> bool
     ensures { λ r. ⌜ r ≡ soundRule 2 rule ⌝ }
 {
     let record = record_of(rule);
-    slot_sound(&record, 0, NARROW)
+    slot_given(&record, 0, NARROW)
 }

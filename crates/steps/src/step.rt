@@ -6,20 +6,22 @@ use plan_words::PlanWrite;
 use plan_words::write_of;
 use records::Cause;
 use records::Check;
+use records::EDITION_13;
 use records::NARROW;
 use records::Rule;
 use records::check_rule;
+use slots::given::check_given;
 use slots::rules::record_of;
-use slots::slot_sound;
 use table_checks::check_slots;
 use writes::make_write;
 use writes::word_fits;
 ghost use mathlib.Core.Path.{_≡_};
 ghost use lib.ListN.{length};
 ghost use Rattle.plan_words.specs.PlanWords.{writeOf};
-ghost use Rattle.records.specs.Record.{word as wordOf, recordWords, ruleOf};
+ghost use Rattle.records.specs.Record.{recordWords};
 ghost use Rattle.records.specs.Widths.{Width};
-ghost use Rattle.carrying.specs.Carrying.{stepTold, progressChecks, putSound, writeChecks, stepAnswer, stepTable, stepCall, stepCallTable};
+ghost use Rattle.records.specs.Editions.{lentRule, under13};
+ghost use Rattle.carrying.specs.Carrying.{stepTold, progressChecks, putChecks, writeChecks, stepAnswer, stepTable, stepCall, stepCallTable};
 
 // Checks 1 and 2, and 12 for more writes done than in all or more in all than the plan has words.
 fn check_progress(table: &[u64], plan: &[u32], done: u32, total: u32, width: usize) -> Check
@@ -36,26 +38,33 @@ fn check_progress(table: &[u64], plan: &[u32], done: u32, total: u32, width: usi
     Check::Fail(Cause::Write, done)
 }
 
-// Whether the rule that a plan word puts in is sound; other words put none in.
-fn put_sound(rule: &[u64], word: u32, width: usize) -> bool
+// 5 and 18 of the rule that a plan word puts in; other words put none in.
+fn check_put(rule: &[u64], edition: u32, word: u32, width: usize) -> Check
     requires { ⌜ (Width width) × (length (now rule) ≡ recordWords width) ⌝ }
-    ensures { λ r. ⌜ r ≡ putSound width (ruleOf width (wordOf (now (rule .entry)))) (writeOf word) ⌝ }
+    ensures { λ r. ⌜ r ≡ putChecks width (lentRule width edition (now (rule .entry))) (writeOf word) ⌝ }
 {
     match write_of(word) {
-        PlanWrite::Copy(_, _) => true,
-        PlanWrite::PutIn(_) => slot_sound(rule, 0, width),
-        PlanWrite::Clear(_) => true,
+        PlanWrite::Copy(_, _) => Check::Pass,
+        PlanWrite::PutIn(_) => check_given(rule, edition, width),
+        PlanWrite::Clear(_) => Check::Pass,
     }
 }
 
-// 5 for an unsound rule where one is put in, then 12 for a write that does not fit.
-fn check_write(table: &[u64], rule: &[u64], word: u32, done: u32, width: usize) -> Check
+// 5 and 18 where a rule is put in, then 12 for a write that does not fit.
+fn check_write(
+    table: &[u64],
+    rule: &[u64],
+    edition: u32,
+    word: u32,
+    done: u32,
+    width: usize,
+) -> Check
     requires { ⌜ (Width width) × (length (now rule) ≡ recordWords width) ⌝ }
-    ensures { λ r. ⌜ r ≡ writeChecks width (now (table .entry)) (ruleOf width (wordOf (now (rule .entry)))) word done ⌝ }
+    ensures { λ r. ⌜ r ≡ writeChecks width (now (table .entry)) (lentRule width edition (now (rule .entry))) word done ⌝ }
 {
-    let sound = put_sound(rule, word, width);
-    if !sound {
-        return Check::Fail(Cause::Rule, 0);
+    let put = check_put(rule, edition, word, width);
+    if let Check::Fail(cause, spot) = put {
+        return Check::Fail(cause, spot);
     }
     if word_fits(table, word, width) {
         return Check::Pass;
@@ -68,13 +77,14 @@ fn step_at(
     table: &mut [u64],
     plan: &[u32],
     rule: &[u64],
+    edition: u32,
     done: u32,
     total: u32,
     width: usize,
 ) -> StepAnswer
     requires { ⌜ (Width width) × (length (now rule) ≡ recordWords width) ⌝ }
-    ensures { λ r. ⌜ stepTold r ≡ stepAnswer width (now (table .entry)) (now (plan .entry)) (ruleOf width (wordOf (now (rule .entry)))) done total ⌝ }
-    ensures { λ _. ⌜ now (table .exit) ≡ stepTable width (now (table .entry)) (now (plan .entry)) (ruleOf width (wordOf (now (rule .entry)))) done total ⌝ }
+    ensures { λ r. ⌜ stepTold r ≡ stepAnswer width (now (table .entry)) (now (plan .entry)) (lentRule width edition (now (rule .entry))) done total ⌝ }
+    ensures { λ _. ⌜ now (table .exit) ≡ stepTable width (now (table .entry)) (now (plan .entry)) (lentRule width edition (now (rule .entry))) done total ⌝ }
 {
     let progress = check_progress(table, plan, done, total, width);
     if let Check::Fail(cause, spot) = progress {
@@ -84,11 +94,11 @@ fn step_at(
         return StepAnswer::Finished;
     }
     let word = plan[done as usize];
-    let fitting = check_write(table, rule, word, done, width);
+    let fitting = check_write(table, rule, edition, word, done, width);
     if let Check::Fail(cause, spot) = fitting {
         return StepAnswer::Refused(cause, spot);
     }
-    make_write(table, rule, word, width);
+    make_write(table, rule, edition, word, width);
     StepAnswer::Wrote(StepInfo { done: done + 1 })
 }
 
@@ -97,25 +107,26 @@ pub fn step(
     table: &mut [u64],
     plan: &[u32],
     rule: &[u64],
+    edition: u32,
     done: u32,
     total: u32,
     width: usize,
 ) -> StepAnswer
-    ensures { λ r. ⌜ stepTold r ≡ stepCall width (now (table .entry)) (now (plan .entry)) (now (rule .entry)) done total ⌝ }
-    ensures { λ _. ⌜ now (table .exit) ≡ stepCallTable width (now (table .entry)) (now (plan .entry)) (now (rule .entry)) done total ⌝ }
+    ensures { λ r. ⌜ stepTold r ≡ stepCall width edition (now (table .entry)) (now (plan .entry)) (now (rule .entry)) done total ⌝ }
+    ensures { λ _. ⌜ now (table .exit) ≡ stepCallTable width edition (now (table .entry)) (now (plan .entry)) (now (rule .entry)) done total ⌝ }
 {
     let lent = check_rule(width, rule.len());
     if let Check::Fail(cause, spot) = lent {
         return StepAnswer::Refused(cause, spot);
     }
-    step_at(table, plan, rule, done, total, width)
+    step_at(table, plan, rule, edition, done, total, width)
 }
 
-// The same of document 01's rule struct, at two words.
+// The same of document 01's rule struct, at two words, under 1.3.
 pub fn step_rule(table: &mut [u64], plan: &[u32], rule: Rule, done: u32, total: u32) -> StepAnswer
-    ensures { λ r. ⌜ stepTold r ≡ stepAnswer 2 (now (table .entry)) (now (plan .entry)) rule done total ⌝ }
-    ensures { λ _. ⌜ now (table .exit) ≡ stepTable 2 (now (table .entry)) (now (plan .entry)) rule done total ⌝ }
+    ensures { λ r. ⌜ stepTold r ≡ stepAnswer 2 (now (table .entry)) (now (plan .entry)) (under13 rule) done total ⌝ }
+    ensures { λ _. ⌜ now (table .exit) ≡ stepTable 2 (now (table .entry)) (now (plan .entry)) (under13 rule) done total ⌝ }
 {
     let record = record_of(rule);
-    step_at(table, plan, &record, done, total, NARROW)
+    step_at(table, plan, &record, EDITION_13, done, total, NARROW)
 }

@@ -17,6 +17,7 @@ use slots::mask_word;
 use slots::named_word;
 use slots::slot_count;
 use slots::slot_matches;
+use slots::slot_plain;
 use slots::slot_unsound;
 use slots::value_word;
 ghost use mathlib.Core.Path.{_≡_};
@@ -44,13 +45,30 @@ pub fn check_shape(table: &[u64], width: usize) -> Check
     Check::Fail(Cause::Shape, 0)
 }
 
-// The lowest slot that is neither empty nor a sound rule, or the number of slots.
-fn first_unsound_by(table: &[u64], width: usize) -> usize
+// Skips slots that are empty or hold sound rules whose ranks are priorities: the first of another kind, or the number of slots. A loop without the test for
+// a full mask: most tables end in it.
+fn skip_plain(table: &[u64], width: usize) -> usize
     requires { ⌜ Width width ⌝ }
-    ensures { λ r. ⌜ r ≡ least (unsoundAt width (now (table .entry))) (slots width (now (table .entry))) 0 ⌝ }
+    ensures { λ r. ⌜ NoneFrom (unsoundAt width (now (table .entry))) 0 (slots width (now (table .entry))) r ⌝ }
 {
     let slots = slot_count(table, width);
     let mut slot = 0;
+    while slot < slots {
+        if !slot_plain(table, slot, width) {
+            return slot;
+        }
+        slot += 1;
+    }
+    slots
+}
+
+// The lowest slot that is neither empty nor a sound rule, or the number of slots, from a slot on before which there is none.
+fn first_unsound_by(table: &[u64], from: usize, width: usize) -> usize
+    requires { ⌜ (Width width) × NoneFrom (unsoundAt width (now table)) 0 (slots width (now table)) from ⌝ }
+    ensures { λ r. ⌜ r ≡ least (unsoundAt width (now (table .entry))) (slots width (now (table .entry))) 0 ⌝ }
+{
+    let slots = slot_count(table, width);
+    let mut slot = from;
     while slot < slots {
         if slot_unsound(table, slot, width) {
             return slot;
@@ -60,15 +78,15 @@ fn first_unsound_by(table: &[u64], width: usize) -> usize
     slots
 }
 
-// The same, with the width a constant for the compiler: it makes a copy for each.
+// The same of the whole table, with the width a constant for the compiler: it makes a copy for each.
 fn first_unsound(table: &[u64], width: usize) -> usize
     requires { ⌜ Width width ⌝ }
     ensures { λ r. ⌜ r ≡ least (unsoundAt width (now (table .entry))) (slots width (now (table .entry))) 0 ⌝ }
 {
     if width == NARROW {
-        return first_unsound_by(table, NARROW);
+        return first_unsound_by(table, skip_plain(table, NARROW), NARROW);
     }
-    first_unsound_by(table, WIDE)
+    first_unsound_by(table, skip_plain(table, WIDE), WIDE)
 }
 
 // Check 2: each slot is empty or a sound rule.
@@ -94,7 +112,7 @@ fn check_twice(table: &[u64], width: usize) -> Check
     lowest_twice(table, &ids, &mut seen, width)
 }
 
-// Check 4: of two overlapping rules the earlier one has the strictly higher priority. Made where check 2 passes. The neighbour list
+// Check 4: of two overlapping rules the earlier one has the strictly higher rank. Made where check 2 passes. The neighbour list
 // comes with it.
 fn check_order(table: &[u64], near: &mut [u16], mode: Mode) -> Check
     requires { ⌜ (Width (mode .width)) × (slots (mode .width) (now table) ≤ mostSlots) × (2 * (slots (mode .width) (now table)) ≤ length (now near)) ⌝ }

@@ -4,8 +4,9 @@ use mathlib.Core.Path.{_≡_}
 use Prim.Native.Nat.{ℕ}
 use lib.ListN.{length}
 use mathlib.Core.List.{List}
-use Rattle.records.specs.Record.{word, slotWords, ident, action, ruleOf}
+use Rattle.records.specs.Record.{word, slotWords, ident, action}
 use Rattle.records.specs.Checks.{Told}
+use Rattle.records.specs.Editions.{lentRule, ranked}
 use Rattle.lookups.specs.Lookup.{lookupCall, FirstAt, NoMatch}
 use Rattle.delete_plans.specs.Deletes.{deleteCall, deleteCallPlan}
 use Rattle.insert_plans.specs.Inserts.{insertCall, insertCallPlan}
@@ -42,10 +43,10 @@ pub record PlanLeft (told : Told) (planned : List ℕ) (result : ℕ) (after : L
   pub counted : count′ ≡ dataCell told 0 count
   pub spotted : spot′ ≡ spotCell told spot
 
--- an insert; demand 3 of it too
-pub record InsertLeft (w : ℕ) (t rule : List ℕ) (result : ℕ) (plan after : List ℕ) (count count′ spot spot′ : ℕ) : Type 0 where
-  pub left : PlanLeft (insertCall w t rule (length plan)) (insertCallPlan w t rule plan) result after count count′ spot spot′
-  pub shortest : InsertableCall w t rule → Demand3 w t (ruleOf w (word rule)) (insertCall w t rule (length plan)) plan after
+-- an insert, whose rule is given with the edition e; demand 3 of it too
+pub record InsertLeft (w e : ℕ) (t rule : List ℕ) (result : ℕ) (plan after : List ℕ) (count count′ spot spot′ : ℕ) : Type 0 where
+  pub left : PlanLeft (insertCall w e t rule (length plan)) (insertCallPlan w e t rule plan) result after count count′ spot spot′
+  pub shortest : InsertableCall w e t rule → Demand3 w t (ranked w (lentRule w e rule)) (insertCall w e t rule (length plan)) plan after
 
 -- a delete
 abbrev pub DeleteLeft : ℕ → List ℕ → ℕ → ℕ → List ℕ → List ℕ → ℕ → ℕ → ℕ → ℕ → Type 0

@@ -16,14 +16,15 @@ pub extern "C" fn tcam_carry_out(
     table: &mut [u64],
     width: u32,
     rule: &[u64],
+    edition: u32,
     plan: &[u32],
     progress: &mut Progress,
 ) -> u64
-    ensures { λ r. ⌜ CarryLeft width (now (table .entry)) (now (plan .entry)) (now (rule .entry)) (now (progress .entry)) r (now (table .exit)) (now (progress .exit)) ⌝ }
+    ensures { λ r. ⌜ CarryLeft width edition (now (table .entry)) (now (plan .entry)) (now (rule .entry)) (now (progress .entry)) r (now (table .exit)) (now (progress .exit)) ⌝ }
 {
     let done = progress.done;
     let total = progress.total;
-    let carried = carry(table, width, rule, plan, done, total);
+    let carried = carry(table, width, rule, edition, plan, done, total);
     progress.done = carried.done;
     carried.result
 }

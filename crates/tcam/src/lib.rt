@@ -70,16 +70,17 @@ pub extern "C" fn tcam_plan_insert(
     table: &[u64],
     width: u32,
     rule: &[u64],
+    edition: u32,
     plan: &mut [u32],
     count: &mut u32,
     spot: &mut u32,
 ) -> u32
-    ensures { λ r. ⌜ InsertLeft width (now (table .entry)) (now (rule .entry)) r (now (plan .entry)) (now (plan .exit)) (now (count .entry)) (now (count .exit)) (now (spot .entry)) (now (spot .exit)) ⌝ }
+    ensures { λ r. ⌜ InsertLeft width edition (now (table .entry)) (now (rule .entry)) r (now (plan .entry)) (now (plan .exit)) (now (count .entry)) (now (count .exit)) (now (spot .entry)) (now (spot .exit)) ⌝ }
 {
     let mode = Mode {
         width: width as usize,
     };
-    let answer = plan_insert(table, rule, plan, mode);
+    let answer = plan_insert(table, rule, edition, plan, mode);
     spread(answer, count, spot)
 }
 

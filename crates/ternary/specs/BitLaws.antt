@@ -2,12 +2,13 @@
 -- A word is 0 exactly when each of its bits is; so a test against zero speaks of every position.
 use mathlib.Core.Path.{_≡_, refl, sym, ap, ap₂, _∙_}
 use mathlib.Core.Logic.{_↔_}
-use Prim.Native.Nat.{ℕ, zero, suc, _+_, _*_, _/_, _%_, _^_, _<_, min, max}
+use Prim.Native.Nat.{ℕ, zero, suc, _+_, _*_, _/_, _%_, _^_, _≤_, _<_, min, max}
 use native.Mathlib.Nat.{mod-lt, zero-lt-suc, pow-suc, mul-comm, zero-div, div-one, div-div-eq-div-mul}
 use native.Mathlib.Omega.{arith}
 use lib.Bits.{bitAnd, bitOr, bitXor, and-step, or-step, xor-step, and-shr, or-shr, xor-shr, differ}
 use lib.Arith.{bin-ind}
 use Rattle.ternary.specs.Bit.{bit}
+use Rattle.ternary.specs.Word.{ones}
 
 pub bit-lt : (x i : ℕ) → bit x i < 2
 unfolding bit
@@ -80,3 +81,32 @@ zero-bits x = (λ e i. ap (λ (y : ℕ). bit y i) e ∙ bit-zero i, from x)
     from =
         bin-ind (λ (n : ℕ). ((i : ℕ) → bit n i ≡ 0) → n ≡ 0) (λ h. refl)
         (λ n ih h. let e : n / 2 ≡ 0 = ih (λ i. bit-half n i ∙ h (suc i)) in let f : n % 2 ≡ 0 = sym (bit-low n) ∙ h 0 in omega arith)
+
+-- the lowest bits set, so many of them
+allBits : ℕ → ℕ
+allBits zero = 0
+allBits (suc k) = 2 * allBits k + 1
+
+half-of : (x i : ℕ) → bit (2 * x + 1) (suc i) ≡ bit x i
+half-of x i = sym (bit-half (2 * x + 1) i) ∙ (let h : (2 * x + 1) / 2 ≡ x = omega arith in ap (λ (y : ℕ). bit y i) h)
+
+set-below : (k i : ℕ) → i < k → bit (allBits k) i ≡ 1
+unfolding allBits
+set-below zero i h = absurd (omega arith)
+set-below (suc k) zero h = bit-low (2 * allBits k + 1) ∙ omega arith
+set-below (suc k) (suc i) h = half-of (allBits k) i ∙ set-below k i (omega arith)
+
+unset-above : (k i : ℕ) → k ≤ i → bit (allBits k) i ≡ 0
+unfolding allBits
+unset-above zero i h = bit-zero i
+unset-above (suc k) zero h = absurd (omega arith)
+unset-above (suc k) (suc i) h = half-of (allBits k) i ∙ unset-above k i (omega arith)
+
+-- the bits of a word of 64, all set, and of its number none else
+pub bit-ones : (i : ℕ) → i < 64 → bit ones i ≡ 1
+unfolding allBits
+bit-ones i h = set-below 64 i h
+
+pub bit-past-ones : (i : ℕ) → 64 ≤ i → bit ones i ≡ 0
+unfolding allBits
+bit-past-ones i h = unset-above 64 i h

@@ -1,11 +1,11 @@
--- Patterns of any number of words: match, overlap, value within mask. Document 01's sentences, and the tests that decide them.
+-- Patterns of any number of words: match, overlap, value within mask, full mask. Sentences of documents 01 and 02, and the tests that decide them.
 -- A value, a mask and a key are read word by word, word 0 the highest; w is the number of words.
 use mathlib.Core.Path.{_≡_}
 use mathlib.Core.Bool.{Bool}
 use Prim.Native.Nat.{ℕ, _<_}
 use Rattle.search.specs.Search.{all}
 use Rattle.ternary.specs.Bit.{bit}
-use Rattle.ternary.specs.Word.{agree, inside, both, common}
+use Rattle.ternary.specs.Word.{agree, inside, both, common, ones}
 
 -- the words of a value, of a mask or of a key
 abbrev pub Words : Type 0
@@ -27,6 +27,10 @@ Overlap w value mask value′ mask′ = (j : ℕ) → j < w → (i : ℕ) → Cl
 abbrev pub Within : ℕ → Words → Words → Type 0
 Within w value mask = (j : ℕ) → j < w → (i : ℕ) → bit (mask j) i ≡ 0 → bit (value j) i ≡ 0
 
+-- document 02: every mask bit is set, 64 of each word
+abbrev pub FullMask : ℕ → Words → Type 0
+FullMask w mask = (j : ℕ) → j < w → (i : ℕ) → i < 64 → bit (mask j) i ≡ 1
+
 -- the tests, a word at a time
 unfoldable pub matches : ℕ → Words → Words → Words → Bool
 matches w key value mask = all (λ (j : ℕ). agree (key j) (value j) (mask j)) w
@@ -36,6 +40,9 @@ overlaps w value mask value′ mask′ = all (λ (j : ℕ). agree (value j) (val
 
 unfoldable pub within : ℕ → Words → Words → Bool
 within w value mask = all (λ (j : ℕ). inside (value j) (mask j)) w
+
+unfoldable pub fullMask : ℕ → Words → Bool
+fullMask w mask = all (λ (j : ℕ). inside ones (mask j)) w
 
 -- a key that two overlapping patterns both match
 unfoldable pub commonKey : Words → Words → Words → Words → Words

@@ -1,4 +1,4 @@
--- End theorems on patterns of any number of words: the tests of match, overlap and value within mask decide document 01's sentences.
+-- End theorems on patterns of any number of words: the tests of match, overlap, value within mask and full mask decide the sentences of documents 01 and 02.
 use mathlib.Core.Path.{_≡_, sym, _∙_}
 use mathlib.Core.Bool.{Bool, true}
 use mathlib.Core.Logic.{_↔_}
@@ -7,9 +7,9 @@ use native.Mathlib.Decide.{ℕ-discrete}
 use Rattle.search.specs.Search.{all}
 use Rattle.search.specs.SearchLaws.{all-law, all-cong}
 use Rattle.ternary.specs.Bit.{bit}
-use Rattle.ternary.specs.Word.{agree, inside, both, common}
-use Rattle.ternary.specs.WordLaws.{agree-law, inside-law, both-law, common-left, common-right, common-fits}
-use Rattle.ternary.specs.Pattern.{commonKey, overlaps, within, Within, Matches, matches, Overlap, Clash, Words}
+use Rattle.ternary.specs.Word.{agree, inside, both, common, ones}
+use Rattle.ternary.specs.WordLaws.{agree-law, inside-law, full-word-law, both-law, common-left, common-right, common-fits}
+use Rattle.ternary.specs.Pattern.{commonKey, overlaps, within, Within, fullMask, FullMask, Matches, matches, Overlap, Clash, Words}
 
 -- the tests read the words below w alone
 pub matches-cong : (w : ℕ) {key key′ value value′ mask mask′ : Words}
@@ -29,6 +29,10 @@ pub within-cong : (w : ℕ) {value value′ mask mask′ : Words}
 unfolding within
 within-cong w hv hm = all-cong w (λ j h. let v = hv j h in let m = hm j h in cc)
 
+pub full-cong : (w : ℕ) {mask mask′ : Words} → ((j : ℕ) → j < w → mask j ≡ mask′ j) → fullMask w mask ≡ fullMask w mask′
+unfolding fullMask
+full-cong w hm = all-cong w (λ j h. let m = hm j h in cc)
+
 -- a test over all words says what each word's test says
 each : (p : ℕ → Bool) (P : ℕ → Type 0) → ((j : ℕ) → (p j ≡ true) ↔ P j) → (w : ℕ) → (all p w ≡ true) ↔ ((j : ℕ) → j < w → P j)
 each p P law w = (λ e j h. law j .0 (all-law p w .0 e j h), λ f. all-law p w .1 (λ j h. law j .1 (f j h)))
@@ -44,6 +48,11 @@ unfolding within
 within-law w value mask =
     each (λ (j : ℕ). inside (value j) (mask j)) (λ (j : ℕ). (i : ℕ) → bit (mask j) i ≡ 0 → bit (value j) i ≡ 0)
     (λ j. inside-law (value j) (mask j)) w
+
+-- document 02: every mask bit is set
+pub full-law : (w : ℕ) (mask : Words) → (fullMask w mask ≡ true) ↔ FullMask w mask
+unfolding fullMask
+full-law w mask = each (λ (j : ℕ). inside ones (mask j)) (λ (j : ℕ). (i : ℕ) → i < 64 → bit (mask j) i ≡ 1) (λ j. full-word-law (mask j)) w
 
 -- values that agree at the bits of both masks are values that clash at no bit
 no-clash : (value mask value′ mask′ : Words) (j : ℕ)

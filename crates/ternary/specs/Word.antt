@@ -19,3 +19,7 @@ both m n = bitAnd m n
 -- a key that agrees with v at each bit of m and with w at each bit of n, where v and w agree at the bits of both
 unfoldable pub common : ℕ → ℕ → ℕ → ℕ → ℕ
 common v m w n = bitOr (bitAnd v m) (bitAnd w n)
+
+-- a word of 64 bits, all set
+abbrev pub ones : ℕ
+ones = 18446744073709551615

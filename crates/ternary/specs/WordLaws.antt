@@ -4,13 +4,13 @@ use mathlib.Core.Bool.{true}
 use mathlib.Core.Logic.{_↔_}
 use Prim.Native.Nat.{ℕ, zero, suc, _^_, _<_, min, max}
 use native.Mathlib.Omega.{arith}
-use native.Mathlib.Decide.{ℕ-discrete}
+use native.Mathlib.Decide.{ℕ-discrete, decLt}
 use lib.Dec.{eqb}
 use lib.Bits.{bitAnd, bitXor, differ, and-lt, or-lt}
 use borrow.Author.Tests.{eqb-true, eq-eqb}
 use Rattle.ternary.specs.Bit.{bit}
-use Rattle.ternary.specs.BitLaws.{bit-lt, bit-and, bit-or, bit-xor, zero-bits}
-use Rattle.ternary.specs.Word.{inside, common, agree, both}
+use Rattle.ternary.specs.BitLaws.{bit-lt, bit-and, bit-or, bit-xor, zero-bits, bit-ones, bit-past-ones}
+use Rattle.ternary.specs.Word.{inside, common, agree, both, ones}
 
 -- a test against zero, bit by bit
 test-law : (x : ℕ) → (eqb x 0 ≡ true) ↔ ((i : ℕ) → bit x i ≡ 0)
@@ -65,6 +65,24 @@ inside-law v m = (
 
     at : (i : ℕ) → bit (bitXor (bitAnd v m) v) i ≡ differ (min (bit v i) (bit m i)) (bit v i)
     at i = bit-xor (bitAnd v m) v i ∙ ap (λ (x : ℕ). differ x (bit v i)) (bit-and v m i)
+
+-- every bit of a word is set exactly when all bits are inside it
+pub full-word-law : (m : ℕ) → (inside ones m ≡ true) ↔ ((i : ℕ) → i < 64 → bit m i ≡ 1)
+full-word-law m = (
+  λ e i h. set i (λ z. let f = sym (bit-ones i h) ∙ inside-law ones m .0 e i z in omega arith),
+  λ f. inside-law ones m .1 (λ i z. unset i z (decLt i 64) f),
+)
+  where
+    set : (i : ℕ) → (bit m i ≡ 0 → ⊥) → bit m i ≡ 1
+    set i f = pick (ℕ-discrete (bit m i) 0)
+      where
+        pick : Dec (bit m i ≡ 0) → bit m i ≡ 1
+        pick (yes z) = absurd (f z)
+        pick (no z) = omega (arith, bit-lt m i)
+
+    unset : (i : ℕ) → bit m i ≡ 0 → Dec (i < 64) → ((j : ℕ) → j < 64 → bit m j ≡ 1) → bit ones i ≡ 0
+    unset i z (yes l) f = absurd (omega (arith, f i l))
+    unset i z (no l) f = bit-past-ones i (omega arith)
 
 -- a bit is cared for by both exactly when each cares for it
 pub both-law : (m n i : ℕ) → (bit (both m n) i ≡ 1) ↔ ((bit m i ≡ 1) × (bit n i ≡ 1))

@@ -1,7 +1,7 @@
-// Tests of ternary words: does a key agree with a value, can two patterns match one key, does a value lie within its mask.
+// Tests of ternary words: does a key agree with a value, can two patterns match one key, does a value lie within its mask, is every bit cared for.
 // Each is masks and exclusive-or against zero; specs/ says what the tests mean at every bit position, for any number of words.
 ghost use mathlib.Core.Path.{_≡_};
-ghost use Rattle.ternary.specs.Word.{agree, both, inside};
+ghost use Rattle.ternary.specs.Word.{agree, both, inside, ones};
 
 // Whether a word of a key equals a word of a value at all bits cared for.
 pub fn word_matches(key: u64, value: u64, mask: u64) -> bool
@@ -22,4 +22,11 @@ pub fn word_within(value: u64, mask: u64) -> bool
     ensures { λ r. ⌜ r ≡ inside value mask ⌝ }
 {
     (value & mask) ^ value == 0
+}
+
+// Whether every bit of a mask's word is set.
+pub fn word_full(mask: u64) -> bool
+    ensures { λ r. ⌜ r ≡ inside ones mask ⌝ }
+{
+    word_within(18446744073709551615, mask)
 }

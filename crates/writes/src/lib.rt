@@ -5,6 +5,7 @@ use plan_words::PlanWrite;
 use plan_words::write_of;
 use records::WIDE_RECORD;
 use records::record_words;
+use slots::given::given_rank;
 use slots::put_record;
 use slots::read_record;
 use slots::slot_count;
@@ -15,11 +16,13 @@ ghost use Prim.Native.Nat.{_<_};
 ghost use lib.ListN.{length};
 ghost use Rattle.layout.specs.Write.{copy, put, clear};
 ghost use Rattle.plan_words.specs.PlanWords.{writeOf};
-ghost use Rattle.records.specs.Record.{word as wordOf, recordWords, ruleOf, putSlot};
+ghost use Rattle.records.specs.Record.{recordWords, recordOf, putSlot};
 ghost use Rattle.records.specs.Order.{slots};
 ghost use Rattle.records.specs.Entries.{entryAt, vacant};
 ghost use Rattle.records.specs.Widths.{Width};
-ghost use Rattle.carrying.specs.Carrying.{putSound};
+ghost use Rattle.records.specs.Editions.{lentRule, ranked, checkGiven};
+ghost use Rattle.records.specs.declared.Check.the-variants.{Pass};
+ghost use Rattle.carrying.specs.Carrying.{putChecks};
 ghost use Rattle.records.specs.Writes.{heldAt, standsElsewhere, freeAt, fitsWrite, fitsWord, applyWord};
 
 // Whether another slot holds a slot's id.
@@ -123,15 +126,25 @@ fn clear_slot(table: &mut [u64], slot: usize, width: usize)
     put_record(table, slot, &words[0..record_words(width)], width);
 }
 
-// Makes the write of a plan word that fits; a rule that is put in is sound.
-pub fn make_write(table: &mut [u64], rule: &[u64], word: u32, width: usize)
+// Puts a rule that is sound and given with an edition that there is into a slot, with its rank for its priority.
+fn put_rule(table: &mut [u64], to: usize, rule: &[u64], edition: u32, width: usize)
+    requires { ⌜ (Width width) × (to < slots width (now table)) × (length (now rule) ≡ recordWords width) ⌝ }
+    requires { ⌜ checkGiven width (lentRule width edition (now rule)) ≡ Pass ⌝ }
+    ensures { λ _. ⌜ now (table .exit) ≡ putSlot width (now (table .entry)) to (recordOf width (ranked width (lentRule width edition (now (rule .entry))))) ⌝ }
+{
+    put_record(table, to, rule, width);
+    table[to * record_words(width) + 2 * width + 1] = given_rank(rule, edition, width);
+}
+
+// Makes the write of a plan word that fits; a rule that is put in is sound, and its edition one that there is.
+pub fn make_write(table: &mut [u64], rule: &[u64], edition: u32, word: u32, width: usize)
     requires { ⌜ (Width width) × (length (now rule) ≡ recordWords width) × (fitsWord width (now table) word ≡ true) ⌝ }
-    requires { ⌜ putSound width (ruleOf width (wordOf (now rule))) (writeOf word) ≡ true ⌝ }
-    ensures { λ _. ⌜ now (table .exit) ≡ applyWord width (now (table .entry)) (ruleOf width (wordOf (now (rule .entry)))) word ⌝ }
+    requires { ⌜ putChecks width (lentRule width edition (now rule)) (writeOf word) ≡ Pass ⌝ }
+    ensures { λ _. ⌜ now (table .exit) ≡ applyWord width (now (table .entry)) (ranked width (lentRule width edition (now (rule .entry)))) word ⌝ }
 {
     match write_of(word) {
         PlanWrite::Copy(from, to) => copy_slot(table, from as usize, to as usize, width),
-        PlanWrite::PutIn(to) => put_record(table, to as usize, rule, width),
+        PlanWrite::PutIn(to) => put_rule(table, to as usize, rule, edition, width),
         PlanWrite::Clear(slot) => clear_slot(table, slot as usize, width),
     }
 }

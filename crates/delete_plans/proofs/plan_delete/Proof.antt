@@ -1,12 +1,9 @@
 -- `delete_plans::plan_delete` meets its contract.
 -- The check of the width decides first, and leaves the buffer as it was.
-use mathlib.Core.Path.{sym, ap, _∙_}
+use mathlib.Core.Path.{sym, _∙_}
 use denote.Ref.{now}
 use borrow.Author.Needs.{needs}
-use Rattle.records.specs.Laws.{told-refused, told-answered}
-use Rattle.records.specs.Widths.{leaves}
-use Rattle.records.specs.WidthsLaws.{width-law}
-use Rattle.records.specs.declared.Check.{Check}
+use Rattle.records.specs.WidthsLaws.{width-law, call-refused, call-answered}
 use Rattle.delete_plans.specs.Deletes.{deletePlan}
 use Rattle.delete_plans.proofs.plan_delete.Statement.{statement}
 use Rattle.delete_plans.proofs.plan_delete.Tie as tie
@@ -21,10 +18,8 @@ returns : tie.Need-returns
 returns c =
     let a = c .before .before .before .before .before .before .args in
     let checked = c .before .before .before .check-width .ensures in
-    let fails = c .before .known .given .1 in (
-      told-refused _ checked fails,
-      ap (λ (z : Check). leaves z (deletePlan (a .mode .width) (now (a .table)) (a .id) (now (a .plan))) (now (a .plan))) (sym fails ∙ checked),
-    )
+    let fails = c .before .known .given .1 in
+    call-refused _ (deletePlan (a .mode .width) (now (a .table)) (a .id) (now (a .plan))) (now (a .plan)) checked fails
 
 enum-told : tie.Need-enum-told
 enum-told c = search needs
@@ -40,10 +35,7 @@ returns-2 c =
     let a = c .before .before .before .before .before .before .before .before .before .args in
     let checked = c .before .before .before .before .before .before .check-width .ensures in
     let passes = c .before .before .before .before .enum-told .given .1 in
-    let called = c .before .before .delete-at .ensures in (
-      told-answered checked passes (called .0),
-      called .1 ∙ ap (λ (z : Check). leaves z (deletePlan (a .mode .width) (now (a .table)) (a .id) (now (a .plan))) (now (a .plan))) (sym passes ∙ checked),
-    )
+    call-answered (now (a .plan)) checked passes (c .before .before .delete-at .ensures)
 
 pub plan-delete-spec : {M : Type 1} → statement M
 plan-delete-spec =

@@ -18,7 +18,9 @@ loop-holds : tie.Need-loop-holds Inv-loop μ-loop
 loop-holds c = pass-start _ _
 
 check-body-requires : tie.Need-check-body-requires Inv-loop μ-loop
-check-body-requires c κs = search needs
+check-body-requires c κs =
+    let pre = c .before .before .before .pre in
+    (pre .0, pre .1, omega arith, pre .2, pre .3 _ (omega arith))
 
 enum-known-check : tie.Need-enum-known-check Inv-loop μ-loop
 enum-known-check c = search needs

@@ -7,7 +7,7 @@ use native.Mathlib.Nat.{le-of-eq}
 use borrow.Author.Needs.{needs}
 use Rattle.records.specs.Laws.{failed, passed}
 use Rattle.image.specs.Checks.{checkContents, checkBodies, imageChecks}
-use Rattle.image.specs.ChecksLaws.{header-law}
+use Rattle.image.specs.ChecksLaws.{header-law, entry-law, turn-pass}
 use Rattle.image_checks.proofs.check_image.Statement.{statement}
 use Rattle.image_checks.proofs.check_image.Tie as tie
 
@@ -50,10 +50,15 @@ enum-told-2 : tie.Need-enum-told-2
 enum-told-2 c = search needs
 
 check-bodies-requires : tie.Need-check-bodies-requires
+unfolding checkContents
 check-bodies-requires c κs =
     let a = c .before .before .before .before .before .before .before .before .args in
-    let h = header-law (a .width) (a .image .now) (a .slots) .0 (sym (c .before .before .before .before .before .before .check-header .ensures) ∙ c .before .before .before .before .enum-told .given .1) in
-    (c .before .before .before .before .before .before .before .before .pre .0, omega (arith, h .2, c .before .before .before .number-at .ensures), rw (sym (c .before .before .before .number-at .ensures)) at (le-of-eq (sym (h .3))))
+    let h = header-law (a .width) (a .image .now) (a .slots) .0 (sym (c .before .before .before .before .before .before .check-header .ensures) ∙ c .before .before .before .before .enum-told .given .1) in (
+      c .before .before .before .before .before .before .before .before .pre .0,
+      omega (arith, h .2, c .before .before .before .number-at .ensures),
+      rw (sym (c .before .before .before .number-at .ensures)) at (le-of-eq (sym (h .3))),
+      λ k l. entry-law (a .width) (a .image .now) (a .slots) _ k .0 (turn-pass _ _ .0 (sym (c .before .before .check-contents .ensures) ∙ c .enum-told2 .given .1) k l) .0,
+    )
 
 returns-3 : tie.Need-returns-3
 unfolding imageChecks

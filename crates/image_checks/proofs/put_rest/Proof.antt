@@ -1,5 +1,5 @@
 -- `image_checks::put_rest` meets its contract.
--- An id and an action of four bytes each fit one word; the priority is stored behind it.
+-- An id and an action of four bytes each fit one word; the rank is stored behind it.
 use mathlib.Core.Path.{ap, ap₂, _∙_}
 use mathlib.Core.List.{[], _∷_}
 use Prim.Native.Nat.{ℕ, _+_, _*_}

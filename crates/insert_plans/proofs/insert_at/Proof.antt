@@ -4,7 +4,7 @@ use mathlib.Core.Path.{refl, sym, _∙_}
 use native.Mathlib.Omega.{arith}
 use denote.Ref.{now}
 use borrow.Author.Needs.{needs}
-use Rattle.records.specs.Record.{word, ruleOf}
+use Rattle.records.specs.Editions.{lentRule, ranked}
 use Rattle.records.specs.Laws.{failed}
 use Rattle.buffers.specs.BuffersLaws.{buffer-refused}
 use Rattle.neighbours.specs.Neighbours.{insertChecks}
@@ -25,7 +25,7 @@ returns : tie.Need-returns
 unfolding insertChecks
 returns c =
     let a = c .before .before .before .before .before .before .before .before .before .args in
-    buffer-refused (insertWords (a .mode .width) (now (a .table)) (ruleOf (a .mode .width) (word (now (a .rule))))) (now (a .plan))
+    buffer-refused (insertWords (a .mode .width) (now (a .table)) (ranked (a .mode .width) (lentRule (a .mode .width) (a .edition) (now (a .rule))))) (now (a .plan))
     (failed _ (c .before .before .before .before .check-listed .ensures .0) (c .before .check .given .1)) refl
 
 enum-told : tie.Need-enum-told

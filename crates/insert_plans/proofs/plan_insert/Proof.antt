@@ -4,14 +4,12 @@ use mathlib.Core.Path.{sym, ap, _∙_}
 use mathlib.Core.Bool.{false≢true}
 use denote.Ref.{now}
 use borrow.Author.Needs.{needs}
-use Rattle.records.specs.Record.{word, ruleOf}
+use Rattle.records.specs.Record.{word}
 use Rattle.records.specs.Checks.{passes}
-use Rattle.records.specs.Laws.{told-refused, told-answered}
-use Rattle.records.specs.Widths.{leaves}
-use Rattle.records.specs.WidthsLaws.{rule-law}
-use Rattle.records.specs.declared.Check.{Check}
+use Rattle.records.specs.RulesLaws.{rule-action}
+use Rattle.records.specs.WidthsLaws.{rule-law, call-refused, call-answered}
+use Rattle.records.specs.Editions.{lentRule}
 use Rattle.insert_plans.specs.Inserts.{insertPlan}
-use Rattle.insert_plans.specs.InsertsLaws.{lent-action}
 use Rattle.insert_plans.specs.Demand3Laws.{demand-3-call}
 use Rattle.insert_plans.proofs.plan_insert.Statement.{statement}
 use Rattle.insert_plans.proofs.plan_insert.Tie as tie
@@ -28,13 +26,9 @@ returns c =
     let w = a .mode .width in
     let plan = now (a .plan) in
     let checked = c .before .before .before .check-rule .ensures in
-    let fails = c .before .lent .given .1 in (
-      told-refused _ checked fails,
-      (
-        ap (λ (z : Check). leaves z (insertPlan w (now (a .table)) (ruleOf w (word (now (a .rule)))) plan) plan) (sym fails ∙ checked),
-        λ p. absurd (false≢true (ap passes (sym fails ∙ (checked ∙ rule-law _ _ .1 (p .width, p .words))))),
-      ),
-    )
+    let fails = c .before .lent .given .1 in
+    let refused = call-refused _ (insertPlan w (now (a .table)) (lentRule w (a .edition) (now (a .rule))) plan) plan checked fails in
+    (refused .0, (refused .1, λ p. absurd (false≢true (ap passes (sym fails ∙ (checked ∙ rule-law _ _ .1 (p .width, p .words)))))))
 
 enum-told : tie.Need-enum-told
 enum-told c = search needs
@@ -49,17 +43,13 @@ returns-2 : tie.Need-returns-2
 returns-2 c =
     let a = c .before .before .before .before .before .before .before .before .before .before .args in
     let w = a .mode .width in
-    let rule = ruleOf w (word (now (a .rule))) in
+    let given = lentRule w (a .edition) (now (a .rule)) in
     let plan = now (a .plan) in
     let checked = c .before .before .before .before .before .before .check-rule .ensures in
     let pass = c .before .before .before .before .enum-told .given .1 in
-    let called = c .before .before .insert-at .ensures in (
-      told-answered checked pass (called .0),
-      (
-        called .1 ∙ ap (λ (z : Check). leaves z (insertPlan w (now (a .table)) rule plan) plan) (sym pass ∙ checked),
-        λ p. demand-3-call w (now (a .table)) rule plan _ _ (lent-action w (word (now (a .rule)))) (called .0) (called .1) (p .insertable),
-      ),
-    )
+    let called = c .before .before .insert-at .ensures in
+    let answered = call-answered plan checked pass called in
+    (answered .0, (answered .1, λ p. demand-3-call w (now (a .table)) given plan _ _ (rule-action w (word (now (a .rule)))) (called .0) (called .1) (p .given)))
 
 pub plan-insert-spec : {M : Type 1} → statement M
 plan-insert-spec =

@@ -11,9 +11,10 @@ use Rattle.records.specs.Record.{word, ruleOf}
 use Rattle.records.specs.Rules.{Fields}
 use Rattle.records.specs.RulesLaws.{record-length, rule-of-record}
 use Rattle.records.specs.WidthsLaws.{two}
+use Rattle.records.specs.Editions.{under13}
 use Rattle.records.specs.declared.Rule.{Rule}
 use Rattle.insert_plans.specs.Inserts.{insertAnswer, insertPlan}
-use Rattle.insert_plans.specs.Demand3Laws.{demand-3-call}
+use Rattle.insert_plans.specs.Demand3Laws.{demand-3-rule}
 use Rattle.insert_plans.proofs.plan_rule.Statement.{statement}
 use Rattle.insert_plans.proofs.plan_rule.Tie as tie
 
@@ -45,9 +46,9 @@ returns c =
     } in
     let same = ap (λ (l : List ℕ). ruleOf 2 (word l)) (c .before .before .before .before .before .record-of .ensures) ∙ rule-of-record 2 (a .rule) fields in
     let called = c .before .before .insert-at .ensures in
-    let told = called .0 ∙ ap (λ (r : Rule). insertAnswer 2 t r (length plan)) same in
-    let buffer = called .1 ∙ ap (λ (r : Rule). insertPlan 2 t r plan) same in
-    (told, (buffer, demand-3-call 2 t (a .rule) plan _ _ (fields .action32) told buffer))
+    let told = called .0 ∙ ap (λ (r : Rule). insertAnswer 2 t (under13 r) (length plan)) same in
+    let buffer = called .1 ∙ ap (λ (r : Rule). insertPlan 2 t (under13 r) plan) same in
+    (told, (buffer, demand-3-rule 2 t (a .rule) plan _ _ (fields .action32) told buffer))
 
 pub plan-rule-spec : {M : Type 1} → statement M
 plan-rule-spec =

@@ -2,9 +2,8 @@
 -- Where the width is not one of the two nothing is written; else the call at that width answers.
 use mathlib.Core.Path.{sym, _∙_}
 use borrow.Author.Needs.{needs}
-use Rattle.records.specs.WidthsLaws.{width-law}
+use Rattle.records.specs.WidthsLaws.{width-law, call-refused, call-answered}
 use Rattle.image.specs.Answers.{loadAnswer, loadTable}
-use Rattle.image.specs.AnswersLaws.{call-refused, call-answered}
 use Rattle.loads.proofs.load.Statement.{statement}
 use Rattle.loads.proofs.load.Tie as tie
 

@@ -23,17 +23,17 @@ enum-known-cause c = search needs
 cause-number-requires : tie.Need-cause-number-requires
 cause-number-requires c κs = search needs
 
-cast-t17 : tie.Need-cast-t17
-cast-t17 c = search needs
-
 cast-t18 : tie.Need-cast-t18
 cast-t18 c = search needs
 
-mul-t19 : tie.Need-mul-t19
-mul-t19 c = search needs
+cast-t19 : tie.Need-cast-t19
+cast-t19 c = search needs
 
-add-t20 : tie.Need-add-t20
-add-t20 c = search needs
+mul-t20 : tie.Need-mul-t20
+mul-t20 c = search needs
+
+add-t21 : tie.Need-add-t21
+add-t21 c = search needs
 
 same-length : tie.Need-same-length
 same-length c = search needs
@@ -42,7 +42,7 @@ returns : tie.Need-returns
 returns c =
     let a = c .before .before .before .before .before .before .before .before .before .before .args in
     let told = c .before .before .before .before .before .step .ensures in
-    (carry-ends (a .width) (now (a .table)) (now (a .plan)) (now (a .rule)) (a .done) (a .total) (sym (ap stepTold (c .before .info .given .1)) ∙ told .0) refl, told .1)
+    (carry-ends (a .width) (a .edition) (now (a .table)) (now (a .plan)) (now (a .rule)) (a .done) (a .total) (sym (ap stepTold (c .before .info .given .1)) ∙ told .0) refl, told .1)
 
 same-length-2 : tie.Need-same-length-2
 same-length-2 c = search needs
@@ -51,7 +51,7 @@ returns-2 : tie.Need-returns-2
 returns-2 c =
     let a = c .before .before .before .before .before .before .before .before .before .args in
     let told = c .before .before .before .before .step .ensures in
-    (carry-ends (a .width) (now (a .table)) (now (a .plan)) (now (a .rule)) (a .done) (a .total) (sym (ap stepTold (c .enum-told .given .1)) ∙ told .0) refl, told .1)
+    (carry-ends (a .width) (a .edition) (now (a .table)) (now (a .plan)) (now (a .rule)) (a .done) (a .total) (sym (ap stepTold (c .enum-told .given .1)) ∙ told .0) refl, told .1)
 
 same-length-3 : tie.Need-same-length-3
 same-length-3 c = search needs
@@ -60,7 +60,7 @@ returns-3 : tie.Need-returns-3
 returns-3 c =
     let a = c .before .before .before .before .before .before .before .before .before .before .before .args in
     let told = c .before .before .before .before .before .before .step .ensures in
-    (carry-ends (a .width) (now (a .table)) (now (a .plan)) (now (a .rule)) (a .done) (a .total) (sym (ap stepTold (c .before .before .cause .given .1)) ∙ told .0) (carried-refused (c .before .before .cause .given .0 .0) _ (a .done) (c .cause-number .ensures)), told .1)
+    (carry-ends (a .width) (a .edition) (now (a .table)) (now (a .plan)) (now (a .rule)) (a .done) (a .total) (sym (ap stepTold (c .before .before .cause .given .1)) ∙ told .0) (carried-refused (c .before .before .cause .given .0 .0) _ (a .done) (c .cause-number .ensures)), told .1)
 
 pub carry-spec : {M : Type 1} → statement M
 carry-spec =
@@ -71,10 +71,10 @@ carry-spec =
     enum-told
     enum-known-cause
     cause-number-requires
-    cast-t17
     cast-t18
-    mul-t19
-    add-t20
+    cast-t19
+    mul-t20
+    add-t21
     same-length
     returns
     same-length-2

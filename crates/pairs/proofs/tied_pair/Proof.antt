@@ -1,5 +1,5 @@
 -- `pairs::tied_pair` meets its contract.
--- Priorities first; the patterns and the ids only where they ask for it.
+-- Ranks first; the patterns and the ids only where they ask for it.
 use mathlib.Core.Bool.{and-true, and-false}
 use borrow.Author.Tests.{eq-eqb, ne-eqb}
 use borrow.Author.Needs.{needs}

@@ -3,9 +3,8 @@
 use mathlib.Core.Path.{sym, _∙_}
 use lib.ListN.{length}
 use borrow.Author.Needs.{needs}
-use Rattle.records.specs.WidthsLaws.{width-law}
+use Rattle.records.specs.WidthsLaws.{width-law, call-refused, call-answered}
 use Rattle.image.specs.Answers.{saveAnswer, saveBuffer}
-use Rattle.image.specs.AnswersLaws.{call-refused, call-answered}
 use Rattle.saves.proofs.save.Statement.{statement}
 use Rattle.saves.proofs.save.Tie as tie
 

@@ -4,11 +4,11 @@ use mathlib.Core.Path.{_≡_, sym, ap, _∙_}
 use mathlib.Core.Bool.{Bool, not, _&&_, and-true}
 use mathlib.Core.List.{List}
 use Prim.Native.Nat.{ℕ}
-use lib.Dec.{eqb, leb}
+use lib.Dec.{eqb}
 use borrow.Author.Needs.{needs}
 use borrow.Author.Tests.{eq-eqb, ne-eqb}
 use Rattle.ternary.specs.Pattern.{within}
-use Rattle.records.specs.Record.{slotWords, value, mask, rank, ident, soundParts}
+use Rattle.records.specs.Record.{slotWords, value, mask, rank, ident, rankFits, soundParts}
 use Rattle.records.specs.Checks.{unsoundAt}
 use Rattle.records.specs.Laws.{ident-not-empty}
 use Rattle.slots.proofs.slot_unsound.Statement.{statement}
@@ -33,7 +33,7 @@ returns c =
 unsound-with-id : (w : ℕ) (t : List ℕ) (i id : ℕ) (bounded : Bool)
     → id ≡ ident w (slotWords w t i)
     → (id ≡ 0 → ⊥)
-    → bounded ≡ (leb (rank w (slotWords w t i)) 65535 && within w (value (slotWords w t i)) (mask w (slotWords w t i)))
+    → bounded ≡ (rankFits w (rank w (slotWords w t i)) (mask w (slotWords w t i)) && within w (value (slotWords w t i)) (mask w (slotWords w t i)))
     → not bounded ≡ unsoundAt w t i
 unfolding unsoundAt soundParts
 unsound-with-id w t i id bounded e present b =

@@ -1,11 +1,12 @@
 -- `writes::make_write` meets its contract.
 -- The slots of a write that fits exist, and the record stored is the one that the write names.
-use mathlib.Core.Path.{_∙_}
+use mathlib.Core.Path.{ap, _∙_}
 use denote.Ref.{now}
 use borrow.Author.Needs.{needs}
 use Rattle.plan_words.specs.PlanWordsLaws.{write-taken}
-use Rattle.records.specs.Record.{word, ruleOf}
-use Rattle.carrying.specs.StepsLaws.{write-made, write-below, rule-put}
+use Rattle.records.specs.Editions.{lentRule, ranked}
+use Rattle.carrying.specs.StepsLaws.{write-made, write-below}
+use Rattle.carrying.specs.Carrying.{putChecks}
 use Rattle.writes.proofs.make_write.Statement.{statement}
 use Rattle.writes.proofs.make_write.Tie as tie
 
@@ -30,14 +31,14 @@ copy-slot-requires c κs =
 enum-known-to : tie.Need-enum-known-to
 enum-known-to c = search needs
 
-cast-put-record : tie.Need-cast-put-record
-cast-put-record c = search needs
+cast-put-rule : tie.Need-cast-put-rule
+cast-put-rule c = search needs
 
-put-record-requires : tie.Need-put-record-requires
-put-record-requires c κs =
+put-rule-requires : tie.Need-put-rule-requires
+put-rule-requires c κs =
     let s = c .before .before .before .before .before .before .before in
     let below = write-below (s .args .width) (now (s .args .table)) (s .args .word) (write-taken (c .before .before .before .before .write-of .ensures) (c .before .before .to .given .1)) (s .pre .0 .2) in
-    (s .pre .0 .0, below, s .pre .0 .1)
+    ((s .pre .0 .0, below, s .pre .0 .1), ap (putChecks (s .args .width) (lentRule (s .args .width) (s .args .edition) (now (s .args .rule)))) (write-taken (c .before .before .before .before .write-of .ensures) (c .before .before .to .given .1)) ∙ s .pre .1)
 
 enum-known-slot : tie.Need-enum-known-slot
 enum-known-slot c = search needs
@@ -58,16 +59,16 @@ returns : tie.Need-returns
 returns c =
     let a = c .before .before .before .before .before .before .before .before .before .before .args in
     c .before .before .copy-slot .ensures
-    ∙ write-made (a .width) (now (a .table)) (a .word) (write-taken (c .before .before .before .before .before .before .before .write-of .ensures) (c .before .before .before .before .before .from .given .1)) (ruleOf (a .width) (word (now (a .rule))))
+    ∙ write-made (a .width) (now (a .table)) (a .word) (write-taken (c .before .before .before .before .before .before .before .write-of .ensures) (c .before .before .before .before .before .from .given .1)) (ranked (a .width) (lentRule (a .width) (a .edition) (now (a .rule))))
 
 same-length-2 : tie.Need-same-length-2
 same-length-2 c = search needs
 
 returns-2 : tie.Need-returns-2
 returns-2 c =
-    let s = c .before .before .before .before .before .before .before .before .before .before in
-    c .before .before .put-record .ensures
-    ∙ rule-put (s .args .width) (now (s .args .table)) (now (s .args .rule)) (s .args .word) _ (write-taken (c .before .before .before .before .before .before .before .write-of .ensures) (c .before .before .before .before .before .to .given .1)) (s .pre .0 .1) (s .pre .1)
+    let a = c .before .before .before .before .before .before .before .before .before .before .args in
+    c .before .before .put-rule .ensures
+    ∙ write-made (a .width) (now (a .table)) (a .word) (write-taken (c .before .before .before .before .before .before .before .write-of .ensures) (c .before .before .before .before .before .to .given .1)) (ranked (a .width) (lentRule (a .width) (a .edition) (now (a .rule))))
 
 same-length-3 : tie.Need-same-length-3
 same-length-3 c = search needs
@@ -76,7 +77,7 @@ returns-3 : tie.Need-returns-3
 returns-3 c =
     let a = c .before .before .before .before .before .before .before .before .before .before .args in
     c .before .before .clear-slot .ensures
-    ∙ write-made (a .width) (now (a .table)) (a .word) (write-taken (c .before .before .before .before .before .before .before .write-of .ensures) (c .before .before .before .before .before .slot .given .1)) (ruleOf (a .width) (word (now (a .rule))))
+    ∙ write-made (a .width) (now (a .table)) (a .word) (write-taken (c .before .before .before .before .before .before .before .write-of .ensures) (c .before .before .before .before .before .slot .given .1)) (ranked (a .width) (lentRule (a .width) (a .edition) (now (a .rule))))
 
 pub make-write-spec : {M : Type 1} → statement M
 make-write-spec =
@@ -88,8 +89,8 @@ make-write-spec =
     cast-copy-slot-2
     copy-slot-requires
     enum-known-to
-    cast-put-record
-    put-record-requires
+    cast-put-rule
+    put-rule-requires
     enum-known-slot
     cast-clear-slot
     clear-slot-requires

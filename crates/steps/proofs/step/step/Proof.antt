@@ -4,8 +4,9 @@ use mathlib.Core.Path.{sym, _∙_}
 use lib.ListN.{length}
 use denote.Ref.{now}
 use borrow.Author.Needs.{needs}
-use Rattle.records.specs.WidthsLaws.{rule-law}
-use Rattle.carrying.specs.StepsLaws.{call-declined, call-checked}
+use Rattle.records.specs.WidthsLaws.{rule-law, call-refused, call-answered}
+use Rattle.records.specs.Editions.{lentRule}
+use Rattle.carrying.specs.Carrying.{stepTable}
 use Rattle.steps.proofs.step.step.Statement.{statement}
 use Rattle.steps.proofs.step.step.Tie as tie
 
@@ -18,7 +19,8 @@ enum-known-lent c = search needs
 returns : tie.Need-returns
 returns c =
     let a = c .before .before .before .before .before .before .before .args in
-    call-declined (a .width) (now (a .table)) (now (a .plan)) (now (a .rule)) (a .done) (a .total) (c .before .before .before .check-rule .ensures) (c .before .lent .given .1)
+    call-refused _ (stepTable (a .width) (now (a .table)) (now (a .plan)) (lentRule (a .width) (a .edition) (now (a .rule))) (a .done) (a .total)) (now (a .table))
+    (c .before .before .before .check-rule .ensures) (c .before .lent .given .1)
 
 enum-told : tie.Need-enum-told
 enum-told c = search needs
@@ -34,9 +36,8 @@ same-length c = search needs
 returns-2 : tie.Need-returns-2
 returns-2 c =
     let a = c .before .before .before .before .before .before .before .before .before .before .args in
-    let step = c .before .before .step-at .ensures in
-    let call = call-checked (a .width) (now (a .table)) (now (a .plan)) (now (a .rule)) (a .done) (a .total) (sym (c .before .before .before .before .before .before .check-rule .ensures) ∙ c .before .before .before .before .enum-told .given .1) in
-    (step .0 ∙ sym (call .0), step .1 ∙ sym (call .1))
+    call-answered (now (a .table)) (c .before .before .before .before .before .before .check-rule .ensures) (c .before .before .before .before .enum-told .given .1)
+    (c .before .before .step-at .ensures)
 
 pub step-spec : {M : Type 1} → statement M
 step-spec =

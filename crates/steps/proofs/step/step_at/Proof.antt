@@ -5,8 +5,8 @@ use native.Mathlib.Omega.{arith}
 use lib.ListN.{length}
 use denote.Ref.{now}
 use borrow.Author.Needs.{needs}
-use Rattle.records.specs.Record.{word, ruleOf}
-use Rattle.carrying.specs.StepsLaws.{step-declined, step-finished, step-unfit, step-wrote, checked-fits, checked-sound, progress-within}
+use Rattle.records.specs.Editions.{lentRule}
+use Rattle.carrying.specs.StepsLaws.{step-declined, step-finished, step-unfit, step-wrote, checked-write, progress-within}
 use Rattle.steps.proofs.step.step_at.Statement.{statement}
 use Rattle.steps.proofs.step.step_at.Tie as tie
 
@@ -22,7 +22,7 @@ same-length c = search needs
 returns : tie.Need-returns
 returns c =
     let a = c .before .before .before .before .before .before .before .before .args in
-    let r = step-declined (a .width) (now (a .table)) (now (a .plan)) (ruleOf (a .width) (word (now (a .rule)))) (a .done) (a .total) (c .before .before .before .check-progress .ensures) (c .before .progress .given .1) in
+    let r = step-declined (a .width) (now (a .table)) (now (a .plan)) (lentRule (a .width) (a .edition) (now (a .rule))) (a .done) (a .total) (c .before .before .before .check-progress .ensures) (c .before .progress .given .1) in
     (r .0, r .1)
 
 enum-told : tie.Need-enum-told
@@ -34,7 +34,7 @@ same-length-2 c = search needs
 returns-2 : tie.Need-returns-2
 returns-2 c =
     let a = c .before .before .before .before .before .before .before .before .args in
-    let r = step-finished (a .width) (now (a .table)) (now (a .plan)) (ruleOf (a .width) (word (now (a .rule)))) (a .done) (a .total) (c .before .before .before .check-progress .ensures) (c .before .enum-told .given .1) (c .if1 .taken) in
+    let r = step-finished (a .width) (now (a .table)) (now (a .plan)) (lentRule (a .width) (a .edition) (now (a .rule))) (a .done) (a .total) (c .before .before .before .check-progress .ensures) (c .before .enum-told .given .1) (c .if1 .taken) in
     (r .0, r .1)
 
 mul-word : tie.Need-mul-word
@@ -58,7 +58,7 @@ same-length-3 c = search needs
 returns-3 : tie.Need-returns-3
 returns-3 c =
     let a = c .before .before .before .before .before .before .before .before .before .before .before .before .before .before .args in
-    let r = step-unfit (a .width) (now (a .table)) (now (a .plan)) (ruleOf (a .width) (word (now (a .rule)))) (a .done) (a .total) (c .before .before .before .before .before .before .before .before .before .check-progress .ensures) (c .before .before .before .before .before .before .before .enum-told .given .1) (c .before .before .before .before .before .before .if1 .left) (c .before .before .before .check-write .ensures) (c .before .fitting .given .1) in
+    let r = step-unfit (a .width) (now (a .table)) (now (a .plan)) (lentRule (a .width) (a .edition) (now (a .rule))) (a .done) (a .total) (c .before .before .before .before .before .before .before .before .before .check-progress .ensures) (c .before .before .before .before .before .before .before .enum-told .given .1) (c .before .before .before .before .before .before .if1 .left) (c .before .before .before .check-write .ensures) (c .before .fitting .given .1) in
     (r .0, r .1)
 
 enum-told-2 : tie.Need-enum-told-2
@@ -67,14 +67,13 @@ enum-told-2 c = search needs
 make-write-requires : tie.Need-make-write-requires
 make-write-requires c κs =
     let s = c .before .before .before .before .before .before .before .before .before .before .before .before .before .before in
-    let rule = ruleOf (s .args .width) (word (now (s .args .rule))) in
-    let checked = sym (c .before .before .before .check-write .ensures) ∙ c .before .enum-told2 .given .1 in (
-      (s .pre .0, s .pre .1, checked-fits (s .args .width) (now (s .args .table)) rule _ (s .args .done) checked),
-      checked-sound (s .args .width) (now (s .args .table)) rule _ (s .args .done) checked,
-    )
+    let given = lentRule (s .args .width) (s .args .edition) (now (s .args .rule)) in
+    let passes = sym (c .before .before .before .check-write .ensures) ∙ c .before .enum-told2 .given .1 in
+    let checked = checked-write (s .args .width) (now (s .args .table)) given _ (s .args .done) passes in
+    ((s .pre .0, s .pre .1, checked .1), checked .0)
 
-add-t20 : tie.Need-add-t20
-add-t20 c =
+add-t21 : tie.Need-add-t21
+add-t21 c =
     let s = c .before .before .before .before .before .before .before .before .before .before .before .before .before .before .before .before .before in
     let a = s .args in
     let h = progress-within (a .width) (now (a .table)) (length (now (a .plan))) (a .done) (a .total) (sym (c .before .before .before .before .before .before .before .before .before .before .before .before .check-progress .ensures) ∙ c .before .before .before .before .before .before .before .before .before .before .enum-told .given .1) in
@@ -86,7 +85,7 @@ same-length-4 c = search needs
 returns-4 : tie.Need-returns-4
 returns-4 c =
     let a = c .before .before .before .before .before .before .before .before .before .before .before .before .before .before .before .before .before .args in
-    let r = step-wrote (a .width) (now (a .table)) (now (a .plan)) (ruleOf (a .width) (word (now (a .rule)))) (a .done) (a .total) (c .before .before .before .before .before .before .before .before .before .before .before .before .check-progress .ensures) (c .before .before .before .before .before .before .before .before .before .before .enum-told .given .1) (c .before .before .before .before .before .before .before .before .before .if1 .left) (c .before .before .before .before .before .before .check-write .ensures) (c .before .before .before .before .enum-told2 .given .1) in
+    let r = step-wrote (a .width) (now (a .table)) (now (a .plan)) (lentRule (a .width) (a .edition) (now (a .rule))) (a .done) (a .total) (c .before .before .before .before .before .before .before .before .before .before .before .before .check-progress .ensures) (c .before .before .before .before .before .before .before .before .before .before .enum-told .given .1) (c .before .before .before .before .before .before .before .before .before .if1 .left) (c .before .before .before .before .before .before .check-write .ensures) (c .before .before .before .before .enum-told2 .given .1) in
     (r .0, c .before .before .make-write .ensures ∙ r .1)
 
 pub step-at-spec : {M : Type 1} → statement M
@@ -108,6 +107,6 @@ step-at-spec =
     returns-3
     enum-told-2
     make-write-requires
-    add-t20
+    add-t21
     same-length-4
     returns-4)

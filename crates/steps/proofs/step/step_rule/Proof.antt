@@ -10,6 +10,7 @@ use Rattle.records.specs.Record.{word, ruleOf}
 use Rattle.records.specs.Rules.{Fields}
 use Rattle.records.specs.RulesLaws.{record-length, rule-of-record}
 use Rattle.records.specs.WidthsLaws.{two}
+use Rattle.records.specs.Editions.{under13}
 use Rattle.records.specs.declared.Rule.{Rule}
 use Rattle.carrying.specs.Carrying.{stepAnswer, stepTable}
 use Rattle.steps.proofs.step.step_rule.Statement.{statement}
@@ -42,8 +43,8 @@ returns c =
     let step = c .before .before .step-at .ensures in
     let same : ruleOf 2 (word (c .before .before .before .before .before .record-of .result)) ≡ a .rule =
     ap (λ (l : List ℕ). ruleOf 2 (word l)) (c .before .before .before .before .before .record-of .ensures) ∙ rule-of-record 2 (a .rule) fields in (
-      step .0 ∙ ap (λ (r : Rule). stepAnswer 2 (now (a .table)) (now (a .plan)) r (a .done) (a .total)) same,
-      step .1 ∙ ap (λ (r : Rule). stepTable 2 (now (a .table)) (now (a .plan)) r (a .done) (a .total)) same,
+      step .0 ∙ ap (λ (r : Rule). stepAnswer 2 (now (a .table)) (now (a .plan)) (under13 r) (a .done) (a .total)) same,
+      step .1 ∙ ap (λ (r : Rule). stepTable 2 (now (a .table)) (now (a .plan)) (under13 r) (a .done) (a .total)) same,
     )
 
 pub step-rule-spec : {M : Type 1} → statement M

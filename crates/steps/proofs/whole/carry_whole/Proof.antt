@@ -8,12 +8,13 @@ use lib.ListN.{length}
 use borrow.Author.Tests.{ltb-true}
 use borrow.Author.Needs.{needs}
 use Rattle.search.specs.SearchLaws.{and-left, and-right}
+use Rattle.records.specs.Editions.{under13}
 use Rattle.carrying.specs.UntilLaws.{Under, under-start, under-next, under-less, under-end}
 use Rattle.steps.proofs.whole.carry_whole.Statement.{statement}
 use Rattle.steps.proofs.whole.carry_whole.Tie as tie
 
 abbrev Inv-loop : tie.InvT-loop
-Inv-loop table₀ plan rule total done₀ wrote₀ table done wrote = (length table ≡ length table₀) × Under 2 table₀ plan rule total table done wrote
+Inv-loop table₀ plan rule total done₀ wrote₀ table done wrote = (length table ≡ length table₀) × Under 2 table₀ plan (under13 rule) total table done wrote
 
 abbrev μ-loop : tie.MeasureT-loop
 μ-loop table₀ plan rule total done₀ wrote₀ table done wrote = cond wrote 1 0 + (total - done)
@@ -28,7 +29,7 @@ loop-less : tie.Need-loop-less Inv-loop μ-loop
 loop-less c =
     let a = c .before .before .before .before .before .before .before .before .args in
     let s = c .before .before .before .before .before .loop in
-    under-less 2 (a .table .now) (a .plan .now) (a .rule) (a .total) (s .table) (s .done) (c .before .before .advance .result) (s .wrote) (c .before .before .before .before .loop-test .taken) (c .before .before .advance .ensures .0)
+    under-less 2 (a .table .now) (a .plan .now) (under13 (a .rule)) (a .total) (s .table) (s .done) (c .before .before .advance .result) (s .wrote) (c .before .before .before .before .loop-test .taken) (c .before .before .advance .ensures .0)
 
 loop-again : tie.Need-loop-again Inv-loop μ-loop
 loop-again c =
@@ -36,8 +37,8 @@ loop-again c =
     let s = c .before .before .before .before .before .loop in
     let told = c .before .before .advance .ensures in
     let kept : length (c .before .before .advance .last .0) ≡ length (s .table) = search needs in
-    let going = subst (λ (b : Bool). Under 2 (a .table .now) (a .plan .now) (a .rule) (a .total) (s .table) (s .done) b) (and-left (s .wrote) (ltb (s .done) (a .total)) (c .before .before .before .before .loop-test .taken)) (s .inv .1) in
-    (kept ∙ s .inv .0, under-next 2 (a .table .now) (a .plan .now) (a .rule) (a .total) going (ltb-true (s .done) (a .total) (and-right (s .wrote) (ltb (s .done) (a .total)) (c .before .before .before .before .loop-test .taken))) (told .0) (told .1))
+    let going = subst (λ (b : Bool). Under 2 (a .table .now) (a .plan .now) (under13 (a .rule)) (a .total) (s .table) (s .done) b) (and-left (s .wrote) (ltb (s .done) (a .total)) (c .before .before .before .before .loop-test .taken)) (s .inv .1) in
+    (kept ∙ s .inv .0, under-next 2 (a .table .now) (a .plan .now) (under13 (a .rule)) (a .total) going (ltb-true (s .done) (a .total) (and-right (s .wrote) (ltb (s .done) (a .total)) (c .before .before .before .before .loop-test .taken))) (told .0) (told .1))
 
 step-rule-requires : tie.Need-step-rule-requires Inv-loop μ-loop
 step-rule-requires c κs = tt
@@ -51,7 +52,7 @@ returns c =
     let a = c .before .before .before .before .before .before .before .before .args in
     let s = c .before .before .before .before .before .loop in
     let told = c .before .before .step-rule .ensures in
-    let ends = under-end 2 (a .table .now) (a .plan .now) (a .rule) (a .total) (s .inv .1) (c .before .before .before .before .loop-test .left) in
+    let ends = under-end 2 (a .table .now) (a .plan .now) (under13 (a .rule)) (a .total) (s .inv .1) (c .before .before .before .before .loop-test .left) in
     (told .0 ∙ ends .0, told .1 ∙ ends .1)
 
 pub carry-whole-spec : {M : Type 1} → statement M

@@ -1,0 +1,99 @@
+-- End theorems: document 02, 2026-07, of the ranks that editions give, and of what the exported calls return and leave.
+use mathlib.Core.Path.{_≡_, refl, sym, ap, _∙_, subst}
+use mathlib.Core.Bool.{true≢false}
+use mathlib.Core.Logic.{_⊎_, ⊎-elim}
+use mathlib.Core.Logic._⊎_.{inl, inr}
+use mathlib.Core.List.{List}
+use Prim.Native.Nat.{ℕ}
+use native.Mathlib.Omega.{arith}
+use lib.ListN.{length}
+use Rattle.layout.specs.Held.{Held}
+use Rattle.records.specs.Record.{word, recordWords, slotWords, ident, rank, recordOf}
+use Rattle.records.specs.Sound.{SoundRule}
+use Rattle.records.specs.Checks.{Shaped}
+use Rattle.records.specs.Laws.{sound-record-law, sound-rule-law}
+use Rattle.records.specs.RulesLaws.{length-listed, record-ident, record-sound}
+use Rattle.records.specs.Widths.{Width}
+use Rattle.records.specs.WidthsLaws.{lent-words}
+use Rattle.records.specs.Editions.{ranked, lentRule}
+use Rattle.records.specs.EditionsLaws.{ranked-action, rank-sound, exact-above, lent-sound, rank-not-given}
+use Rattle.records.specs.Entries.{vacant, entries, entryOccupied, entryAt}
+use Rattle.records.specs.EntriesLaws.{listed-same, rank-cong}
+use Rattle.records.specs.declared.Cause.the-variants.{Rule as RuleCause}
+use Rattle.histories.specs.RuleSetLaws.{without-law}
+use Rattle.histories.specs.TableRules.{tableRules}
+use Rattle.histories.specs.TableRulesLaws.{table-holding}
+use Rattle.refusals.specs.Rows.{Accepts, Declines}
+use Rattle.refusals.specs.Calls.{tableRows, OtherRule, insertCallRows}
+use Rattle.refusals.specs.TableLaws.{table-rows}
+use Rattle.tcam.specs.Cells.{InsertLeft, DeleteLeft}
+use Rattle.promises.specs.Calls.{CarriedOut}
+use Rattle.promises.specs.CallsLaws.{carried-at}
+use Rattle.promises.specs.FirstDemandLaws.{first-demand}
+use Rattle.promises.specs.SecondDemandLaws.{inserting, deleting}
+use Rattle.promises.specs.ThirdDemand.{Stands}
+use Rattle.promises.specs.ThirdDemandLaws.{stands-law}
+use Rattle.promises.specs.Editions.{Editions}
+
+module _ (w : ℕ) (known : Width w) where
+  -- the old rules are held after an insert as they were before
+  rules-kept : (t : List ℕ) → Accepts (tableRows w t) → (e : ℕ) (rule plan after : List ℕ) (count count′ spot spot′ : ℕ)
+      → InsertLeft w e t rule 0 plan after count count′ spot spot′ → (u : List ℕ) → CarriedOut w e t after rule count′ u
+      → (x : List ℕ) → Stands w t x → Stands w u x
+  rules-kept t sound e rule plan after count count′ spot spot′ left u full x stands =
+      let planned = inserting w known e t rule plan after count count′ spot spot′ left in
+      let d = planned .1 in
+      let before = table-holding w t (table-rows w t .passes .1 sound) in
+      let old = before .held x .0 (stands-law w t x .1 stands) in
+      let there = carried-at w e t after rule known (planned .0) _ count′ _ d u full in
+      stands-law w u x .0
+      (subst (λ (v : List ℕ). Held (vacant w) (entryOccupied w) (entries w v) x) (sym there) (d .holds (tableRules w t) before .held x .1 (old .0, inr (old .1), old .2)))
+
+  -- and those of another id after a delete
+  others-kept : (t : List ℕ) → Accepts (tableRows w t) → (id : ℕ) (plan after : List ℕ) (count count′ spot spot′ : ℕ)
+      → DeleteLeft w t id 0 plan after count count′ spot spot′ → (e : ℕ) (rule : List ℕ) → length rule ≡ recordWords w
+      → (u : List ℕ) → CarriedOut w e t after rule count′ u → (x : List ℕ) → Stands w t x → (ident w (word x) ≡ id → ⊥) → Stands w u x
+  others-kept t sound id plan after count count′ spot spot′ left e rule size u full x stands other =
+      let d = deleting w known t id plan after count count′ spot spot′ left (lentRule w e rule) in
+      let before = table-holding w t (table-rows w t .passes .1 sound) in
+      let old = before .held x .0 (stands-law w t x .1 stands) in
+      let named = sym (record-ident w (old .0) (before .actions (old .0) (old .1))) ∙ ap (λ (l : List ℕ). ident w (word l)) (old .2) in
+      let member = without-law id (tableRules w t) (old .0) .1 (old .1, λ same. other (sym named ∙ same)) in
+      let there = carried-at w e t after rule known size _ count′ _ d u full in
+      stands-law w u x .0
+      (subst (λ (v : List ℕ). Held (vacant w) (entryOccupied w) (entries w v) x) (sym there) (d .holds (tableRules w t) before .held x .1 (old .0, member, old .2)))
+
+  module _ (t : List ℕ) (sound : Accepts (tableRows w t)) (i : ℕ) (high : rank w (slotWords w t i) ≡ 65536) (e : ℕ) where
+    lent : List ℕ
+    lent = entryAt w t i
+
+    -- no priority is so high
+    unsound : SoundRule w (lentRule w e lent .rule) → ⊥
+    unfolding lent
+    unsound good =
+        let rank-lent = ap (rank w) (lent-words w lent) ∙ (rank-cong w (listed-same w (slotWords w t i)) ∙ high) in
+        true≢false (sym (sound-rule-law w (lentRule w e lent .rule) .1 good) ∙ (lent-sound w lent ∙ rank-not-given w (slotWords w lent 0) rank-lent))
+
+    -- the rows before 5 do not hold
+    declined : (room : ℕ) → Declines (insertCallRows w e t (entryAt w t i) room) RuleCause 0
+    unfolding lent
+    declined room = inr (shape, inr (sound .1 .0, inr (sound .1 .1 .0, inr (sound .1 .1 .1 .0, inl (refl, unsound, refl)))))
+      where
+        shape : OtherRule w (entryAt w t i) ⊎ (Shaped w t → ⊥) → ⊥
+        shape bad =
+            ⊎-elim (λ other. ⊎-elim (λ width. ⊎-elim (width .0) (width .1) (known .2)) (λ words. words (length-listed (recordWords w) (slotWords w t i))) other) (sound .0) bad
+
+pub editions : (w : ℕ) → Width w → Editions w
+editions w known = record {
+  sound = λ given small good.
+      sound-record-law w (word (recordOf w (ranked w given))) .0
+      (record-sound w (ranked w given) (omega (arith, small, ranked-action w given)) ∙ rank-sound w given (sound-rule-law w (given .rule) .1 good));
+  above = exact-above w;
+  kept = rules-kept w known;
+  left = others-kept w known;
+  again = λ t sound i h high e result plan after count count′ spot spot′ left.
+      let call = first-demand .insert w e t (entryAt w t i) result plan after count count′ spot spot′ left in
+      let told = call .0 .refused RuleCause 0 .1 (declined w known t sound i high e (length plan)) in
+      let kept = call .1 (λ z. omega (arith, told .0, z)) in
+      (told .0, told .1, kept .0, kept .1);
+}
