@@ -5,6 +5,7 @@
 #include "tcam.h"
 
 #define WIDTH TCAM_WIDTH_128                        /* keys of 128 bits, two words */
+#define EDITION TCAM_EDITION_13                     /* rules of OpenFlow 1.3: the higher priority wins */
 static uint64_t table[TCAM_TABLE_WORDS(WIDTH, 4)];  /* zeros: every slot is empty */
 static const uint64_t bits[WIDTH] = {UINT64_C(0xC000000000000000), 0}, no_bits[WIDTH] = {0, 0};
 
@@ -34,14 +35,15 @@ int main(void)
     tcam_make_record(rule, WIDTH, 1, 30, bits, bits, 7); /* id, priority, value, mask, action */
 
     uint32_t plan[4], count, spot; /* a plan has at most as many words as the table has slots */
-    uint32_t number =
-        tcam_plan_insert(table, TCAM_WORDS(table), WIDTH, rule, TCAM_WORDS(rule), plan, TCAM_WORDS(plan), &count, &spot);
+    uint32_t number = tcam_plan_insert(table, TCAM_WORDS(table), WIDTH, rule, TCAM_WORDS(rule), EDITION, plan, TCAM_WORDS(plan),
+                                       &count, &spot);
     if (number != TCAM_OK)
         return refused("insert", number, spot);
 
     tcam_progress progress = {0, count};
     uint64_t result;
-    while ((result = tcam_carry_out(table, TCAM_WORDS(table), WIDTH, rule, TCAM_WORDS(rule), plan, count, &progress)) == TCAM_WROTE)
+    while ((result = tcam_carry_out(table, TCAM_WORDS(table), WIDTH, rule, TCAM_WORDS(rule), EDITION, plan, count, &progress)) ==
+           TCAM_WROTE)
         ; /* look up as many frames as you like here */
     if (result != TCAM_FINISHED)
         return refused("carrying out", tcam_carry_number(result), tcam_carry_spot(result));

@@ -92,11 +92,11 @@ static inline void print_write(uint32_t word)
 
 /* Carries a plan out, write by write, and tells after each which frames have another reply than before. */
 static inline void carry_out_and_tell(uint64_t *table, size_t words, const uint32_t *plan, uint32_t count, const uint64_t *rule,
-                                      struct frame *frames, size_t frame_count)
+                                      uint32_t edition, struct frame *frames, size_t frame_count)
 {
     tcam_progress progress = {0, count};
     uint64_t result;
-    while ((result = tcam_carry_out(table, words, WIDTH, rule, RECORD_WORDS, plan, count, &progress)) == TCAM_WROTE) {
+    while ((result = tcam_carry_out(table, words, WIDTH, rule, RECORD_WORDS, edition, plan, count, &progress)) == TCAM_WROTE) {
         print_write(plan[progress.done - 1]);
         print_changes(table, words, frames, frame_count);
     }

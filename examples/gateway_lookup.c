@@ -35,8 +35,8 @@ int main(void)
         if (record == NULL)
             printf("slot %" PRIu32 ": empty\n", slot);
         else
-            printf("slot %" PRIu32 ": rule %" PRIu32 ", priority %" PRIu32 "\n", slot, tcam_record_id(record, WIDTH),
-                   tcam_record_priority(record, WIDTH));
+            printf("slot %" PRIu32 ": rule %" PRIu32 ", rank %" PRIu32 "\n", slot, tcam_record_id(record, WIDTH),
+                   tcam_record_rank(record, WIDTH));
     }
     return 0;
 }

@@ -57,17 +57,18 @@ int main(void)
     printf("at the start\n");
     print_replies(table, WORDS, frames, FRAMES);
 
-    uint32_t number = tcam_plan_insert(table, WORDS, WIDTH, console, RECORD_WORDS, plan, SLOTS, &count, &spot);
+    uint32_t number =
+        tcam_plan_insert(table, WORDS, WIDTH, console, RECORD_WORDS, TCAM_EDITION_13, plan, SLOTS, &count, &spot);
     if (number != TCAM_OK)
         stop("insert", number, spot);
     printf("insert rule 11, %" PRIu32 " writes\n", count);
-    carry_out_and_tell(table, WORDS, plan, count, console, frames, FRAMES);
+    carry_out_and_tell(table, WORDS, plan, count, console, TCAM_EDITION_13, frames, FRAMES);
 
     number = tcam_plan_delete(table, WORDS, WIDTH, 15, plan, SLOTS, &count, &spot);
     if (number != TCAM_OK)
         stop("delete", number, spot);
     printf("delete rule 15, %" PRIu32 " write\n", count);
-    carry_out_and_tell(table, WORDS, plan, count, tcam_no_rule, frames, FRAMES); /* a delete puts no rule in */
+    carry_out_and_tell(table, WORDS, plan, count, tcam_no_rule, TCAM_EDITION_13, frames, FRAMES); /* a delete puts no rule in */
     restart();
     return 0;
 }

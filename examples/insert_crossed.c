@@ -1,5 +1,5 @@
 /* An insert that is declined as crossed, and a way out that always works: the rules that depend on the new one, directly or
- * through others, are taken out; the new rule is put in; and they are put in again, by falling priority. At each of these
+ * through others, are taken out; the new rule is put in; and they are put in again, by falling rank. At each of these
  * inserts nothing in the table depends on the rule that is put in, so that none is crossed. Build and run: examples/run */
 #include <string.h>
 #include "gateway.h"
@@ -31,17 +31,19 @@ static void carry_out_plan(const uint32_t *plan, uint32_t count, const uint64_t 
 {
     tcam_progress progress = {0, count};
     uint64_t result;
-    while ((result = tcam_carry_out(table, WORDS, WIDTH, rule, RECORD_WORDS, plan, count, &progress)) == TCAM_WROTE)
+    while ((result = tcam_carry_out(table, WORDS, WIDTH, rule, RECORD_WORDS, TCAM_EDITION_13, plan, count, &progress)) ==
+           TCAM_WROTE)
         ;
     if (result != TCAM_FINISHED)
         stop("carrying out", tcam_carry_number(result), tcam_carry_spot(result));
     print_changes(table, WORDS, frames, FRAMES);
 }
 
+/* Under OpenFlow 1.3 a rule's rank is its priority: a record that stood in a slot gets the rank again that it had. */
 static void put_in(const uint64_t *rule)
 {
     uint32_t plan[SLOTS], count, spot;
-    uint32_t number = tcam_plan_insert(table, WORDS, WIDTH, rule, RECORD_WORDS, plan, SLOTS, &count, &spot);
+    uint32_t number = tcam_plan_insert(table, WORDS, WIDTH, rule, RECORD_WORDS, TCAM_EDITION_13, plan, SLOTS, &count, &spot);
     if (number != TCAM_OK)
         stop("insert", number, spot);
     printf("insert rule %" PRIu32 "\n", tcam_record_id(rule, WIDTH));
@@ -65,7 +67,7 @@ static int depends(const uint64_t *rule, const uint64_t *other)
         if ((tcam_record_value(rule, WIDTH, index) ^ tcam_record_value(other, WIDTH, index)) & both_care)
             return 0; /* they do not overlap */
     }
-    return tcam_record_priority(rule, WIDTH) < tcam_record_priority(other, WIDTH);
+    return tcam_record_rank(rule, WIDTH) < tcam_record_rank(other, WIDTH);
 }
 
 /* The slot's rule depends on one of these. */
@@ -92,9 +94,9 @@ static size_t take_out_dependants(uint64_t rules[][RECORD_WORDS])
     return count;
 }
 
-static int by_falling_priority(const void *left, const void *right)
+static int by_falling_rank(const void *left, const void *right)
 {
-    uint32_t one = tcam_record_priority(left, WIDTH), other = tcam_record_priority(right, WIDTH);
+    uint32_t one = tcam_record_rank(left, WIDTH), other = tcam_record_rank(right, WIDTH);
     return (one < other) - (one > other);
 }
 
@@ -104,7 +106,7 @@ int main(void)
     printf("at the start\n");
     print_replies(table, WORDS, frames, FRAMES);
 
-    uint32_t number = tcam_plan_insert(table, WORDS, WIDTH, web, RECORD_WORDS, plan, SLOTS, &count, &spot);
+    uint32_t number = tcam_plan_insert(table, WORDS, WIDTH, web, RECORD_WORDS, TCAM_EDITION_13, plan, SLOTS, &count, &spot);
     print_refusal("insert of rule 23", number, spot);
     if (number != TCAM_CROSSED)
         return 1;
@@ -112,7 +114,7 @@ int main(void)
     uint64_t rules[SLOTS + 1][RECORD_WORDS];
     memcpy(rules[0], web, sizeof web);
     size_t taken = take_out_dependants(rules);
-    qsort(rules, taken, sizeof rules[0], by_falling_priority); /* the new rule stays the first */
+    qsort(rules, taken, sizeof rules[0], by_falling_rank); /* the new rule stays the first */
     for (size_t index = 0; index < taken; index++)
         put_in(rules[index]);
 

@@ -99,11 +99,11 @@ static void put_in(const struct entry *entry)
     uint64_t rule[RECORD_WORDS];
     uint32_t plan[SLOTS], count, spot; /* as many words as slots always do */
     make_rule(rule, entry);
-    uint32_t number = tcam_plan_insert(table, WORDS, WIDTH, rule, RECORD_WORDS, plan, SLOTS, &count, &spot);
+    uint32_t number = tcam_plan_insert(table, WORDS, WIDTH, rule, RECORD_WORDS, TCAM_EDITION_13, plan, SLOTS, &count, &spot);
     if (number != TCAM_OK)
         stop("insert", number, spot);
     printf("insert rule %" PRIu32 ", %" PRIu32 " %s\n", entry->id, count, count == 1 ? "write" : "writes");
-    carry_out_and_tell(table, WORDS, plan, count, rule, frames, PACKETS);
+    carry_out_and_tell(table, WORDS, plan, count, rule, TCAM_EDITION_13, frames, PACKETS);
 }
 
 static void take_out(uint32_t id)
@@ -113,7 +113,7 @@ static void take_out(uint32_t id)
     if (number != TCAM_OK)
         stop("delete", number, spot);
     printf("delete rule %" PRIu32 "\n", id);
-    carry_out_and_tell(table, WORDS, plan, count, tcam_no_rule, frames, PACKETS); /* a delete puts no rule in */
+    carry_out_and_tell(table, WORDS, plan, count, tcam_no_rule, TCAM_EDITION_13, frames, PACKETS); /* a delete puts no rule in */
 }
 
 int main(void)

@@ -1,5 +1,5 @@
-/* A plan that is dropped half-way, and the two ways to go on: with the plan, its rule and its progress record, which were kept;
- * or without them, by emptying the slot where a rule stands twice and planning anew. Build and run: examples/run */
+/* A plan that is dropped half-way, and the two ways to go on: with the plan, its rule and edition and its progress record, which
+ * were kept; or without them, by emptying the slot where a rule stands twice and planning anew. Build and run: examples/run */
 #include <string.h>
 #include "gateway.h"
 
@@ -24,12 +24,17 @@ static struct frame frames[] = {
 };
 #define FRAMES (sizeof frames / sizeof frames[0])
 
+static uint32_t plan_insert(uint32_t *plan, uint32_t *count, uint32_t *spot)
+{
+    return tcam_plan_insert(table, WORDS, WIDTH, console, RECORD_WORDS, TCAM_EDITION_13, plan, SLOTS, count, spot);
+}
+
 /* Makes writes of the plan, as many as are told or to its end, and tells which replies that changed. */
 static void carry_out(const uint32_t *plan, tcam_progress *progress, uint32_t writes)
 {
     uint64_t result = TCAM_WROTE;
     while (writes-- > 0 && result == TCAM_WROTE)
-        result = tcam_carry_out(table, WORDS, WIDTH, console, RECORD_WORDS, plan, progress->total, progress);
+        result = tcam_carry_out(table, WORDS, WIDTH, console, RECORD_WORDS, TCAM_EDITION_13, plan, progress->total, progress);
     if (result != TCAM_WROTE && result != TCAM_FINISHED)
         stop("carrying out", tcam_carry_number(result), tcam_carry_spot(result));
     printf("%" PRIu32 " of %" PRIu32 " writes made\n", progress->done, progress->total);
@@ -43,7 +48,7 @@ static tcam_progress drop_half_way(uint32_t *plan)
     memcpy(table, start, sizeof table);
     for (size_t index = 0; index < FRAMES; index++)
         look_up(table, WORDS, &frames[index]);
-    uint32_t number = tcam_plan_insert(table, WORDS, WIDTH, console, RECORD_WORDS, plan, SLOTS, &count, &spot);
+    uint32_t number = plan_insert(plan, &count, &spot);
     if (number != TCAM_OK)
         stop("insert", number, spot);
     tcam_progress progress = {0, count};
@@ -56,7 +61,7 @@ static tcam_progress drop_half_way(uint32_t *plan)
 static uint32_t plan_anew(uint32_t *plan)
 {
     uint32_t number, count, spot;
-    while ((number = tcam_plan_insert(table, WORDS, WIDTH, console, RECORD_WORDS, plan, SLOTS, &count, &spot)) == TCAM_TWICE) {
+    while ((number = plan_insert(plan, &count, &spot)) == TCAM_TWICE) {
         uint32_t empty[1] = {tcam_write_word(TCAM_EMPTY, spot)};
         tcam_progress progress = {0, 1};
         print_refusal("insert", number, spot);

@@ -13,25 +13,40 @@
  *     value                  words 0, 1   words 0 to 4
  *     mask                   words 2, 3   words 5 to 9
  *     id * 2^32 + action     word 4       word 10        (32 bits each)
- *     priority               word 5       word 11
+ *     rank                   word 5       word 11        (of a rule that is given: its priority)
  *     words of a record      6            12
  *
- * A record of zeros is an empty slot. Any other record is a rule. A rule is sound if its id is not 0,
- * its priority is at most 65,535 and each value bit outside the mask is 0. A mask bit 1 means "cared
- * for": a key matches a rule when it equals the value at all bits cared for. An empty slot
- * matches no key. The lowest-numbered matching slot wins, whatever the priorities are.
+ * A record of zeros is an empty slot. Any other record is a rule. A rule is sound if its id is not 0, each value bit
+ * outside the mask is 0, and its rank is at most 65,535, or at most 65,536 where every mask bit of the width is set. A
+ * mask bit 1 means "cared for": a key matches a rule when it equals the value at all bits cared for. An empty slot
+ * matches no key. The lowest-numbered matching slot wins, whatever the ranks are.
  *
- * A RULE to be put in is given as one record, and a key as `width` words. tcam_make_record makes a record from its
- * parts, tcam_record_id and its like read one, and TCAM_TABLE_WORDS(width, slots) is the length of a table: a program
- * at one width names the width and needs no other number of these.
+ * A RULE to be put in is given as one record, whose last word is its priority, 0 to 65,535, and with an edition; a key
+ * is given as `width` words. tcam_make_record makes a record from its parts, tcam_record_id and its like read one, and
+ * TCAM_TABLE_WORDS(width, slots) is the length of a table: a program at one width names the width and needs no other
+ * number of these.
+ *
+ * THE EDITION says under which OpenFlow a rule is given: 10 (TCAM_EDITION_10, OpenFlow 1.0) or 13 (TCAM_EDITION_13,
+ * OpenFlow 1.3). In 1.0 an entry without wildcards stands above all that have them; from 1.1 on the priority alone
+ * counts. So the edition gives the rule its rank, the number that order compares:
+ *
+ *                                                edition 10                  edition 13
+ *     every mask bit of the width is set         65,536 (TCAM_EXACT_RANK)    the priority
+ *     any other mask                             the priority                the priority
+ *
+ * Every mask bit is 128 bits at width 2 and 320 at width 5. The table and an image keep the rank, and neither the
+ * priority nor the edition. The calls that take no rule take no edition, and an upgrade from 1.0 to 1.3 writes nothing:
+ * the rules present keep their rank, and later ones get theirs by the new edition. A slot's record whose rank is 65,536
+ * is refused where it is given as a rule, under either edition, since 65,536 is no priority: the caller keeps the
+ * priority that it gave.
  *
  * A table's length is given in words, and so are a rule's, a key's and a plan's: TCAM_WORDS(array), not sizeof. A
  * table's bytes, 48 or 96 for each slot, are whole records in number too: up to 128 slots they pass for words, so that
  * nothing is refused and the call goes past the table's end.
  *
  * ORDER. Two rules overlap when no bit is cared for by both with different values. The one of higher
- * priority then precedes the other, which depends on it. A table is in order when of any two overlapping
- * rules the one in the lower-numbered slot has the strictly higher priority; copies of one id are not
+ * rank then precedes the other, which depends on it. A table is in order when of any two overlapping
+ * rules the one in the lower-numbered slot has the strictly higher rank; copies of one id are not
  * compared with each other. The planning calls and tcam_save ask for a table in order, and tcam_load for an
  * image of one; the other calls do not.
  *
@@ -42,25 +57,25 @@
  *     any other from            copies slot `from` to slot `to`, and leaves slot `from` as it is
  *
  * The planning calls draw plans. tcam_carry_out makes one write of a plan per call; the caller may make the
- * writes itself instead. What follows holds where the writes of a plan are made one at a time, from the first
- * word to the last, on the table it was drawn for, with the rule it was drawn for. A key's reply is id and
- * action, or a miss; its slot may change as rules move.
+ * writes itself instead, and then puts the new rule in with its rank. What follows holds where the writes of a plan
+ * are made one at a time, from the first word to the last, on the table it was drawn for, with the rule and the edition
+ * it was drawn for. A key's reply is id and action, or a miss; its slot may change as rules move.
  *
  * Of an insert's plan no write goes over a rule that has no other copy, and the table is in order after each
  * write. Every key keeps its reply until the last write. After that each old rule stands in one slot and the
- * new one too, and every key has the reply of these rules: that of the highest-priority match among them, or a
+ * new one too, and every key has the reply of these rules: that of the highest-ranked match among them, or a
  * miss. In the middle of the plan one of the old rules may stand in two slots: no planning call takes such a
  * table, nor does tcam_save; tcam_lookup, tcam_slot_record and tcam_carry_out do.
  *
  * A delete's plan is one write. It empties the slot of a rule that has no other copy. Before it every key has
  * its old reply. After it the table is in order, each other rule stands in its one slot as before, and every
- * key has the reply of these rules: that of the highest-priority match among them, or a miss.
+ * key has the reply of these rules: that of the highest-ranked match among them, or a miss.
  *
  * AN IMAGE is a table as bytes, to be kept and loaded again. Its numbers are big-endian:
  *
  *     slots (2 bytes), rules e (2)
  *     for each rule, in rising slot order: id (4), slot (2), offset of its body from the image's first byte (4)
- *     for each rule, in the same order, its body: value (8 for each word), mask (the same), priority (4), action (4)
+ *     for each rule, in the same order, its body: value (8 for each word), mask (the same), rank (4), action (4)
  *
  * So it has 4 + 50 * e bytes at width 2 and 4 + 98 * e at width 5, TCAM_IMAGE_BYTES(width, e), at any address. A saved
  * image loads, into any table of as many slots and of the same width, to the table it was saved from; and an image
@@ -88,6 +103,8 @@
  *     each other;
  *   - a table is given with its own width in every call. Many lengths are a table's at both widths, as 12 words are
  *     two slots at width 2 and one at width 5: the same words are then read as another table;
+ *   - a plan is carried out with the rule and the edition that it was drawn for. With another sound rule, or the other
+ *     edition, each write that fits is made all the same, and what is said above of replies and of order does not hold;
  *   - until a call returns, nothing else changes what it is lent: a table, a rule, a key, a plan buffer, an image
  *     buffer, a progress record or a cell;
  *   - no other call is made on the table while tcam_carry_out or tcam_load runs, not from an interrupt handler
@@ -99,8 +116,8 @@
  *     assembler code that calls has to do so itself. SSE2 registers and the red zone are used: an interrupt
  *     handler saves those registers if it uses them or calls the library, and steps over the 128 bytes below the
  *     stack pointer if it runs on the same stack;
- *   - the program has a memset and a memmove, as in C's string.h: the planning calls, tcam_save and tcam_load
- *     call memset, tcam_carry_out both;
+ *   - the program has a memset, a memmove and a memcpy, as in C's string.h: the planning calls, tcam_save, tcam_load
+ *     and tcam_carry_out call memset, tcam_plan_insert memcpy too, and tcam_carry_out memmove;
  *   - there is stack enough, as told below.
  *
  * No call but tcam_carry_out and tcam_load changes the table, and none keeps anything for later. Each call but
@@ -115,12 +132,12 @@
  *     tcam_slot_record        128       128
  *     tcam_plan_delete     24,640    24,640
  *     tcam_carry_out          304       304
- *     tcam_plan_insert     30,848    30,848, or 10,752 and 96 for each word of the plan, where that is more
+ *     tcam_plan_insert     30,976    30,976, or 10,752 and 96 for each word of the plan, where that is more
  *     tcam_save            24,704    24,704
  *     tcam_load            74,112   123,264
  *
  * The longest plan, of 1,024 words, takes 109,056 bytes, 106.5 KiB. A plan that does not fit its buffer is
- * not written out, so that a buffer of n words bounds the stack at 10,752 + 96 * n bytes, or at 30,848 where
+ * not written out, so that a buffer of n words bounds the stack at 10,752 + 96 * n bytes, or at 30,976 where
  * that is more. tcam_load builds the whole table on the stack before it writes the lent one.
  */
 #ifndef TCAM_H
@@ -136,6 +153,14 @@ extern "C" {
 /* The widths: words of a value, of a mask and of a key, for keys of 128 bits and of 320. */
 #define TCAM_WIDTH_128 2u
 #define TCAM_WIDTH_320 5u
+
+/* The editions that a rule is given under: OpenFlow 1.0 and OpenFlow 1.3. */
+#define TCAM_EDITION_10 10u
+#define TCAM_EDITION_13 13u
+
+/* The highest priority of a rule; and the rank, above it, of a rule without wildcards that was given under 1.0. */
+#define TCAM_MAX_PRIORITY 65535u
+#define TCAM_EXACT_RANK 65536u
 
 /* The most slots of a table. */
 #define TCAM_MAX_SLOTS 1024u
@@ -164,24 +189,32 @@ extern "C" {
 
 /*
  * Why a call declines, and the calls that return it, without their tcam_. Where none is named, no call
- * declared here returns it.
+ * declared here returns it: TCAM_LINE is the script program's, and the others are for calls to come.
  */
 enum tcam_cause {
-    TCAM_OK = 0,       /* not a refusal */
-    TCAM_SHAPE = 1,    /* no such width, or not its words. lookup, plan_insert, plan_delete, carry_out, save, load */
-    TCAM_RECORD = 2,   /* a slot is neither empty nor a sound rule. lookup, plan_insert, plan_delete, carry_out, save */
-    TCAM_TWICE = 3,    /* a slot's id stands in an earlier one too. plan_insert, plan_delete, save, load */
-    TCAM_ORDER = 4,    /* an earlier overlapping rule has no higher priority. plan_insert, plan_delete, save, load */
-    TCAM_RULE = 5,     /* the rule given is unsound: plan_insert, carry_out. The id to delete is 0: plan_delete */
-    TCAM_KNOWN = 6,    /* the id to insert is present. plan_insert */
-    TCAM_UNKNOWN = 7,  /* the id to delete is absent. plan_delete */
-    TCAM_TIE = 8,      /* the rule overlaps one of equal priority. plan_insert */
-    TCAM_FULL = 9,     /* no slot is empty. plan_insert */
-    TCAM_CROSSED = 10, /* a rule that depends on the new one stands before one that precedes the new one. plan_insert */
-    TCAM_SHORT = 11,   /* the plan or image buffer is too short. plan_insert, plan_delete, save */
-    TCAM_WRITE = 12,   /* the progress record or the next write does not fit. carry_out */
-    TCAM_LINE = 13,    /* a line of a script is malformed */
-    TCAM_IMAGE = 14    /* the image is wrong. load */
+    TCAM_OK = 0,         /* not a refusal */
+    TCAM_SHAPE = 1,      /* no such width, or not its words. lookup, plan_insert, plan_delete, carry_out, save, load */
+    TCAM_RECORD = 2,     /* a slot neither empty nor a sound rule. lookup, plan_insert, plan_delete, carry_out, save */
+    TCAM_TWICE = 3,      /* a slot's id stands in an earlier one too. plan_insert, plan_delete, save, load */
+    TCAM_ORDER = 4,      /* an earlier overlapping rule has no higher rank. plan_insert, plan_delete, save, load */
+    TCAM_RULE = 5,       /* the rule given is unsound: plan_insert, carry_out. The id to delete is 0: plan_delete */
+    TCAM_KNOWN = 6,      /* the id to insert is present. plan_insert */
+    TCAM_UNKNOWN = 7,    /* the id to delete is absent. plan_delete */
+    TCAM_TIE = 8,        /* the rule overlaps one of equal rank. plan_insert */
+    TCAM_FULL = 9,       /* no slot is empty. plan_insert */
+    TCAM_CROSSED = 10,   /* a rule that depends on the new one stands before one that precedes it. plan_insert */
+    TCAM_SHORT = 11,     /* the plan or image buffer is too short. plan_insert, plan_delete, save */
+    TCAM_WRITE = 12,     /* the progress record or the next write does not fit. carry_out */
+    TCAM_LINE = 13,      /* a line of a script is malformed */
+    TCAM_IMAGE = 14,     /* the image is wrong. load */
+    TCAM_UNCROSSED = 15, /* the rule that crossed rules are to be cleared away for is not crossed */
+    TCAM_PLAN = 16,      /* a plan that came by wire fails */
+    TCAM_DAMAGE = 17,    /* the table to mend has other damage than one rule that stands twice */
+    TCAM_EDITION = 18,   /* the edition is neither 10 nor 13. plan_insert, carry_out */
+    TCAM_OPEN = 19,      /* the session is open already */
+    TCAM_SESSION = 20,   /* the session is not open, or 64 are open already */
+    TCAM_ABSENT = 21,    /* no image is stored under this number */
+    TCAM_ROOM = 22       /* the store is too short */
 };
 
 /*
@@ -231,7 +264,9 @@ uint32_t tcam_slot_record(const uint64_t *table, size_t words, uint32_t width, u
  *
  *   table, words      the table and its length in words
  *   width             its width
- *   rule, rule_words  the new rule's record and its length in words, which is TCAM_RECORD_WORDS(width)
+ *   rule, rule_words  the new rule's record and its length in words, which is TCAM_RECORD_WORDS(width). Its last word
+ *                     is the rule's priority
+ *   edition           10 or 13, which gives the rule its rank
  *   plan, plan_words  buffer for the plan and its length in words
  *   count             cell for the number of words that the call wrote
  *   spot              cell for a refusal's spot
@@ -256,12 +291,13 @@ uint32_t tcam_slot_record(const uint64_t *table, size_t words, uint32_t width, u
  *   TCAM_RECORD   as for tcam_lookup.
  *   TCAM_TWICE    a slot's id stands in an earlier one too. *spot is the lowest slot whose id stands in an
  *                 earlier one.
- *   TCAM_ORDER    an earlier overlapping rule has no higher priority. *spot is the lowest slot whose rule has
+ *   TCAM_ORDER    an earlier overlapping rule has no higher rank. *spot is the lowest slot whose rule has
  *                 such a rule before it.
- *   TCAM_RULE     the new rule is unsound: its id is 0, its priority is above 65,535, or its value has a
- *                 bit outside the mask. *spot is 0.
+ *   TCAM_RULE     the new rule is unsound: its id is 0, its priority is above 65,535, under either edition and
+ *                 whatever its mask, or its value has a bit outside the mask. *spot is 0.
+ *   TCAM_EDITION  edition is neither 10 nor 13. *spot is 0.
  *   TCAM_KNOWN    the id is in the table. *spot is its slot.
- *   TCAM_TIE      a rule of the table overlaps the new one at equal priority. *spot is the lowest slot of one.
+ *   TCAM_TIE      a rule of the table overlaps the new one at equal rank. *spot is the lowest slot of one.
  *   TCAM_FULL     no slot is empty. *spot is 0.
  *   TCAM_CROSSED  a rule that depends on the new one stands before a rule that precedes the new one. It is
  *                 refused even where some sequence of writes would do. *spot is the highest slot with a rule
@@ -269,7 +305,7 @@ uint32_t tcam_slot_record(const uint64_t *table, size_t words, uint32_t width, u
  *   TCAM_SHORT    plan_words is less than the count. *spot is the count: the words needed.
  */
 uint32_t tcam_plan_insert(const uint64_t *table, size_t words, uint32_t width, const uint64_t *rule, size_t rule_words,
-                          uint32_t *plan, size_t plan_words, uint32_t *count, uint32_t *spot);
+                          uint32_t edition, uint32_t *plan, size_t plan_words, uint32_t *count, uint32_t *spot);
 
 /*
  * Plans a delete: the one write that empties a rule's slot.
@@ -316,14 +352,16 @@ static const uint64_t tcam_no_rule[TCAM_RECORD_WORDS(TCAM_WIDTH_320)] = {0};
  *   table, words      the table and its length in words
  *   width             its width
  *   rule, rule_words  the record of the rule that the plan puts in, and its length in words, which is
- *                     TCAM_RECORD_WORDS(width)
+ *                     TCAM_RECORD_WORDS(width). Its last word is the rule's priority
+ *   edition           the edition that the plan was drawn for, 10 or 13
  *   plan, plan_words  the plan and its length in words: its count, or the length of its whole buffer
  *   progress          the progress record, lent: writes done, writes in all
  *
- * The rule is looked at only where the next write puts it in: the plan of a delete is carried out with any, as with
- * tcam_no_rule. Its length is always looked at.
+ * The rule and the edition are looked at only where the next write puts the rule in: the plan of a delete is carried
+ * out with any, as with tcam_no_rule and TCAM_EDITION_13. The rule's length is always looked at.
  *
- * Result TCAM_WROTE: the write is made, in this one slot, and progress->done is one more.
+ * Result TCAM_WROTE: the write is made, in this one slot, and progress->done is one more. A rule that is put in stands
+ * there as it was given, but for its last word, which is its rank.
  * Result TCAM_FINISHED: done equals total. Nothing is changed, however often the call is made; it may be left
  * out, since the write that made done equal to total was the last.
  * Any other result is a refusal, its number + its spot * 2^32: see tcam_carry_number, tcam_carry_spot. The
@@ -334,19 +372,20 @@ static const uint64_t tcam_no_rule[TCAM_RECORD_WORDS(TCAM_WIDTH_320)] = {0};
  *   TCAM_WRITE   done is more than total, or total more than plan_words. The spot is the writes done so far.
  * where done equals total, TCAM_FINISHED; else, of the next write:
  *   TCAM_RULE    it puts the rule in, and the rule is unsound, as for tcam_plan_insert. The spot is 0.
+ *   TCAM_EDITION it puts the rule in, and edition is neither 10 nor 13. The spot is 0.
  *   TCAM_WRITE   it does not fit. The spot is the writes done so far. A copy fits if both slots exist and
  *                differ, slot `from` is not empty, and slot `to` is empty or its id stands in another slot
  *                too. A put-in fits under the same terms for `to`. An emptying write fits if the slot exists
  *                and is not empty.
  *
- * What is said of plans above asks for a plan that is carried out from its start, with its own rule, on the table
- * it was drawn for. Of any other plan, rule or progress record no more is said than stands here: one write that
- * fits, or nothing.
+ * What is said of plans above asks for a plan that is carried out from its start, with its own rule and edition, on the
+ * table it was drawn for. Of any other plan, rule, edition or progress record no more is said than stands here: one
+ * write that fits, or nothing.
  *
- * Left as it was, always: the plan, progress->total, and every slot but the one that a write goes to.
+ * Left as it was, always: the rule, the plan, progress->total, and every slot but the one that a write goes to.
  */
 uint64_t tcam_carry_out(uint64_t *table, size_t words, uint32_t width, const uint64_t *rule, size_t rule_words,
-                        const uint32_t *plan, size_t plan_words, tcam_progress *progress);
+                        uint32_t edition, const uint32_t *plan, size_t plan_words, tcam_progress *progress);
 
 /* The number of a refusal of tcam_carry_out, and its spot. */
 static inline uint32_t tcam_carry_number(uint64_t result)
@@ -400,8 +439,8 @@ uint32_t tcam_save(const uint64_t *table, size_t words, uint32_t width, uint8_t 
  *                 4 + 10 * k          the id of entry k is 0
  *                 4 + 10 * k + 4      the slot of entry k is not below slots, or not above that of the entry before
  *                 4 + 10 * k + 6      the offset of entry k is not 4 + 10 * e + b * k
- *                 4 + 10 * e + b * k  body k is unsound: its priority is above 65,535, or its value has a bit
- *                                     outside the mask
+ *                 4 + 10 * e + b * k  body k is unsound: its value has a bit outside the mask, or its rank is above
+ *                                     65,535 and not 65,536 with every mask bit of the width set
  *               All entries come before all bodies.
  *   TCAM_TWICE, TCAM_ORDER  as for tcam_plan_insert, in the table that the image gives. *spot is a slot.
  */
@@ -436,7 +475,8 @@ static inline const uint64_t *tcam_slot_words(const uint64_t *table, size_t word
  *
  *   record        the record that is written, TCAM_RECORD_WORDS(width) words
  *   width         the width of the table that the rule is for
- *   id, priority  the rule's id and priority
+ *   id, priority  the rule's id and the priority that it is given with; of a record that goes into a table as it is,
+ *                 its rank
  *   value, mask   its value and its mask, `width` words each, high word first; they share no word with the record
  *   action        its action, any number
  *
@@ -454,7 +494,10 @@ static inline uint64_t *tcam_make_record(uint64_t *record, uint32_t width, uint3
     return record;
 }
 
-/* The id, action and priority of a rule, from its record. */
+/*
+ * The id and action of a rule, from its record; and the number of its last word, under the name that it has: the
+ * priority of a rule to be given, the rank of one in a slot.
+ */
 static inline uint32_t tcam_record_id(const uint64_t *record, uint32_t width)
 {
     return (uint32_t)(record[TCAM_RECORD_WORDS(width) - 2] >> 32);
@@ -466,6 +509,11 @@ static inline uint32_t tcam_record_action(const uint64_t *record, uint32_t width
 }
 
 static inline uint32_t tcam_record_priority(const uint64_t *record, uint32_t width)
+{
+    return (uint32_t)record[TCAM_RECORD_WORDS(width) - 1];
+}
+
+static inline uint32_t tcam_record_rank(const uint64_t *record, uint32_t width)
 {
     return (uint32_t)record[TCAM_RECORD_WORDS(width) - 1];
 }
@@ -501,6 +549,14 @@ static inline const char *tcam_cause_name(uint32_t number)
     case TCAM_WRITE: return "WRITE";
     case TCAM_LINE: return "LINE";
     case TCAM_IMAGE: return "IMAGE";
+    case TCAM_UNCROSSED: return "UNCROSSED";
+    case TCAM_PLAN: return "PLAN";
+    case TCAM_DAMAGE: return "DAMAGE";
+    case TCAM_EDITION: return "EDITION";
+    case TCAM_OPEN: return "OPEN";
+    case TCAM_SESSION: return "SESSION";
+    case TCAM_ABSENT: return "ABSENT";
+    case TCAM_ROOM: return "ROOM";
     default: return "?";
     }
 }
@@ -543,6 +599,7 @@ static inline char *tcam_text_spot(uint32_t number, uint32_t spot, const char *n
     case TCAM_WRITE: counted = " write"; after = " done"; break;
     case TCAM_LINE: before = "line "; break;
     case TCAM_IMAGE: before = "byte "; break;
+    case TCAM_PLAN: before = "write "; break;
     default: *text = 0; return text;
     }
     char *end = tcam_text_number(tcam_text_part(text, before), spot);
@@ -552,7 +609,8 @@ static inline char *tcam_text_spot(uint32_t number, uint32_t spot, const char *n
 }
 
 /*
- * What a refusal's spot is, in words for a log: "slot 4", "1 word needed", "2 writes done", "byte 2".
+ * What a refusal's spot is, in words for a log: "slot 4", "1 word needed", "2 writes done", "byte 2". At TCAM_PLAN it
+ * is a place in the plan, counted from 0: "write 3".
  *
  *   number, spot  the refusal's number and its spot
  *   text          buffer for the text, of TCAM_SPOT_TEXT bytes
@@ -560,8 +618,8 @@ static inline char *tcam_text_spot(uint32_t number, uint32_t spot, const char *n
  * tcam_image_spot_text is for tcam_save and tcam_load, where the spot of TCAM_SHORT is bytes: "204 bytes needed".
  * tcam_spot_text is for all other calls, where it is words of a plan.
  *
- * The result is the buffer. The text is empty where the spot names nothing, at TCAM_SHAPE, TCAM_RULE, TCAM_UNKNOWN and
- * TCAM_FULL, and where the number is no refusal's.
+ * The result is the buffer. The text is empty where the spot names nothing, at TCAM_SHAPE, TCAM_RULE, TCAM_UNKNOWN,
+ * TCAM_FULL and all from TCAM_UNCROSSED on but TCAM_PLAN, and where the number is no refusal's.
  */
 static inline char *tcam_spot_text(uint32_t number, uint32_t spot, char *text)
 {

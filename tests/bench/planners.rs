@@ -5,6 +5,7 @@ use crate::fast_rule::{greedy, Way};
 use crate::memory::{Chain, Memory, NoPlan, WIDTH};
 use crate::rule_tris::shortest_moving_chain;
 use crate::workload::Free;
+use reference::given::EDITION_13;
 use reference::table::{Rule, CROSSED};
 
 #[derive(Clone, Copy, Debug, PartialEq, Eq, PartialOrd, Ord)]
@@ -42,8 +43,9 @@ impl Planner {
     }
 }
 
+/// Under 1.3, where a rule's rank is the priority that it is given with, as the papers' planners have it.
 fn plan_by_library(memory: &Memory, new: &Rule) -> Result<Chain, NoPlan> {
-    match support::calls::plan_insert(&memory.words, WIDTH, &new.record(WIDTH)) {
+    match support::calls::plan_insert(&memory.words, WIDTH, &new.record(WIDTH), EDITION_13) {
         Ok(plan) => Ok(plan.iter().rev().map(|write| (write % 65_536) as usize).collect()),
         Err(refusal) if refusal.number == CROSSED => Err(NoPlan::Crossed),
         Err(refusal) => panic!("a workload has no insert that is refused with {refusal:?}"),
@@ -66,8 +68,8 @@ fn greedy_two_way(memory: &Memory, new: &Rule, one_way: Way) -> Result<Chain, No
 fn shift_by_priority(memory: &Memory, new: &Rule) -> Chain {
     let slots = &memory.slots;
     let count = slots.len();
-    let first = slots.iter().rposition(|entry| entry.is_some_and(|rule| rule.priority > new.priority)).map_or(0, |slot| slot + 1);
-    let end = slots.iter().position(|entry| entry.is_some_and(|rule| rule.priority < new.priority)).unwrap_or(count);
+    let first = slots.iter().rposition(|entry| entry.is_some_and(|rule| rule.rank > new.rank)).map_or(0, |slot| slot + 1);
+    let end = slots.iter().position(|entry| entry.is_some_and(|rule| rule.rank < new.rank)).unwrap_or(count);
     if let Some(slot) = (first..end).find(|&slot| slots[slot].is_none()) {
         return vec![slot];
     }

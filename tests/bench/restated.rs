@@ -72,8 +72,8 @@ pub fn algorithm_2(memory: &Memory, new: &Rule, way: Way) -> Result<Chain, NoPla
 }
 
 pub fn is_by_priority(slots: &[Option<Rule>]) -> bool {
-    let priorities: Vec<u64> = slots.iter().flatten().map(|rule| rule.priority).collect();
-    priorities.windows(2).all(|pair| pair[0] >= pair[1])
+    let ranks: Vec<u64> = slots.iter().flatten().map(|rule| rule.rank).collect();
+    ranks.windows(2).all(|pair| pair[0] >= pair[1])
 }
 
 /// Every empty slot is tried with every slot for the new rule, what stands between them shifted by one toward the empty one:

@@ -45,13 +45,13 @@ pub fn make_rules(set: RuleSet, count: usize, random: &mut Random) -> Vec<Rule> 
         }
     }
     let priorities = match set {
-        RuleSet::AccessList => ranks(&patterns, 40, random),
-        RuleSet::Firewall => ranks(&patterns, 90, random),
+        RuleSet::AccessList => list_order(&patterns, 40, random),
+        RuleSet::Firewall => list_order(&patterns, 90, random),
         RuleSet::Routes => patterns.iter().map(|(_, mask)| u64::from(mask.count_ones())).collect(),
     };
     let rule = |(place, priority): (usize, u64)| Rule {
         id: place as u32 + 1,
-        priority,
+        rank: priority,
         value: patterns[place].0.into(),
         mask: patterns[place].1.into(),
         action: action_of_place(place),
@@ -65,14 +65,14 @@ fn action_of_place(place: usize) -> u32 {
 }
 
 /// A list's own order as priorities, all different: narrow rules tend to come first, by `noise` bits more or less.
-fn ranks(patterns: &[Pattern], noise: usize, random: &mut Random) -> Vec<u64> {
+fn list_order(patterns: &[Pattern], noise: usize, random: &mut Random) -> Vec<u64> {
     let mut order: Vec<(u32, usize)> =
         patterns.iter().enumerate().map(|(place, (_, mask))| (mask.count_ones() + random.below(noise) as u32, place)).collect();
     order.sort();
     let step = 65_535 / patterns.len() as u64;
     let mut priorities = vec![0; patterns.len()];
-    for (rank, (_, place)) in order.into_iter().enumerate() {
-        priorities[place] = rank as u64 * step;
+    for (turn, (_, place)) in order.into_iter().enumerate() {
+        priorities[place] = turn as u64 * step;
     }
     priorities
 }

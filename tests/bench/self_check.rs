@@ -8,6 +8,7 @@ use crate::restated::{algorithm_2, is_by_priority, shortest_shift};
 use crate::rule_sets::RULE_SETS;
 use crate::workload::{Free, Operations, Outcome, Size, Workload, OPERATIONS};
 use reference::bits::Bits;
+use reference::given::EDITION_13;
 use reference::plan::plan_insert;
 use reference::table::{Rule, CROSSED};
 
@@ -72,14 +73,15 @@ fn check(planner: Planner, memory: &Memory, new: &Rule, free: Free, planned: Res
 }
 
 fn least_count(memory: &Memory, new: &Rule) -> Result<usize, NoPlan> {
-    plan_insert(&memory.words, WIDTH, &new.record(WIDTH), memory.slots.len()).map(|plan| plan.len()).map_err(|refusal| {
+    let plan = plan_insert(&memory.words, WIDTH, &new.record(WIDTH), EDITION_13, memory.slots.len());
+    plan.map(|plan| plan.len()).map_err(|refusal| {
         assert_eq!(refusal.number, CROSSED);
         NoPlan::Crossed
     })
 }
 
-fn rule(id: u32, priority: u64, pattern: &str) -> Rule {
-    let mut rule = Rule { id, priority, value: Bits::NONE, mask: Bits::NONE, action: 0 };
+fn rule(id: u32, rank: u64, pattern: &str) -> Rule {
+    let mut rule = Rule { id, rank, value: Bits::NONE, mask: Bits::NONE, action: 0 };
     for (place, digit) in pattern.chars().enumerate().filter(|(_, digit)| *digit != '*') {
         rule.mask |= Bits::at(place);
         rule.value |= if digit == '1' { Bits::at(place) } else { Bits::NONE };
@@ -122,7 +124,7 @@ const FIGURE_3: [(usize, usize); 8] = [(5, 3), (3, 1), (1, 0), (4, 2), (6, 9), (
 /// The rule of each node of figure 3. Two that have no edge between them differ at a bit of their own, and so don't overlap.
 fn figure_3_rules() -> Vec<Rule> {
     let mut rules: Vec<Rule> = (1..=10).map(|id| rule(id, 100 - 10 * u64::from(id), "")).collect();
-    rules[9].priority = (rules[5].priority + rules[6].priority) / 2;
+    rules[9].rank = (rules[5].rank + rules[6].rank) / 2;
     let mut place = 0;
     for second in 1..rules.len() {
         for first in 0..second {
@@ -153,6 +155,6 @@ fn document_001_figure_3() {
             assert_eq!(greedy(&memory_of(&entries), &rules[9], way), Ok(chain), "figure 3 of document 001, {way:?}");
         }
         // For the other way every dependency is turned about.
-        rules.iter_mut().for_each(|rule| rule.priority = 100 - rule.priority);
+        rules.iter_mut().for_each(|rule| rule.rank = 100 - rule.rank);
     }
 }

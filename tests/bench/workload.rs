@@ -103,7 +103,7 @@ impl Workload {
 
     fn first_memory(&self) -> Memory {
         let mut rules = self.rules[..self.first].to_vec();
-        rules.sort_by_key(|rule| std::cmp::Reverse(rule.priority));
+        rules.sort_by_key(|rule| std::cmp::Reverse(rule.rank));
         let mut memory = Memory::new(self.slots);
         let start = if self.free == Free::First { self.slots - self.first } else { 0 };
         for (place, rule) in rules.iter().enumerate() {

@@ -1,7 +1,8 @@
 /*
  * Carries plans out as firmware would, at each width, one write per call through a lent progress record, and checks every
  * result, table and record: first cases whose answers are written here, then plans of the library with lookups between the
- * writes, then random plans and records. Every call is also compared with a reference written from document 01, "Carrying out".
+ * writes, then random plans and records. Every call is also compared with a reference written from document 01, "Carrying out",
+ * and document 02's 2026-07.
  *
  *     carry_test [seed [calls]]
  */
@@ -86,8 +87,11 @@ static uint64_t ref_step(void)
     record_words record = {0};
     if (from == 65535) {
         set_record(record, &rule);
-        if (!is_sound(record))
+        if (!is_sound_given(record))
             return REFUSED(5, 0);
+        if (edition != 10 && edition != 13)
+            return REFUSED(18, 0);
+        set_ranked(record, &rule);
     }
     if (!ref_fits(slots_of(words), from, to))
         return REFUSED(12, done);
@@ -129,7 +133,8 @@ static uint64_t step(void)
     memcpy(lent_plan, plan, room * sizeof *plan);
     for (uint32_t index = 0; index < PLAN_GUARDS; index++)
         guards[index] = PUT(index);
-    uint64_t result = tcam_carry_out(lent.table, words, width, lent_rule.table, rule_words, lent_plan, room, &record.progress);
+    uint64_t result =
+        tcam_carry_out(lent.table, words, width, lent_rule.table, rule_words, edition, lent_plan, room, &record.progress);
     CHECK(result == ref_step());
     check_lent(&lent);
     check_lent(&lent_rule);
@@ -244,14 +249,14 @@ static void other_rules(void)
     HERE; /* the record of zeros has the words of either width, and no write puts it in */
     six_slots();
     next_write(EMPTYING(3), 0);
-    CHECK(tcam_carry_out(table, words, width, tcam_no_rule, TCAM_RECORD_WORDS(width), plan, room, &progress) == TCAM_WROTE);
+    CHECK(tcam_carry_out(table, words, width, tcam_no_rule, SLOTS(1), edition, plan, room, &progress) == TCAM_WROTE);
     CHECK(is_empty(table + SLOTS(3)) && progress.done == 1);
     next_write(PUT(3), 0);
-    CHECK(tcam_carry_out(table, words, width, tcam_no_rule, TCAM_RECORD_WORDS(width), plan, room, &progress) == TCAM_RULE);
+    CHECK(tcam_carry_out(table, words, width, tcam_no_rule, SLOTS(1), edition, plan, room, &progress) == TCAM_RULE);
     CHECK(is_empty(table + SLOTS(3)) && progress.done == 0);
     progress.done = progress.total;
-    CHECK(tcam_carry_out(table, words, width, NULL, 0, plan, room, &progress) == TCAM_SHAPE);
-    CHECK(tcam_carry_out(NULL, 0, width, tcam_no_rule, TCAM_RECORD_WORDS(width), plan, room, &progress) == TCAM_SHAPE);
+    CHECK(tcam_carry_out(table, words, width, NULL, 0, edition, plan, room, &progress) == TCAM_SHAPE);
+    CHECK(tcam_carry_out(NULL, 0, width, tcam_no_rule, SLOTS(1), edition, plan, room, &progress) == TCAM_SHAPE);
 }
 
 /* Every other width: the table, the rule and the progress record stay as they are. */
@@ -267,7 +272,7 @@ static void other_widths(void)
                 memcpy(before, table, sizeof table);
                 plan[0] = EMPTYING(0);
                 progress = (tcam_progress){done, 1};
-                CHECK(tcam_carry_out(table, words, others[index], rule_record, lent, plan, 1, &progress) == TCAM_SHAPE);
+                CHECK(tcam_carry_out(table, words, others[index], rule_record, lent, edition, plan, 1, &progress) == TCAM_SHAPE);
                 CHECK(memcmp(before, table, sizeof table) == 0 && progress.done == done && progress.total == 1);
             }
 }
@@ -323,6 +328,27 @@ static void records_of_progress(void)
     writes(2, table);
 }
 
+/* What was given with the call is declined where a write puts a rule in, and nowhere else. */
+static void declined_where_put_in(uint32_t cause)
+{
+    next_write(PUT(2), 1);
+    leaves(REFUSED(cause, 0));
+    next_write(PUT(0), 1);
+    leaves(REFUSED(cause, 0));
+    next_write(PUT(6), 1);
+    leaves(REFUSED(cause, 0));
+    next_write(COPY(0, 0), 1);
+    leaves(REFUSED(TCAM_WRITE, 1));
+    next_write(EMPTYING(2), 1);
+    leaves(REFUSED(TCAM_WRITE, 1));
+    next_write(COPY(0, 2), 1);
+    writes(2, table);
+    next_write(EMPTYING(3), 1);
+    writes(3, no_words);
+    progress.done = progress.total;
+    leaves(TCAM_FINISHED);
+}
+
 /* 5 where an unsound rule is put in, before 12; not where the next write copies or empties. */
 static void unsound_rules(void)
 {
@@ -341,22 +367,7 @@ static void unsound_rules(void)
             memset(&rule, 0, sizeof rule);
         else
             rule.value[fault - 5] |= TOP >> 5;
-        next_write(PUT(2), 1);
-        leaves(REFUSED(TCAM_RULE, 0));
-        next_write(PUT(0), 1);
-        leaves(REFUSED(TCAM_RULE, 0));
-        next_write(PUT(6), 1);
-        leaves(REFUSED(TCAM_RULE, 0));
-        next_write(COPY(0, 0), 1);
-        leaves(REFUSED(TCAM_WRITE, 1));
-        next_write(EMPTYING(2), 1);
-        leaves(REFUSED(TCAM_WRITE, 1));
-        next_write(COPY(0, 2), 1);
-        writes(2, table);
-        next_write(EMPTYING(3), 1);
-        writes(3, no_words);
-        progress.done = progress.total;
-        leaves(TCAM_FINISHED);
+        declined_where_put_in(TCAM_RULE);
     }
     six_slots();
     record_words record;
@@ -364,6 +375,127 @@ static void unsound_rules(void)
     set_record(record, &rule);
     next_write(PUT(2), 1);
     writes(2, record);
+}
+
+/* Every bit of the width is cared for: as in the pattern, and as 0 behind it. */
+static struct rule without_wildcards(struct rule made)
+{
+    for (uint32_t word = 0; word < width; word++)
+        made.mask[word] = ALL;
+    return made;
+}
+
+/* 18 where a rule is put in with another edition, after 5 and before 12; not where the next write copies or empties. */
+static void other_editions(void)
+{
+    static const uint32_t others[] = {0, 1, 9, 11, 12, 14, 99, 65546, 65549, 0x8000000Au, 0x8000000Du, UINT32_MAX};
+    for (size_t index = 0; index < 2 * COUNT_OF(others); index++) {
+        HERE;
+        six_slots();
+        edition = others[index / 2];
+        if (index % 2 == 1)
+            rule = without_wildcards(rule);
+        declined_where_put_in(TCAM_EDITION);
+        progress.done++;
+        leaves(REFUSED(TCAM_WRITE, progress.done));
+        rule.priority = 65536;
+        next_write(PUT(5), 1);
+        leaves(REFUSED(TCAM_RULE, 0));
+        next_write(PUT(0), 1);
+        leaves(REFUSED(TCAM_RULE, 0));
+        table[SLOTS(5)] = 1;
+        leaves(REFUSED(TCAM_RECORD, 5));
+    }
+}
+
+/* A rule that is put in stands in its slot with this rank, and as it was given otherwise. */
+static void put_in_with(uint64_t rank)
+{
+    record_words record;
+    struct rule given = rule;
+    six_slots();
+    rule = given;
+    set_record(record, &rule);
+    record[2 * width + 1] = rank;
+    next_write(PUT(2), 1);
+    writes(2, record);
+    CHECK(table[SLOTS(3) - 1] == rank);
+    next_write(PUT(4), 1); /* over a copy of a rule that stands in another slot too */
+    writes(4, record);
+    next_write(COPY(2, 5), 1);
+    writes(5, record);
+}
+
+/* Under 1.0 the rank of a rule without wildcards is 65,536; every other rank is the priority. */
+static void ranks(void)
+{
+    static const uint64_t priorities[] = {0, 7, 45, 65535};
+    for (size_t index = 0; index < COUNT_OF(priorities); index++) {
+        const struct rule wild = made_rule(9, priorities[index], "10"), exact = without_wildcards(wild);
+        HERE;
+        for (size_t either = 0; either < COUNT_OF(editions); either++) {
+            edition = editions[either];
+            rule = wild;
+            put_in_with(priorities[index]);
+            rule = exact;
+            put_in_with(edition == TCAM_EDITION_10 ? 65536 : priorities[index]);
+        }
+        edition = TCAM_EDITION_10;
+        for (uint32_t bit = 0; bit < 64 * width; bit++) { /* one bit that is not cared for */
+            rule = exact;
+            rule.value[0] = 0;
+            rule.mask[bit / 64] ^= TOP >> bit % 64;
+            put_in_with(priorities[index]);
+        }
+        for (uint32_t count = 0; count < width; count++) { /* some of the words alone: 128 bits of 320 too */
+            rule = exact;
+            rule.value[0] = 0;
+            memset(rule.mask + count, 0, (width - count) * sizeof *rule.mask);
+            put_in_with(priorities[index]);
+        }
+    }
+}
+
+/* A table's rank 65,536 is sound where every bit of the width is cared for, and no higher rank ever is; whatever the edition. */
+static void ranks_of_records(void)
+{
+    static const uint64_t wrong[] = {65537, 131072, 0x100010000u, TOP, ALL};
+    for (size_t index = 0; index < COUNT_OF(editions); index++) {
+        struct rule exact = without_wildcards(made_rule(7, 65536, ""));
+        edition = editions[index];
+        for (uint32_t bit = 0; bit < 64 * width; bit++) {
+            HERE;
+            six_slots();
+            set_record(table + SLOTS(2), &exact);
+            next_write(COPY(2, 5), 0);
+            table[SLOTS(2) + width + bit / 64] ^= TOP >> bit % 64;
+            leaves(REFUSED(TCAM_RECORD, 2));
+            table[SLOTS(2) + width + bit / 64] ^= TOP >> bit % 64;
+            writes(5, table + SLOTS(2));
+        }
+        for (size_t rank = 0; rank < COUNT_OF(wrong); rank++) {
+            HERE;
+            table[SLOTS(3) - 1] = wrong[rank];
+            leaves(REFUSED(TCAM_RECORD, 2));
+        }
+    }
+}
+
+/* 65,536 is a rank and no priority, under either edition: a slot's record that holds it is not put in again. */
+static void records_given_again(void)
+{
+    for (size_t index = 0; index < COUNT_OF(editions); index++) {
+        HERE;
+        edition = TCAM_EDITION_10;
+        rule = without_wildcards(made_rule(9, 7, "10"));
+        put_in_with(65536);
+        edition = editions[index];
+        rule.priority = rank_of(table + SLOTS(2));
+        next_write(PUT(4), 1);
+        leaves(REFUSED(TCAM_RULE, 0));
+        next_write(COPY(2, 4), 1);
+        writes(4, table + SLOTS(2));
+    }
 }
 
 /* Writes from slots or to slots that do not exist. */
@@ -466,7 +598,7 @@ static int rule_matches(const struct rule *one, const uint64_t *key)
     return 1;
 }
 
-/* The reply by highest priority, id and action, 0 for a miss. */
+/* The reply by highest rank, id and action, 0 for a miss. A rule that is held has its rank for its priority. */
 static uint64_t best_reply(const uint64_t *key)
 {
     const struct rule *best = NULL;
@@ -503,7 +635,7 @@ static uint64_t carry(uint64_t *lent_table, uint32_t plan_words, tcam_progress *
 {
     record_words given;
     set_record(given, &rule);
-    return tcam_carry_out(lent_table, words, width, given, SLOTS(1), plan, plan_words, record);
+    return tcam_carry_out(lent_table, words, width, given, SLOTS(1), edition, plan, plan_words, record);
 }
 
 /*
@@ -556,7 +688,10 @@ static void carry_to_the_end(uint32_t count, void (*changes)(void))
 
 static void rule_comes(void)
 {
-    held[held_count++] = rule;
+    record_words record;
+    set_ranked(record, &rule);
+    held[held_count] = rule;
+    held[held_count++].priority = rank_of(record);
 }
 
 static void rule_goes(void)
@@ -574,16 +709,16 @@ static uint32_t insert(uint32_t *count)
     room = slots_of(words);
     for (uint32_t index = 0; index < room; index++)
         plan[index] = COPY(index, index);
-    uint32_t number = tcam_plan_insert(table, words, width, given, SLOTS(1), plan, room, count, &spot);
+    uint32_t number = tcam_plan_insert(table, words, width, given, SLOTS(1), edition, plan, room, count, &spot);
     if (number == TCAM_OK)
         carry_to_the_end(*count, rule_comes);
     return number;
 }
 
-/* The rule's words are not looked at where a rule is taken out. */
+/* The rule's words and the edition are not looked at where a rule is taken out. */
 static uint32_t delete_rule(uint32_t id)
 {
-    uint32_t count, spot;
+    uint32_t count, spot, kept = edition;
     room = 3;
     plan[1] = plan[2] = COPY(0, 0);
     memset(&rule, 0, sizeof rule);
@@ -591,7 +726,9 @@ static uint32_t delete_rule(uint32_t id)
     if (number == TCAM_OK) {
         rule.id = id;
         rule.priority = ALL;
+        edition = 99;
         carry_to_the_end(count, rule_goes);
+        edition = kept;
     }
     return number;
 }
@@ -644,11 +781,73 @@ static void plans_in_the_middle(void)
     plan[1] = COPY(0, 1);
     room = 2;
     progress = (tcam_progress){0, 2};
-    CHECK(tcam_carry_out(table, words, width, given, SLOTS(1), plan, room, &progress) == TCAM_WROTE && progress.done == 1);
-    CHECK(tcam_plan_insert(table, words, width, given, SLOTS(1), other, 5, &count, &spot) == TCAM_TWICE && spot == 2);
+    CHECK(tcam_carry_out(table, words, width, given, SLOTS(1), edition, plan, room, &progress) == TCAM_WROTE && progress.done == 1);
+    CHECK(tcam_plan_insert(table, words, width, given, SLOTS(1), edition, other, 5, &count, &spot) == TCAM_TWICE && spot == 2);
     spot = 77;
     CHECK(tcam_plan_delete(table, words, width, 1, other, 5, &count, &spot) == TCAM_TWICE && spot == 2);
     CHECK(count == 77 && other[0] == 1 && other[4] == 5);
+}
+
+/* A rule for the key that ends in this number, and for no other. */
+static struct rule for_key(uint32_t id, uint64_t priority, uint64_t last)
+{
+    struct rule made = without_wildcards(made_rule(id, priority, ""));
+    made.value[width - 1] = last;
+    return made;
+}
+
+/* An insert whose plan has so many writes, the last of them to this slot. */
+static void inserted(struct rule given, uint32_t want_count, uint32_t want_slot)
+{
+    uint32_t count = 0;
+    rule = given;
+    CHECK(insert(&count) == TCAM_OK && count == want_count);
+    CHECK(count > 0 && plan[count - 1] == PUT(want_slot) && id_of(table + SLOTS(want_slot)) == given.id);
+}
+
+/* The key that ends in this number has its reply from this rule. */
+static void answered(uint64_t last, uint32_t want_id)
+{
+    uint32_t slot, id, action, spot;
+    pattern_words key = {0};
+    key[width - 1] = last;
+    CHECK(tcam_lookup(table, words, width, key, width, &slot, &id, &action, &spot) == TCAM_OK && id == want_id);
+}
+
+/*
+ * A table that is filled under 1.0 and then under 1.3. With the change of edition nothing is written and no reply is another: the
+ * rules present keep their rank, and later ones get theirs by the new edition.
+ */
+static void upgrade(void)
+{
+    static const uint32_t ids[] = {1, 3, 6, 2, 5, 4};
+    static const uint64_t ranks_held[] = {65536, 65536, 65535, 65534, 8, 7};
+    static uint64_t before[ROOM(6)];
+    HERE;
+    empty_table(6);
+    held_count = 0;
+    edition = TCAM_EDITION_10;
+    inserted(made_rule(2, 65534, ""), 1, 0);
+    inserted(for_key(1, 7, 1), 2, 0); /* above rule 2, whatever its priority */
+    inserted(for_key(3, 7, 3), 2, 1);
+    memcpy(before, table, sizeof before);
+    answered(1, 1);
+    answered(3, 3);
+    answered(4, 2);
+
+    HERE;
+    edition = TCAM_EDITION_13;
+    choose_keys();
+    check_replies();
+    CHECK(memcmp(before, table, sizeof before) == 0);
+    inserted(for_key(4, 7, 4), 1, 3);        /* below rule 2 */
+    inserted(for_key(5, 8, 1), 1, 4);        /* below rule 2 too, and no tie: rule 1 has kept its rank */
+    inserted(made_rule(6, 65535, ""), 3, 2); /* between those that came without wildcards and rule 2 */
+    for (uint32_t slot = 0; slot < 6; slot++)
+        CHECK(id_of(table + SLOTS(slot)) == ids[slot] && rank_of(table + SLOTS(slot)) == ranks_held[slot]);
+    answered(1, 1);
+    answered(3, 3);
+    answered(4, 6);
 }
 
 /* 1,024 slots, every rule depending on all before it: a plan of 1,024 writes. */
@@ -675,10 +874,10 @@ static void move_to_last_word(struct rule *moved)
     moved->value[0] = moved->mask[0] = 0;
 }
 
-/* Inserts and deletes at random, carried out to the end, over some tables. */
+/* Inserts and deletes at random, each insert under an edition of its own, carried out to the end, over some tables. */
 static void random_plans(void)
 {
-    unsigned long inserted = 0, deleted = 0, writes_of[4] = {0, 0, 0, 0};
+    unsigned long came = 0, went = 0, raised = 0, writes_of[4] = {0, 0, 0, 0};
     case_line = 0;
     made_how = "planned table";
     for (turn = 0; turn < 60; turn++) {
@@ -687,7 +886,7 @@ static void random_plans(void)
         for (uint32_t round = 1; round <= 60; round++) {
             if (held_count > 0 && below(4) == 0) {
                 CHECK(delete_rule(held[below(held_count)].id) == TCAM_OK);
-                deleted++;
+                went++;
                 continue;
             }
             char pattern[5] = "****";
@@ -697,13 +896,17 @@ static void random_plans(void)
             rule = made_rule(round, below(200), pattern);
             if (below(2) == 0) /* the last word decides, and not the first */
                 move_to_last_word(&rule);
+            if (below(4) == 0)
+                rule = without_wildcards(rule);
+            edition = editions[below(2)];
             if (insert(&count) == TCAM_OK) {
-                inserted++;
+                came++;
+                raised += held[held_count - 1].priority == 65536;
                 writes_of[count < 3 ? count : 3]++;
             }
         }
     }
-    CHECK(inserted > 500 && deleted > 300);
+    CHECK(came > 500 && went > 300 && raised > 50);
     CHECK(writes_of[1] > 100 && writes_of[2] > 50 && writes_of[3] > 20);
 }
 
@@ -722,6 +925,10 @@ static void make_call(uint32_t slots)
     for (uint32_t slot = 0; slot < slots; slot++)
         if (below(3) != 0)
             hold(slot, 1 + below(4), below(3), "1");
+    if (below(4) == 0) { /* a rule without wildcards, given under 1.0 */
+        struct rule exact = without_wildcards(made_rule(1 + below(4), 65536, "1"));
+        set_record(table + SLOTS(below(slots)), &exact);
+    }
     if (below(10) == 0)
         table[SLOTS(below(slots)) + below((uint32_t)SLOTS(1))] ^= random_word() >> below(64);
     if (below(20) == 0)
@@ -733,6 +940,9 @@ static void make_call(uint32_t slots)
         rule.value[below(width)] |= 1;
     if (below(40) == 0)
         rule.priority |= TOP >> below(32);
+    if (below(4) == 0)
+        rule = without_wildcards(rule);
+    edition = below(5) == 0 ? below(20) : editions[below(2)];
     room = below(4);
     for (uint32_t index = 0; index < room; index++)
         plan[index] = COPY(below(3) == 0 ? 65534 + below(2) : random_end(slots), random_end(slots));
@@ -744,7 +954,7 @@ static unsigned long most; /* calls at each width */
 
 static void random_calls(void)
 {
-    unsigned long seen[15] = {0}, wrote[3] = {0, 0, 0}, finished = 0;
+    unsigned long seen[TCAM_ROOM + 1] = {0}, wrote[3] = {0, 0, 0}, finished = 0;
     case_line = 0;
     made_how = "random table";
     for (turn = 0; turn < most; turn++) {
@@ -757,12 +967,13 @@ static void random_calls(void)
             else if (result == TCAM_FINISHED)
                 finished++;
             else
-                seen[tcam_carry_number(result) % 15]++;
+                seen[tcam_carry_number(result) % COUNT_OF(seen)]++;
         }
     }
     CHECK(seen[TCAM_SHAPE] > most / 100);
     CHECK(seen[TCAM_RECORD] > most / 100);
     CHECK(seen[TCAM_RULE] > most / 200);
+    CHECK(seen[TCAM_EDITION] > most / 200);
     CHECK(seen[TCAM_WRITE] > most / 10);
     CHECK(finished > most / 10);
     for (int kind = 0; kind < 3; kind++)
@@ -782,8 +993,9 @@ static void halves(void)
 int main(int count, char **arguments)
 {
     static void (*const cases[])(void) = {
-        halves, shapes, other_rules, other_widths, records, records_of_progress, unsound_rules, absent_slots, unfit_writes,
-        other_copies, one_slot, five_slots, plans_in_the_middle, long_plan, random_plans, random_calls,
+        halves, shapes, other_rules, other_widths, records, records_of_progress, unsound_rules, other_editions, ranks,
+        ranks_of_records, records_given_again, absent_slots, unfit_writes, other_copies, one_slot, five_slots,
+        plans_in_the_middle, upgrade, long_plan, random_plans, random_calls,
     };
     most = begin(count, arguments, 100000) / 2;
     open_pages(&plan_pages, (MOST_ROOM + PLAN_GUARDS) * sizeof(uint32_t));

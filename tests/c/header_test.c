@@ -22,7 +22,10 @@ static void constants(void)
     CHECK(NO_SIGN(TCAM_PUT) && NO_SIGN(TCAM_EMPTY));
     CHECK(NO_SIGN(TCAM_WROTE) && NO_SIGN(TCAM_FINISHED) && NO_SIGN(TCAM_SPOT_TEXT) && NO_SIGN(TCAM_IMAGE_BYTES(2, 1)));
     CHECK(NO_SIGN(TCAM_RECORD_WORDS(2)) && NO_SIGN(TCAM_TABLE_WORDS(2, 1)) && NO_SIGN(TCAM_TABLE_SLOTS(2, 1)));
+    CHECK(NO_SIGN(TCAM_EDITION_10) && NO_SIGN(TCAM_EDITION_13) && NO_SIGN(TCAM_MAX_PRIORITY) && NO_SIGN(TCAM_EXACT_RANK));
     CHECK(TCAM_WIDTH_128 == 2 && TCAM_WIDTH_320 == 5 && TCAM_MAX_SLOTS == 1024 && TCAM_SPOT_TEXT == 24);
+    CHECK(TCAM_EDITION_10 == 10 && TCAM_EDITION_13 == 13 && TCAM_MAX_PRIORITY == 65535 && TCAM_EXACT_RANK == 65536);
+    CHECK(TCAM_EXACT_RANK > TCAM_MAX_PRIORITY);
     /* the header's formula for a plan word, as it stands there */
     CHECK(TCAM_PUT * 65536 + 65535 == 4294967295u && TCAM_EMPTY * 65536 + 0 == 4294836224u);
 }
@@ -99,13 +102,14 @@ static void record_parts(void)
     CHECK(tcam_make_record(record, width, 4294967295u, 4294967293u, value, mask, 4294967294u) == record);
     CHECK(memcmp(record, want, (SLOTS(1) + 1) * sizeof *record) == 0);
     CHECK(tcam_record_id(record, width) == 4294967295u && tcam_record_action(record, width) == 4294967294u);
-    CHECK(tcam_record_priority(record, width) == 4294967293u);
+    CHECK(tcam_record_priority(record, width) == 4294967293u && tcam_record_rank(record, width) == 4294967293u);
     for (uint32_t index = 0; index < width; index++) {
         CHECK(tcam_record_value(record, width, index) == index + 1);
         CHECK(tcam_record_mask(record, width, index) == index + 11);
     }
     tcam_make_record(record, width, 1, 0, mask, value, 0);
-    CHECK(tcam_record_id(record, width) == 1 && tcam_record_action(record, width) == 0 && tcam_record_priority(record, width) == 0);
+    CHECK(tcam_record_id(record, width) == 1 && tcam_record_action(record, width) == 0);
+    CHECK(tcam_record_priority(record, width) == 0 && tcam_record_rank(record, width) == 0);
     CHECK(tcam_record_value(record, width, width - 1) == width + 10 && tcam_record_mask(record, width, 0) == 1);
     CHECK(is_empty(tcam_no_rule));
 }
@@ -176,11 +180,17 @@ static void spots_that_are_places(void)
     OF_BOTH(TCAM_IMAGE, 1, "byte 1");
     OF_BOTH(TCAM_IMAGE, 2, "byte 2");
     OF_BOTH(TCAM_IMAGE, 4294967295u, "byte 4294967295");
+    OF_BOTH(TCAM_PLAN, 0, "write 0");
+    OF_BOTH(TCAM_PLAN, 1, "write 1");
+    OF_BOTH(TCAM_PLAN, 4294967295u, "write 4294967295");
 }
 
 static void spots_that_name_nothing(void)
 {
-    static const uint32_t numbers[] = {TCAM_OK, TCAM_SHAPE, TCAM_RULE, TCAM_UNKNOWN, TCAM_FULL, 15, 16, 65536, 4294967295u};
+    static const uint32_t numbers[] = {
+        TCAM_OK, TCAM_SHAPE, TCAM_RULE, TCAM_UNKNOWN, TCAM_FULL, TCAM_UNCROSSED, TCAM_DAMAGE, TCAM_EDITION, TCAM_OPEN, TCAM_SESSION,
+        TCAM_ABSENT, TCAM_ROOM, 23, 24, 65536, 4294967295u,
+    };
     for (size_t index = 0; index < COUNT_OF(numbers); index++) {
         OF_BOTH(numbers[index], 0, "");
         OF_BOTH(numbers[index], 1, "");
@@ -229,7 +239,7 @@ static uint32_t insert(const struct rule *rule, uint32_t *plan, size_t room, uin
 {
     record_words given;
     tcam_make_record(given, width, rule->id, (uint32_t)rule->priority, rule->value, rule->mask, rule->action);
-    return tcam_plan_insert(TABLE, given, TCAM_RECORD_WORDS(width), plan, room, count, spot);
+    return tcam_plan_insert(TABLE, given, TCAM_RECORD_WORDS(width), edition, plan, room, count, spot);
 }
 
 static void refused_plans(void)
@@ -253,6 +263,10 @@ static void refused_plans(void)
     OF_TABLE(number, spot, "slot 0");
     number = tcam_plan_delete(TABLE, 9, plan, 5, &count, &spot);
     CHECK(number == TCAM_UNKNOWN);
+    OF_TABLE(number, spot, "");
+    edition = 12;
+    number = insert(&new_rule, plan, 5, &count, &spot);
+    CHECK(number == TCAM_EDITION);
     OF_TABLE(number, spot, "");
     memcpy(table + SLOTS(4), table + SLOTS(1), SLOTS(1) * sizeof *table);
     number = tcam_plan_delete(TABLE, 3, plan, 5, &count, &spot);
@@ -287,10 +301,10 @@ static void refused_writes(void)
     HERE;
     five_slots();
     for (int call = 0; call < 2; call++)
-        result = tcam_carry_out(TABLE, tcam_no_rule, TCAM_RECORD_WORDS(width), plan, TCAM_WORDS(plan), &progress);
+        result = tcam_carry_out(TABLE, tcam_no_rule, TCAM_RECORD_WORDS(width), edition, plan, TCAM_WORDS(plan), &progress);
     OF_TABLE(tcam_carry_number(result), tcam_carry_spot(result), "1 write done");
     progress.done = 3;
-    result = tcam_carry_out(TABLE, tcam_no_rule, TCAM_RECORD_WORDS(width), plan, TCAM_WORDS(plan), &progress);
+    result = tcam_carry_out(TABLE, tcam_no_rule, TCAM_RECORD_WORDS(width), edition, plan, TCAM_WORDS(plan), &progress);
     CHECK(result == TCAM_FINISHED);
     OF_TABLE(tcam_carry_number(result), tcam_carry_spot(result), "");
 }

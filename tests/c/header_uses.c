@@ -6,7 +6,8 @@
 #include "tcam.h" /* a second time: nothing is declared twice */
 
 #if TCAM_WIDTH_128 != 2 || TCAM_WIDTH_320 != 5 || TCAM_MAX_SLOTS != 1024 || TCAM_PUT != 65535 || TCAM_EMPTY != 65534 || \
-    TCAM_WROTE != 0 || TCAM_FINISHED != 4294967295 || TCAM_SPOT_TEXT != 24
+    TCAM_WROTE != 0 || TCAM_FINISHED != 4294967295 || TCAM_SPOT_TEXT != 24 || TCAM_EDITION_10 != 10 || \
+    TCAM_EDITION_13 != 13 || TCAM_MAX_PRIORITY != 65535 || TCAM_EXACT_RANK != 65536
 #error "a constant of tcam.h, in a condition of the preprocessor"
 #endif
 
@@ -17,11 +18,14 @@ uint8_t every_image[TCAM_IMAGE_BYTES(TCAM_WIDTH_320, TCAM_MAX_SLOTS)];
 char every_text[TCAM_SPOT_TEXT];
 const uint64_t every_record[TCAM_RECORD_WORDS(TCAM_WIDTH_128)] = {0, 0, 0, 0, TCAM_ID_ACTION(1, 2), 3};
 size_t every_words = TCAM_WORDS(every_table) + TCAM_WORDS(every_plan);
-uint32_t every_number[] = {TCAM_PUT, TCAM_EMPTY, TCAM_FINISHED, TCAM_OK, TCAM_IMAGE};
+uint32_t every_number[] = {TCAM_PUT, TCAM_EMPTY, TCAM_FINISHED, TCAM_OK, TCAM_IMAGE, TCAM_ROOM};
+uint32_t every_edition[] = {TCAM_EDITION_10, TCAM_EDITION_13};
+uint64_t every_rank[] = {TCAM_MAX_PRIORITY, TCAM_EXACT_RANK};
 uint64_t every_result[] = {TCAM_WROTE, TCAM_FINISHED};
 
 size_t every_size(int rules, uint32_t slots, uint32_t width, int signed_width);
 uint64_t every_record_function(uint64_t *record, uint32_t width, const uint64_t *key, uint32_t index);
+uint32_t every_planning(uint32_t width, uint32_t *count, uint32_t *spot);
 uint64_t every_carrying_out(uint32_t width, tcam_progress *progress);
 int every_comparison(uint32_t number, uint64_t result, size_t words);
 int every_case(uint32_t word);
@@ -40,19 +44,25 @@ uint64_t every_record_function(uint64_t *record, uint32_t width, const uint64_t 
 {
     tcam_make_record(record, width, 1, 2, key, key, 3);
     return tcam_record_value(record, width, index) + tcam_record_mask(record, width, index) + tcam_record_id(record, width) +
-           tcam_record_action(record, width) + tcam_record_priority(record, width);
+           tcam_record_action(record, width) + tcam_record_priority(record, width) + tcam_record_rank(record, width);
+}
+
+uint32_t every_planning(uint32_t width, uint32_t *count, uint32_t *spot)
+{
+    return tcam_plan_insert(every_table, TCAM_WORDS(every_table), width, tcam_no_rule, TCAM_RECORD_WORDS(width), TCAM_EDITION_10,
+                            every_plan, TCAM_WORDS(every_plan), count, spot);
 }
 
 uint64_t every_carrying_out(uint32_t width, tcam_progress *progress)
 {
-    return tcam_carry_out(every_table, TCAM_WORDS(every_table), width, tcam_no_rule, TCAM_RECORD_WORDS(width), every_plan,
-                          TCAM_WORDS(every_plan), progress);
+    return tcam_carry_out(every_table, TCAM_WORDS(every_table), width, tcam_no_rule, TCAM_RECORD_WORDS(width), TCAM_EDITION_13,
+                          every_plan, TCAM_WORDS(every_plan), progress);
 }
 
 /* with a number, a result and a length, as callers do */
 int every_comparison(uint32_t number, uint64_t result, size_t words)
 {
-    return number == TCAM_OK || number < TCAM_IMAGE || tcam_write_from(number) == TCAM_PUT ||
+    return number == TCAM_OK || number < TCAM_IMAGE || number == TCAM_EDITION || tcam_write_from(number) == TCAM_PUT ||
            tcam_write_from(number) >= TCAM_EMPTY || result == TCAM_WROTE || result != TCAM_FINISHED ||
            TCAM_TABLE_SLOTS(TCAM_WIDTH_128, words) > TCAM_MAX_SLOTS || words == TCAM_WORDS(every_table);
 }
@@ -78,7 +88,7 @@ uint32_t every_number_function(uint32_t word, uint64_t result, uint32_t slot)
 
 const char *every_text_function(uint32_t number, uint64_t result)
 {
-    if (number > TCAM_IMAGE)
+    if (number > TCAM_ROOM)
         return tcam_cause_name(number);
     if (number > TCAM_LINE)
         return tcam_image_spot_text(number, TCAM_MAX_SLOTS, every_text);

@@ -44,7 +44,7 @@ static uint64_t ref_get(const uint8_t *at, int bytes)
     return number;
 }
 
-/* Bytes of a body: a word of a value and of a mask is 8 bytes each, priority and action 4 each. */
+/* Bytes of a body: a word of a value and of a mask is 8 bytes each, rank and action 4 each. */
 static uint32_t ref_body(void)
 {
     return 8 * width + 8 * width + 4 + 4;
@@ -68,7 +68,7 @@ static uint32_t ref_image(const uint64_t *table, uint32_t slots, uint8_t *image)
             const uint64_t *record = table + SLOTS(slot);
             for (uint32_t word = 0; word < 2 * width; word++)
                 at = ref_put(at, 8, record[word]);
-            at = ref_put(at, 4, priority_of(record));
+            at = ref_put(at, 4, rank_of(record));
             at = ref_put(at, 4, tag_of(record) % 4294967296u);
         }
     return (uint32_t)(at - image);
@@ -296,7 +296,7 @@ static const uint8_t *three_slots_image(void)
 #define TWO (width == 2 ? 104u : 200u)
 #define THREE (width == 2 ? 154u : 298u)
 
-/* Id 5 stands twice, in slots 0 and 2; and rule 6 in slot 1 has a higher priority than rule 5 before it. */
+/* Id 5 stands twice, in slots 0 and 2; and rule 6 in slot 1 has a higher rank than rule 5 before it. */
 static uint64_t twice_and_disordered[ROOM(3)];
 
 static void make_twice_and_disordered(void)
@@ -343,7 +343,7 @@ static void save_lengths(void)
     SAVE_CASE(empty, SLOTS(1), 0, REFUSED(TCAM_SHORT, 4));
 }
 
-/* 2: id 0, priority 65,536, a value bit outside the mask; the lowest slot. */
+/* 2: id 0, a rank without a rule, a value bit outside the mask; the lowest slot. */
 static void save_unsound(void)
 {
     uint64_t table[ROOM(3)];
@@ -428,7 +428,7 @@ static void changed_case(int line, struct told want, const struct change *change
 /* Where the parts of body k begin. */
 #define BODY(k) (24 + (width == 2 ? 40u : 88u) * (k))
 #define MASK(k) (BODY(k) + 8 * width)
-#define PRIORITY(k) (BODY(k) + 16 * width)
+#define RANK(k) (BODY(k) + 16 * width)
 
 /* SHAPE, whatever the image; then 14 at offsets 0 and 2: lengths, slots and the number of rules. */
 static void load_lengths(void)
@@ -467,25 +467,25 @@ static void load_contents(void)
     CHANGED(AT(18), {19, 3});
     CHANGED(AT(18), {19, 0});
     CHANGED(AT(18), {9, 2}, {19, 1});
-    CHANGED(AT(20), {23, 0x3F}, {PRIORITY(0) + 1, 1});
+    CHANGED(AT(20), {23, 0x3F}, {RANK(0) + 1, 1});
     CHANGED(AT(20), {23, width == 2 ? 0x70 : 0x40}); /* the offset that it would have at the other width */
 }
 
-/* Each body, at its start, for its value or its priority; then 3 and 4 of the table meant, where the spot is a slot. */
+/* Each body, at its start, for its value or its rank; then 3 and 4 of the table meant, where the spot is a slot. */
 static void load_bodies(void)
 {
     CHANGED(AT(BODY(0)), {BODY(0), 0x8A}, {MASK(0), 0x7F});
     CHANGED(AT(BODY(0)), {MASK(0) - 1, 4});
-    CHANGED(AT(BODY(0)), {PRIORITY(0) + 1, 1}, {PRIORITY(1), 1});
-    CHANGED(AT(BODY(1)), {PRIORITY(1), 1});
+    CHANGED(AT(BODY(0)), {RANK(0) + 1, 1}, {RANK(1), 1});
+    CHANGED(AT(BODY(1)), {RANK(1), 1});
     CHANGED(AT(BODY(1)), {BODY(1), 1});
     for (uint32_t byte = 0; byte < 8 * width; byte++) /* a bit of each byte, none of them cared for */
         CHANGED(AT(BODY(1)), {BODY(1) + byte, 0x40});
-    CHANGED(REFUSED(TCAM_ORDER, 2), {PRIORITY(1) + 2, 255}, {PRIORITY(1) + 3, 255}, {PRIORITY(1) - 8, 0});
+    CHANGED(REFUSED(TCAM_ORDER, 2), {RANK(1) + 2, 255}, {RANK(1) + 3, 255}, {RANK(1) - 8, 0});
     CHANGED(REFUSED(TCAM_TWICE, 2), {14, 1}, {15, 2}, {16, 3}, {17, 4});
-    CHANGED(REFUSED(TCAM_TWICE, 1), {14, 1}, {15, 2}, {16, 3}, {17, 4}, {19, 1}, {PRIORITY(1) + 2, 2});
-    CHANGED(REFUSED(TCAM_ORDER, 2), {PRIORITY(1) + 3, 0x2C});
-    CHANGED(REFUSED(TCAM_ORDER, 1), {19, 1}, {PRIORITY(1) + 3, 0x2C});
+    CHANGED(REFUSED(TCAM_TWICE, 1), {14, 1}, {15, 2}, {16, 3}, {17, 4}, {19, 1}, {RANK(1) + 2, 2});
+    CHANGED(REFUSED(TCAM_ORDER, 2), {RANK(1) + 3, 0x2C});
+    CHANGED(REFUSED(TCAM_ORDER, 1), {19, 1}, {RANK(1) + 3, 0x2C});
     CHANGED(LOADED, {19, 1});
 }
 
@@ -564,6 +564,63 @@ static void longest_image(void)
     call_load(wanted, bytes, rubbish(SLOTS(1025)), SLOTS(1025), 1, REFUSED(TCAM_SHAPE, 0), NULL);
 }
 
+/* ---- Written cases: ranks ---- */
+
+/* The table's image is loaded; where it is not refused it loads back to the table. And the table is saved, or refused with 2. */
+static void rank_case(int line, const uint64_t *table, struct told want)
+{
+    struct told saved = want.number != TCAM_IMAGE ? want : REFUSED(TCAM_RECORD, want.spot == BODY(0) ? 0 : 2);
+    save_case(line, table, SLOTS(3), TWO, want.number == TCAM_OK ? SAVED(TWO) : saved);
+    CHECK(ref_image(table, 3, image) == TWO);
+    load_case(line, TWO, SLOTS(3), want);
+    if (want.number == TCAM_OK)
+        CHECK(memcmp(scratch, table, SLOTS(3) * sizeof *table) == 0);
+}
+
+#define RANK_CASE(table, want) rank_case(__LINE__, table, want)
+
+/* Rank 65,536 where every bit of the width is cared for; with another mask, and any higher rank, the body is wrong at its start. */
+static void exact_ranks(uint32_t slot)
+{
+    uint64_t table[ROOM(3)] = {0}, *const record = table + SLOTS(slot), *const mask = record + width;
+    struct rule exact = rule_of(5, 65536, "", 1), other = rule_of(6, 65535, slot == 0 ? "" : "1", 2);
+    const uint32_t body = slot == 0 ? 0 : 1;
+    static const uint32_t wrong[] = {65537, 131072, 0x80010000u, UINT32_MAX};
+    for (uint32_t word = 0; word < width; word++)
+        exact.mask[word] = ALL;
+    set_record(record, &exact);
+    set_record(table + SLOTS(2 - slot), &other);
+    RANK_CASE(table, LOADED);
+    CHECK(memcmp(wanted + RANK(body), "\0\1\0\0", 4) == 0);
+    for (uint32_t bit = 0; bit < 64 * width; bit++) {
+        mask[bit / 64] ^= TOP >> bit % 64;
+        RANK_CASE(table, AT(BODY(body)));
+        mask[bit / 64] ^= TOP >> bit % 64;
+    }
+    for (size_t index = 0; index < COUNT_OF(wrong); index++) {
+        record[2 * width + 1] = wrong[index];
+        RANK_CASE(table, AT(BODY(body)));
+    }
+    record[2 * width + 1] = 7; /* as under 1.3; below the other rule it is out of order where it overlaps it */
+    RANK_CASE(table, slot == 0 ? REFUSED(TCAM_ORDER, 2) : LOADED);
+}
+
+static void rank_cases(void)
+{
+    uint64_t table[ROOM(3)] = {0};
+    exact_ranks(0);
+    exact_ranks(2);
+    for (uint32_t slot = 0; slot < 3; slot += 2) { /* two rules of rank 65,536 for one key */
+        struct rule exact = rule_of(5 + slot, 65536, "", 1);
+        for (uint32_t word = 0; word < width; word++)
+            exact.mask[word] = ALL;
+        set_record(table + SLOTS(slot), &exact);
+    }
+    RANK_CASE(table, REFUSED(TCAM_ORDER, 2));
+    table[width - 1] = 1;
+    RANK_CASE(table, LOADED);
+}
+
 static void width_cases(void)
 {
     images_of_other_width();
@@ -573,22 +630,25 @@ static void width_cases(void)
 
 /* ---- Made tables ---- */
 
-/* A sound table: of `rules` rules with priorities that fall from slot to slot, in slots at random. */
+/* A sound table: of `rules` rules with ranks that fall from slot to slot, in slots at random; the first may be one without
+ * wildcards that was given under 1.0. */
 static void make_table(uint64_t *table, uint32_t slots, uint32_t rules)
 {
-    uint32_t left = rules, priority = 65535;
+    uint32_t left = rules, rank = 65535;
+    int exact = below(2) == 0;
     memset(table, 0, SLOTS(slots) * sizeof *table);
     for (uint32_t slot = 0; slot < slots; slot++) {
         if (below(slots - slot) >= left)
             continue;
         uint64_t *record = table + SLOTS(slot);
         for (uint32_t word = 0; word < width; word++) {
-            record[width + word] = below(3) == 0 ? 0 : random_word() >> below(64);
+            record[width + word] = exact ? ALL : below(3) == 0 ? 0 : random_word() >> below(64);
             record[word] = random_word() & record[width + word];
         }
         record[2 * width] = TCAM_ID_ACTION(slot * 4194304 + 1 + below(4194304), random_word());
-        priority -= below(2) + (slot == 0 ? 0 : 1);
-        record[2 * width + 1] = priority;
+        rank -= below(2) + (slot == 0 ? 0 : 1);
+        record[2 * width + 1] = exact ? 65536 : rank;
+        exact = 0;
         left--;
     }
 }
@@ -670,7 +730,7 @@ static void made_tables(void)
 
 int main(int count, char **arguments)
 {
-    static void (*const cases[])(void) = {make_tables, save_cases, load_cases, width_cases, made_tables};
+    static void (*const cases[])(void) = {make_tables, save_cases, load_cases, width_cases, rank_cases, made_tables};
     tables = begin(count, arguments, 40) / 2;
     open_pages(&image_pages, MOST_BYTES + 4 * MARGIN + 200);
     run_cases(cases, COUNT_OF(cases));

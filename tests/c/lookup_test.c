@@ -216,15 +216,19 @@ static void put_any(uint32_t slot, uint32_t id, uint32_t action, uint64_t priori
 static void names(void)
 {
     static const char *const name[] = {"OK", "SHAPE", "RECORD", "TWICE", "ORDER", "RULE", "KNOWN", "UNKNOWN",
-                                       "TIE", "FULL", "CROSSED", "SHORT", "WRITE", "LINE", "IMAGE"};
+                                       "TIE", "FULL", "CROSSED", "SHORT", "WRITE", "LINE", "IMAGE", "UNCROSSED",
+                                       "PLAN", "DAMAGE", "EDITION", "OPEN", "SESSION", "ABSENT", "ROOM"};
     HERE;
-    for (uint32_t number = 0; number < 15; number++)
+    CHECK(COUNT_OF(name) == 23);
+    for (uint32_t number = 0; number < COUNT_OF(name); number++)
         CHECK(strcmp(tcam_cause_name(number), name[number]) == 0);
-    CHECK(strcmp(tcam_cause_name(15), "?") == 0);
+    CHECK(strcmp(tcam_cause_name(23), "?") == 0);
     CHECK(strcmp(tcam_cause_name(UINT32_MAX), "?") == 0);
     CHECK(TCAM_OK == 0 && TCAM_SHAPE == 1 && TCAM_RECORD == 2 && TCAM_TWICE == 3 && TCAM_ORDER == 4);
     CHECK(TCAM_RULE == 5 && TCAM_KNOWN == 6 && TCAM_UNKNOWN == 7 && TCAM_TIE == 8 && TCAM_FULL == 9);
     CHECK(TCAM_CROSSED == 10 && TCAM_SHORT == 11 && TCAM_WRITE == 12 && TCAM_LINE == 13 && TCAM_IMAGE == 14);
+    CHECK(TCAM_UNCROSSED == 15 && TCAM_PLAN == 16 && TCAM_DAMAGE == 17 && TCAM_EDITION == 18);
+    CHECK(TCAM_OPEN == 19 && TCAM_SESSION == 20 && TCAM_ABSENT == 21 && TCAM_ROOM == 22);
     CHECK(TCAM_ID_ACTION(1, 2) == 0x0000000100000002u);
     CHECK(TCAM_ID_ACTION(-1, 0) == 0xFFFFFFFF00000000u);
     CHECK(TCAM_ID_ACTION(0, -1) == 0x00000000FFFFFFFFu);
@@ -257,7 +261,7 @@ static void six_slots(void)
     if (record != NULL) {
         CHECK(tcam_record_id(record, width) == 6);
         CHECK(tcam_record_action(record, width) == 2);
-        CHECK(tcam_record_priority(record, width) == 40);
+        CHECK(tcam_record_rank(record, width) == 40);
     }
     CHECK(tcam_slot_words(table, words, width, 5) == NULL);
     CHECK(tcam_slot_words(table, words, width, 6) == NULL);
@@ -444,9 +448,9 @@ static void words_alone(void)
 }
 
 /* Id 0 in a rule that is otherwise sound. */
-static void ids_and_priorities(void)
+static void ids_and_ranks(void)
 {
-    static const uint64_t wrong_priority[] = {65536, 65537, 131072, 0x100000000u, 0x100000005u, TOP, ALL};
+    static const uint64_t wrong_rank[] = {65536, 65537, 131072, 0x100000000u, 0x100000005u, TOP, ALL};
     const struct pattern value = ends(0, 5), mask = ends(0, ALL);
     clear();
     put(0, value, mask, 0, 7, 9);
@@ -455,16 +459,71 @@ static void ids_and_priorities(void)
     put(0, value, mask, 1, 7, 9);
     LOOKUP(table, SLOTS(1), ends(0, 5), HIT(0, 1, 7));
 
-    /* priorities */
+    /* ranks */
     put(0, value, mask, 1, 7, 0);
     LOOKUP(table, SLOTS(1), ends(0, 5), HIT(0, 1, 7));
     put(0, value, mask, 1, 7, 65535);
     LOOKUP(table, SLOTS(1), ends(0, 5), HIT(0, 1, 7));
-    for (size_t index = 0; index < COUNT_OF(wrong_priority); index++) {
-        put(0, value, mask, 1, 7, wrong_priority[index]);
+    for (size_t index = 0; index < COUNT_OF(wrong_rank); index++) {
+        put(0, value, mask, 1, 7, wrong_rank[index]);
         LOOKUP(table, SLOTS(1), ends(0, 5), REFUSED(TCAM_RECORD, 0));
         LOOKUP(table, SLOTS(1), ends(0, 6), REFUSED(TCAM_RECORD, 0));
         HIDDEN(table, SLOTS(1), 0);
+    }
+}
+
+/* Rank 65,536 where every bit of the width is cared for. */
+static void exact_ranks(void)
+{
+    const struct pattern value = ends(5, 6);
+    clear();
+    put_any(1, 2, 8, 65535);
+    put(0, value, every(ALL), 1, 7, 65536);
+    LOOKUP(table, SLOTS(2), value, HIT(0, 1, 7));
+    LOOKUP(table, SLOTS(2), ends(5, 7), HIT(1, 2, 8));
+    SHOWN(table, SLOTS(2), 0);
+    HERE;
+    const uint64_t *record = tcam_slot_words(table, SLOTS(2), width, 0);
+    CHECK(record != NULL && tcam_record_rank(record, width) == TCAM_EXACT_RANK);
+
+    /* the lowest matching slot wins, whatever the ranks are; and id 0 and a value outside the mask are as unsound as ever */
+    put(0, every(0), every(0), 2, 8, 1);
+    put(1, value, every(ALL), 1, 7, 65536);
+    LOOKUP(table, SLOTS(2), value, HIT(0, 2, 8));
+    put(0, value, every(ALL), 0, 7, 65536);
+    LOOKUP(table, SLOTS(2), value, REFUSED(TCAM_RECORD, 0));
+    put(0, value, ends(ALL, 0), 1, 7, 65536);
+    LOOKUP(table, SLOTS(2), value, REFUSED(TCAM_RECORD, 0));
+}
+
+/* Not where one bit is not cared for, or only some words are; and no rank above it. */
+static void other_ranks(void)
+{
+    static const uint64_t wrong_rank[] = {65537, 131072, 0x100010000u, 0x200000000u, TOP, ALL};
+    const struct pattern value = ends(5, 6);
+    clear();
+    put_any(1, 2, 8, 65535);
+    for (uint32_t bit = 0; bit < 64 * width; bit++) {
+        struct pattern mask = all_but(ALL, bit / 64, TOP >> bit % 64);
+        put(0, every(0), mask, 1, 7, 65536);
+        LOOKUP(table, SLOTS(2), every(0), REFUSED(TCAM_RECORD, 0));
+        LOOKUP(table, SLOTS(2), value, REFUSED(TCAM_RECORD, 0));
+        HIDDEN(table, SLOTS(2), 0);
+        HIDDEN(table, SLOTS(2), 1);
+        put(0, every(0), mask, 1, 7, 65535);
+        LOOKUP(table, SLOTS(2), every(0), HIT(0, 1, 7));
+    }
+    for (uint32_t words = 0; words < width; words++) {
+        struct pattern mask = every(0);
+        for (uint32_t word = 0; word < words; word++)
+            mask.word[word] = ALL;
+        put(0, every(0), mask, 1, 7, 65536);
+        LOOKUP(table, SLOTS(2), every(0), REFUSED(TCAM_RECORD, 0));
+    }
+    for (size_t index = 0; index < COUNT_OF(wrong_rank); index++) {
+        put(0, value, every(ALL), 1, 7, wrong_rank[index]);
+        LOOKUP(table, SLOTS(2), value, REFUSED(TCAM_RECORD, 0));
+        HIDDEN(table, SLOTS(2), 1);
     }
 }
 
@@ -576,14 +635,14 @@ static void first_match(void)
 {
     const struct pattern top = ends(TOP, 0);
 
-    /* in order: the lower slot has the higher priority */
+    /* in order: the lower slot has the higher rank */
     clear();
     put(1, top, top, 21, 31, 200);
     put_any(3, 22, 32, 100);
     LOOKUP(table, SLOTS(4), top, HIT(1, 21, 31));
     LOOKUP(table, SLOTS(4), every(0), HIT(3, 22, 32));
 
-    /* out of order, by priority and by a tie: still the lowest slot */
+    /* out of order, by rank and by a tie: still the lowest slot */
     put(1, top, top, 21, 31, 50);
     LOOKUP(table, SLOTS(4), top, HIT(1, 21, 31));
     put(1, top, top, 21, 31, 100);
@@ -629,6 +688,9 @@ static void full_table(void)
     HIDDEN(table, SLOTS(1023), 1023);
 
     table[SLOTS(1024) - 1] = 65536;
+    LOOKUP(table, SLOTS(1024), ends(0, ALL), HIT(0, 1, 5000));
+    SHOWN(table, SLOTS(1024), 1023);
+    table[SLOTS(1024) - 1] = 65537;
     LOOKUP(table, SLOTS(1024), ends(0, ALL), REFUSED(TCAM_RECORD, 1023));
     HIDDEN(table, SLOTS(1024), 0);
     LOOKUP(table, SLOTS(1023), ends(0, ALL), HIT(0, 1, 5000));
@@ -692,7 +754,7 @@ static void record_parts(void)
         CHECK(tcam_record_mask(record, width, 0) == 3 && tcam_record_mask(record, width, width - 1) == 3);
         CHECK(tcam_record_id(record, width) == 4);
         CHECK(tcam_record_action(record, width) == 5);
-        CHECK(tcam_record_priority(record, width) == 6);
+        CHECK(tcam_record_rank(record, width) == 6);
     }
 }
 
@@ -746,6 +808,8 @@ static void random_rule(uint64_t *record, const uint64_t *own_key)
         record[word] = (own ? own_key[word] : random_word()) & record[width + word];
     record[2 * width] = TCAM_ID_ACTION(id == 0 ? 9 : id, random_number());
     record[2 * width + 1] = below(4) == 0 ? 65535 * below(2) : below(65536);
+    if (is_exact(record) && below(2) == 0)
+        record[2 * width + 1] = 65536;
 }
 
 static void random_words(uint64_t *words)
@@ -860,7 +924,7 @@ int main(int count, char **words)
 {
     static void (*const cases[])(void) = {
         names, six_slots, constant_tables, shapes, other_widths, other_keys, no_table, other_readings, shape_before_record,
-        words_alone, ids_and_priorities, values_outside_masks, lowest_bad_slot, match_all_or_one, one_bit, empty_slots,
+        words_alone, ids_and_ranks, exact_ranks, other_ranks, values_outside_masks, lowest_bad_slot, match_all_or_one, one_bit, empty_slots,
         first_match, first_of_two, full_table, slot_records, record_parts, random_tables,
     };
     tables = begin(count, words, 202000) / 2;

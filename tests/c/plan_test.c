@@ -1,7 +1,8 @@
 /*
  * Plans inserts and deletes as firmware would, at each width, carries the plans out, and checks every answer, every lent buffer
  * and every table on the way: first cases whose plans are written here, then all tables of a few slots and random ones.
- * Their plans come from a reference written from document 01, and their counts from a search of its comparison class.
+ * Their plans come from a reference written from document 01 and document 02's 2026-07, and their counts from a search of the
+ * comparison class.
  *
  *     plan_test [seed [tables]]
  */
@@ -21,10 +22,10 @@ static struct {
     int up, equal, choice_tie, hop_tie, on_dependant, around_dependant;
 } way;
 
-/* Whether the first of two rules precedes the second: they overlap and it has the higher priority. */
+/* Whether the first of two rules precedes the second: they overlap and it has the higher rank. */
 static int precedes(const uint64_t *a, const uint64_t *b)
 {
-    return priority_of(a) > priority_of(b) && !is_empty(a) && !is_empty(b) && overlap(a, b);
+    return rank_of(a) > rank_of(b) && !is_empty(a) && !is_empty(b) && overlap(a, b);
 }
 
 static uint32_t refuse(struct told *told, uint32_t number, uint32_t spot)
@@ -159,7 +160,7 @@ static void find_plan(const uint64_t *table, int slots, int a, int b, struct tol
     }
 }
 
-/* Checks 1 to 10 of an insert, and its plan. */
+/* Checks 1 to 10 of an insert, with 18 after 5, and its plan. */
 static void ref_insert(const uint64_t *table, size_t words, const struct rule *rule, struct told *told)
 {
     record_words record;
@@ -168,10 +169,15 @@ static void ref_insert(const uint64_t *table, size_t words, const struct rule *r
     if (ref_table(table, words, told) != 0)
         return;
     set_record(record, rule);
-    if (!is_sound(record)) {
+    if (!is_sound_given(record)) {
         refuse(told, 5, 0);
         return;
     }
+    if (edition != 10 && edition != 13) {
+        refuse(told, 18, 0);
+        return;
+    }
+    set_ranked(record, rule);
     for (uint32_t slot = 0; slot < slots; slot++)
         if (id_of(table + SLOTS(slot)) == rule->id) {
             refuse(told, 6, slot);
@@ -179,7 +185,7 @@ static void ref_insert(const uint64_t *table, size_t words, const struct rule *r
         }
     for (uint32_t slot = 0; slot < slots; slot++) {
         const uint64_t *held = table + SLOTS(slot);
-        if (!is_empty(held) && priority_of(held) == rule->priority && overlap(held, record)) {
+        if (!is_empty(held) && rank_of(held) == rank_of(record) && overlap(held, record)) {
             refuse(told, 8, slot);
             return;
         }
@@ -287,7 +293,7 @@ static uint32_t call_insert_of(const struct lent *lent, const struct rule *rule,
     struct lent lent_rule = lend_in(&rule_pages, given, rule_words, at_end);
     lend_plan(room, at_end);
     mark_cells(cells.now, cells.before, CELLS);
-    uint32_t number = tcam_plan_insert(lent->table, lent->words, width, lent_rule.table, rule_words, plan.words, room,
+    uint32_t number = tcam_plan_insert(lent->table, lent->words, width, lent_rule.table, rule_words, edition, plan.words, room,
                                        &cells.now[COUNT], &cells.now[SPOT]);
     check_left(lent, number, want);
     check_lent(&lent_rule);
@@ -357,23 +363,23 @@ static uint64_t first_reply(const uint64_t *table, uint32_t slots, const uint64_
     return 0;
 }
 
-/* The reply by highest priority, of the old rules and the new one. */
+/* The reply by highest rank, of the old rules and the new one. */
 static uint64_t best_reply(const uint64_t *table, uint32_t slots, const uint64_t *new_record, const uint64_t *key)
 {
     const uint64_t *best = matches(new_record, key) ? new_record : NULL;
     for (uint32_t slot = 0; slot < slots; slot++)
-        if (matches(table + SLOTS(slot), key) && (best == NULL || priority_of(table + SLOTS(slot)) > priority_of(best)))
+        if (matches(table + SLOTS(slot), key) && (best == NULL || rank_of(table + SLOTS(slot)) > rank_of(best)))
             best = table + SLOTS(slot);
     return best == NULL ? 0 : tag_of(best);
 }
 
-/* The rule of a slot against all others: the overlapping ones before it have strictly higher priorities, those after lower. */
+/* The rule of a slot against all others: the overlapping ones before it have strictly higher ranks, those after lower. */
 static int in_order_at(const uint64_t *table, uint32_t slots, uint32_t slot)
 {
     const uint64_t *rule = table + SLOTS(slot);
     for (uint32_t other = 0; other < slots && !is_empty(rule); other++) {
         const uint64_t *record = table + SLOTS(other);
-        if (other < slot ? priority_of(record) > priority_of(rule) : priority_of(record) < priority_of(rule))
+        if (other < slot ? rank_of(record) > rank_of(rule) : rank_of(record) < rank_of(rule))
             continue;
         if (id_of(record) != id_of(rule) && !is_empty(record) && overlap(record, rule))
             return 0;
@@ -431,7 +437,7 @@ static void carry_out_insert(const uint64_t *old, uint32_t slots, const struct r
     int toward_higher = 0, toward_lower = 0;
     record_words new_record;
     uint64_t old_reply[MOST_KEYS], new_reply[MOST_KEYS];
-    set_record(new_record, rule);
+    set_ranked(new_record, rule);
     memcpy(carried, old, SLOTS(slots) * sizeof *old);
     for (uint32_t key = 0; key < keys->count; key++) {
         old_reply[key] = first_reply(old, slots, keys->key[key]);
@@ -569,10 +575,10 @@ static uint32_t least_in_class(const uint64_t *table, uint32_t slots, const stru
     uint64_t records[ROOM(CLASS_SLOTS + 1)];
     int held[CLASS_SLOTS];
     memcpy(records, table, SLOTS(slots) * sizeof *table);
-    set_record(records + SLOTS(slots), rule);
+    set_ranked(records + SLOTS(slots), rule);
     for (uint32_t a = 0; a <= slots; a++)
         for (uint32_t b = 0; b <= slots; b++)
-            may[a][b] = priority_of(records + SLOTS(a)) > priority_of(records + SLOTS(b)) ||
+            may[a][b] = rank_of(records + SLOTS(a)) > rank_of(records + SLOTS(b)) ||
                         !overlap(records + SLOTS(a), records + SLOTS(b));
     for (uint32_t slot = 0; slot < slots; slot++)
         held[slot] = is_empty(table + SLOTS(slot)) ? NONE : (int)slot;
@@ -827,7 +833,8 @@ static void other_widths(void)
             uint32_t lent_plan[4] = {77, 78, 79, 80}, count = 81, spot = 82;
             HERE;
             for (size_t rule_words = 0; rule_words <= ROOM(1); rule_words++, spot = 82) {
-                CHECK(tcam_plan_insert(table, words, others[index], given, rule_words, lent_plan, 4, &count, &spot) == TCAM_SHAPE);
+                CHECK(tcam_plan_insert(table, words, others[index], given, rule_words, edition, lent_plan, 4, &count, &spot) ==
+                      TCAM_SHAPE);
                 CHECK(lent_plan[0] == 77 && lent_plan[1] == 78 && count == 81 && spot == 0);
             }
             CHECK(tcam_plan_delete(table, words, others[index], 1, lent_plan, 4, &count, &spot) == TCAM_SHAPE);
@@ -870,18 +877,18 @@ static void short_buffers(void)
     between_two();
     HERE;
     set_record(given, &rule);
-    CHECK(tcam_plan_insert(table, SLOTS(3), width, given, SLOTS(1), two_words, 1, &count, &spot) == TCAM_SHORT);
+    CHECK(tcam_plan_insert(table, SLOTS(3), width, given, SLOTS(1), edition, two_words, 1, &count, &spot) == TCAM_SHORT);
     CHECK(two_words[0] == 77 && two_words[1] == 78 && count == 79 && spot == 2);
 
     /* no buffer at all, no table and no rule */
-    CHECK(tcam_plan_insert(table, SLOTS(3), width, given, SLOTS(1), NULL, 0, &count, &spot) == TCAM_SHORT);
+    CHECK(tcam_plan_insert(table, SLOTS(3), width, given, SLOTS(1), edition, NULL, 0, &count, &spot) == TCAM_SHORT);
     CHECK(count == 79 && spot == 2);
     CHECK(tcam_plan_delete(table, SLOTS(3), width, 21, NULL, 0, &count, &spot) == TCAM_SHORT);
     CHECK(count == 79 && spot == 1);
-    CHECK(tcam_plan_insert(NULL, 0, width, given, SLOTS(1), two_words, 2, &count, &spot) == TCAM_SHAPE);
+    CHECK(tcam_plan_insert(NULL, 0, width, given, SLOTS(1), edition, two_words, 2, &count, &spot) == TCAM_SHAPE);
     CHECK(count == 79 && spot == 0);
     spot = 80;
-    CHECK(tcam_plan_insert(table, SLOTS(3), width, NULL, 0, two_words, 2, &count, &spot) == TCAM_SHAPE);
+    CHECK(tcam_plan_insert(table, SLOTS(3), width, NULL, 0, edition, two_words, 2, &count, &spot) == TCAM_SHAPE);
     CHECK(count == 79 && spot == 0);
     spot = 80;
     CHECK(tcam_plan_delete(NULL, 0, width, 21, two_words, 2, &count, &spot) == TCAM_SHAPE);
@@ -1047,13 +1054,14 @@ static void long_lengths(void)
     long_plan[0] = 0;
     set_record(given, &rule);
     CHECK(long_words % SLOTS(1) == 0);
-    CHECK(tcam_plan_insert(long_table, long_words, width, given, SLOTS(1), long_plan, 1, &count, &spot) == TCAM_SHAPE);
+    CHECK(tcam_plan_insert(long_table, long_words, width, given, SLOTS(1), edition, long_plan, 1, &count, &spot) == TCAM_SHAPE);
     CHECK(long_plan[0] == 0 && count == 77 && spot == 0);
     spot = 78;
     CHECK(tcam_plan_delete(long_table, long_words, width, 1, long_plan, 1, &count, &spot) == TCAM_SHAPE);
     CHECK(long_plan[0] == 0 && count == 77 && spot == 0);
     spot = 78;
-    CHECK(tcam_plan_insert(long_table, SLOTS(1), width, given, SLOTS(1), long_plan, COUNT_OF(long_plan), &count, &spot) == TCAM_OK);
+    CHECK(tcam_plan_insert(long_table, SLOTS(1), width, given, SLOTS(1), edition, long_plan, COUNT_OF(long_plan), &count, &spot) ==
+          TCAM_OK);
     CHECK(long_plan[0] == PUT(0) && long_plan[1] == 0 && count == 1 && spot == 78);
     count = 77;
     long_table[2 * width] = TCAM_ID_ACTION(1, 1);
@@ -1094,7 +1102,7 @@ static void ids_twice(void)
     KEPT(SLOTS(6), 5, TCAM_TWICE, 4);
 }
 
-/* 4: the lowest slot with an earlier overlapping rule of no higher priority. */
+/* 4: the lowest slot with an earlier overlapping rule of no higher rank. */
 static void disordered(void)
 {
     HOLD({0, 5, 20, "0", 1}, {2, 6, 20, "1", 1}, {3, 7, 20, "00", 1}, {5, 8, 21, "01", 1});
@@ -1163,7 +1171,10 @@ static void crossed(void)
 }
 
 /* Faults of a table and a rule, one bit each; for a delete KNOWN stands for an id that is absent. */
-enum { SHAPE = 1, RECORD = 2, TWICE = 4, ORDER = 8, RULE = 16, KNOWN = 32, TIE = 64, FULL = 128, CROSSED = 256, SHORT = 512 };
+enum {
+    SHAPE = 1, RECORD = 2, TWICE = 4, ORDER = 8, RULE = 16, EDITION = 32, KNOWN = 64, TIE = 128, FULL = 256, CROSSED = 512,
+    SHORT = 1024, SETS = 2048,
+};
 
 static size_t wrong_words(uint32_t variant)
 {
@@ -1194,14 +1205,15 @@ static struct rule faulty_rule(uint32_t set, uint32_t variant)
 
 static const struct {
     uint32_t fault, number, spot;
-} faults[] = {{SHAPE, 1, 0}, {RECORD, 2, 7}, {TWICE, 3, 4}, {ORDER, 4, 6}, {RULE, 5, 0},
-              {KNOWN, 6, 6}, {TIE, 8, 3},    {FULL, 9, 0},  {CROSSED, 10, 2}};
+} faults[] = {{SHAPE, 1, 0},    {RECORD, 2, 7}, {TWICE, 3, 4}, {ORDER, 4, 6}, {RULE, 5, 0},
+              {EDITION, 18, 0}, {KNOWN, 6, 6},  {TIE, 8, 3},   {FULL, 9, 0},  {CROSSED, 10, 2}};
 
 static void faulty_inserts(uint32_t set, size_t lowest)
 {
-    static const uint32_t writes[] = {COPY(2, 8), PUT(2)};
+    static const uint32_t writes[] = {COPY(2, 8), PUT(2)}, right[] = {13, 10, 13}, wrong[] = {0, 11, 99};
     for (uint32_t variant = 0; variant < 3; variant++) {
         struct rule rule = faulty_rule(set, variant);
+        edition = set & EDITION ? wrong[variant] : right[variant];
         size_t words = set & SHAPE ? wrong_words(variant) : SLOTS(9);
         HERE;
         if (lowest < COUNT_OF(faults))
@@ -1232,16 +1244,179 @@ static void faulty_delete(uint32_t set, size_t lowest)
     call_delete(&lent, id, set & SHORT ? 0 : 1 + set % 3, 1, &want);
 }
 
-/* Every set of faults at once: the one of the lowest number is named. */
+/* Every set of faults at once: the first in the order of checks is named. */
 static void fault_sets(void)
 {
-    for (uint32_t set = 0; set < 1024; set++) {
+    for (uint32_t set = 0; set < SETS; set++) {
         size_t lowest = 0;
         while (lowest < COUNT_OF(faults) && (set & faults[lowest].fault) == 0)
             lowest++;
         faulty_table(set);
         faulty_inserts(set, lowest);
         faulty_delete(set, lowest);
+    }
+}
+
+/* ---- Editions ---- */
+
+/* A rule without wildcards, for the key 0. */
+static struct rule for_key_zero(uint32_t id, uint64_t priority, uint32_t action)
+{
+    struct rule rule = rule_of(id, priority, "", action);
+    for (uint32_t word = 0; word < width; word++)
+        rule.mask[word] = ALL;
+    return rule;
+}
+
+/* The same with one bit that is not cared for. */
+static struct rule for_two_keys(uint32_t id, uint64_t priority, uint32_t bit, uint32_t action)
+{
+    struct rule rule = for_key_zero(id, priority, action);
+    rule.mask[bit / 64] ^= TOP >> bit % 64;
+    return rule;
+}
+
+/* Under 1.0 a rule without wildcards stands above one of the highest priority; under 1.3 below it. */
+static void either_edition(void)
+{
+    edition = TCAM_EDITION_10;
+    clear();
+    INSERTED(3, for_key_zero(1, 7, 1), PUT(0));
+    INSERTED(3, rule_of(2, 65535, "", 2), PUT(1));
+    CHECK(rank_of(table) == 65536 && rank_of(table + SLOTS(1)) == 65535);
+    look_up(__LINE__, 3, 0, 0, 0, 1, 1);
+    look_up(__LINE__, 3, 0, 1, 1, 2, 2);
+
+    edition = TCAM_EDITION_13;
+    clear();
+    INSERTED(3, for_key_zero(1, 7, 1), PUT(0));
+    INSERTED(3, rule_of(2, 65535, "", 2), COPY(0, 1), PUT(0));
+    CHECK(rank_of(table) == 65535 && rank_of(table + SLOTS(1)) == 7);
+    look_up(__LINE__, 3, 0, 0, 0, 2, 2);
+    look_up(__LINE__, 3, 0, 1, 0, 2, 2);
+
+    /* in the other order */
+    edition = TCAM_EDITION_10;
+    HOLD({0, 2, 65535, "", 2});
+    PLANNED(3, for_key_zero(1, 7, 1), COPY(0, 1), PUT(0));
+    PLANNED(3, for_key_zero(1, 65535, 1), COPY(0, 1), PUT(0));
+    edition = TCAM_EDITION_13;
+    PLANNED(3, for_key_zero(1, 7, 1), PUT(1));
+    REFUSED(SLOTS(3), for_key_zero(1, 65535, 1), TCAM_TIE, 0);
+}
+
+/* Ranks tie, and not priorities. */
+static void tied_ranks(void)
+{
+    clear();
+    put(0, for_key_zero(1, 65536, 1));
+    edition = TCAM_EDITION_10;
+    REFUSED(SLOTS(3), for_key_zero(3, 500, 1), TCAM_TIE, 0);
+    PLANNED(3, for_two_keys(3, 65535, 0, 1), PUT(1));
+    edition = TCAM_EDITION_13;
+    PLANNED(3, for_key_zero(3, 7, 1), PUT(1));
+    PLANNED(3, for_key_zero(3, 65535, 1), PUT(1));
+
+    put(0, for_key_zero(1, 7, 1));
+    REFUSED(SLOTS(3), for_key_zero(3, 7, 1), TCAM_TIE, 0);
+    edition = TCAM_EDITION_10;
+    INSERTED(3, for_key_zero(3, 7, 1), COPY(0, 1), PUT(0));
+    REFUSED(SLOTS(3), for_two_keys(4, 7, 0, 1), TCAM_TIE, 1);
+}
+
+/* Every bit of the width counts: with one of them not cared for, or with some of the words alone, the rank is the priority. */
+static void masks_not_full(void)
+{
+    edition = TCAM_EDITION_10;
+    HOLD({0, 2, 8, "", 2});
+    for (uint32_t bit = 0; bit < 64 * width; bit++)
+        PLANNED(3, for_two_keys(1, 7, bit, 1), PUT(1));
+    for (uint32_t words = 0; words < width; words++) {
+        struct rule rule = rule_of(1, 7, "", 1);
+        for (uint32_t word = 0; word < words; word++)
+            rule.mask[word] = ALL;
+        PLANNED(3, rule, PUT(1));
+    }
+    PLANNED(3, for_key_zero(1, 7, 1), COPY(0, 1), PUT(0));
+    struct rule all_ones = for_key_zero(1, 7, 1);
+    memcpy(all_ones.value, all_ones.mask, sizeof all_ones.value);
+    PLANNED(3, all_ones, COPY(0, 1), PUT(0));
+}
+
+/* 2: rank 65,536 is sound where every bit of the width is cared for, and no higher rank ever is. */
+static void ranks_of_records(void)
+{
+    static const uint64_t wrong[] = {65537, 131072, 0x100010000u, 0x100000007u, TOP, ALL};
+    clear();
+    put(0, for_key_zero(1, 65536, 1));
+    PLANNED(3, rule_of(2, 65535, "", 2), PUT(1));
+    DELETED(3, 1, 0);
+    for (uint32_t bit = 0; bit < 64 * width; bit++) {
+        put(0, for_two_keys(1, 65536, bit, 1));
+        REFUSED(SLOTS(3), FINE, TCAM_RECORD, 0);
+        KEPT(SLOTS(3), 1, TCAM_RECORD, 0);
+        put(0, for_two_keys(1, 65535, bit, 1));
+        PLANNED(3, rule_of(2, 65534, "", 2), PUT(1));
+    }
+    for (size_t index = 0; index < COUNT_OF(wrong); index++) {
+        put(0, for_key_zero(1, wrong[index], 1));
+        REFUSED(SLOTS(3), FINE, TCAM_RECORD, 0);
+        KEPT(SLOTS(3), 1, TCAM_RECORD, 0);
+    }
+    for (int position = 0; position < 2; position++) { /* 4: the earlier of two overlapping rules has no higher rank */
+        clear();
+        put(1, position == 0 ? rule_of(2, 65535, "", 2) : for_key_zero(2, 65536, 2));
+        put(2, for_key_zero(1, 65536, 1));
+        REFUSED(SLOTS(3), FINE, TCAM_ORDER, 2);
+        KEPT(SLOTS(3), 1, TCAM_ORDER, 2);
+    }
+}
+
+/* 18 for every other edition, after 5 and before 6; a delete takes no edition. */
+static void other_editions(void)
+{
+    static const uint32_t others[] = {0, 1, 9, 11, 12, 14, 99, 65546, 65549, 0x8000000Au, 0x8000000Du, UINT32_MAX};
+    for (size_t index = 0; index < COUNT_OF(others); index++) {
+        edition = others[index];
+        four_rules();
+        REFUSED(SLOTS(6), FINE, TCAM_EDITION, 0);
+        REFUSED(SLOTS(6), for_key_zero(99, 7, 1), TCAM_EDITION, 0);
+        REFUSED(SLOTS(6), rule_of(6, 7, "0000", 1), TCAM_EDITION, 0);  /* a known id */
+        REFUSED(SLOTS(6), rule_of(99, 20, "", 1), TCAM_EDITION, 0);    /* a tie */
+        REFUSED(SLOTS(6), rule_of(99, 65536, "1", 1), TCAM_RULE, 0);
+        REFUSED(SLOTS(6), for_key_zero(99, 65536, 1), TCAM_RULE, 0);
+        REFUSED(SLOTS(6), rule_of(0, 7, "1", 1), TCAM_RULE, 0);
+        REFUSED(SLOTS(6), last_bit(99, 7, 3, 1), TCAM_RULE, 0);        /* a value outside the mask */
+        REFUSED(SLOTS(6) - 1, FINE, TCAM_SHAPE, 0);
+        put(1, rule_of(5, 7, "1", 1));
+        REFUSED(SLOTS(6), FINE, TCAM_TWICE, 1);
+        put(1, rule_of(9, 65536, "1", 1));
+        REFUSED(SLOTS(6), FINE, TCAM_RECORD, 1);
+    }
+}
+
+/* 65,536 is a rank and no priority: a rule is not given with it, and a slot's record that holds it is not given again. */
+static void priorities_given(void)
+{
+    static const uint64_t wrong[] = {65536, 65537, 0x100000007u, 0x100010000u, TOP, ALL};
+    for (size_t index = 0; index < COUNT_OF(editions); index++) {
+        uint32_t words[3] = {77, 78, 79}, count = 80, spot = 81;
+        record_words again;
+        edition = editions[index];
+        clear();
+        for (size_t priority = 0; priority < COUNT_OF(wrong); priority++)
+            REFUSED(SLOTS(3), for_key_zero(1, wrong[priority], 1), TCAM_RULE, 0);
+        PLANNED(3, for_key_zero(1, 65535, 1), PUT(0));
+
+        HERE;
+        put(0, for_key_zero(1, 65536, 1));
+        memcpy(again, table, SLOTS(1) * sizeof *table);
+        for (int taken_out = 0; taken_out < 2; taken_out++) {
+            CHECK(tcam_plan_insert(table, SLOTS(3), width, again, SLOTS(1), edition, words, 3, &count, &spot) == TCAM_RULE);
+            CHECK(words[0] == 77 && words[1] == 78 && words[2] == 79 && count == 80 && spot == 0);
+            clear();
+            spot = 81;
+        }
     }
 }
 
@@ -1347,15 +1522,26 @@ static void long_tables_of_few_rules(void)
 /* ---- Made tables ---- */
 
 /* How often each kind of answer came: the random tables must reach them all. */
+#define CAUSES (TCAM_ROOM + 1)
 static struct {
-    unsigned long refused[15], planned, of_count[TCAM_MAX_SLOTS + 1], whole, up, equal, choice_tie, hop_tie, on_dependant,
-        around_dependant, searched, deleted, not_deleted[15];
+    unsigned long refused[CAUSES], planned, of_count[TCAM_MAX_SLOTS + 1], whole, up, equal, choice_tie, hop_tie, on_dependant,
+        around_dependant, raised, below_raised, searched, deleted, not_deleted[CAUSES];
 } seen;
 
-static void count_insert(uint32_t slots, const struct told *told)
+/* Rank 65,536 in a table, and of a rule that is put in. */
+static int has_exact_rank(const uint64_t *records, uint32_t count)
 {
+    for (uint32_t index = 0; index < count; index++)
+        if (rank_of(records + SLOTS(index)) == 65536)
+            return 1;
+    return 0;
+}
+
+static void count_insert(const uint64_t *held, uint32_t slots, const struct rule *rule, const struct told *told)
+{
+    record_words record;
     if (told->number != TCAM_OK) {
-        seen.refused[told->number < 15 ? told->number : 0]++;
+        seen.refused[told->number < CAUSES ? told->number : 0]++;
         return;
     }
     seen.planned++;
@@ -1367,14 +1553,17 @@ static void count_insert(uint32_t slots, const struct told *told)
     seen.hop_tie += way.hop_tie != 0;
     seen.on_dependant += way.on_dependant != 0;
     seen.around_dependant += way.around_dependant != 0;
+    set_ranked(record, rule);
+    seen.raised += has_exact_rank(record, 1);
+    seen.below_raised += has_exact_rank(held, slots) && !has_exact_rank(record, 1);
 }
 
 /* An insert on a made table: each length of buffer that matters, carried out, and searched where the table is small. */
 static void made_insert(const struct lent *lent, uint32_t slots, const struct rule *rule, const struct keys *keys)
 {
     ref_insert(lent->original, lent->words, rule, &ref);
-    count_insert(slots, &ref);
-    CHECK(ref.number < 15);
+    count_insert(lent->original, slots, rule, &ref);
+    CHECK(ref.number < CAUSES);
     if (ref.number != TCAM_OK) {
         call_insert(lent, rule, below(slots + 2), (int)below(2), &ref);
         if (ref.number == TCAM_FULL && slots <= CLASS_SLOTS)
@@ -1504,7 +1693,8 @@ static void all_tables(void)
     CHECK(seen.refused[TCAM_FULL] > turn / 4);
 }
 
-/* The first bits, the last, those at the border of the last word, some in all words, or any. */
+/* The first bits, the last, those at the border of the last word, some in all words, or any. In a third of the spaces all other
+ * bits are cared for, so that a rule that cares for its bits too is without wildcards. */
 static void random_space(struct space *space)
 {
     const uint32_t bits = 64 * width, last = bits - 64;
@@ -1513,12 +1703,13 @@ static void random_space(struct space *space)
                                    {last - 2, last - 1, last, last + 1},
                                    {5, bits - 58, 40, bits - 27}};
     uint32_t choice = below(5);
+    int others_cared_for = below(3) == 0;
     space->bits = 2 + below(3);
     for (uint32_t bit = 0; bit < 4; bit++)
         space->place[bit] = choice < 4 ? places[choice][bit] : bit * (bits / 4) + below(bits / 4);
     for (uint32_t word = 0; word < MOST_WIDTH; word++)
-        space->mask[word] = below(2) == 0 ? 0 : below(2) == 0 ? ALL : random_word();
-    for (uint32_t bit = 0; bit < 4; bit++)
+        space->mask[word] = others_cared_for ? ALL : below(2) == 0 ? 0 : below(2) == 0 ? ALL : random_word();
+    for (uint32_t bit = 0; bit < (others_cared_for ? space->bits : 4); bit++)
         space->mask[space->place[bit] / 64] &= ~(TOP >> space->place[bit] % 64);
     for (uint32_t word = 0; word < MOST_WIDTH; word++)
         space->value[word] = random_word() & space->mask[word];
@@ -1562,6 +1753,15 @@ static void make_rule(const struct space *space, uint32_t index, uint32_t stars,
     made[index].placed = 0;
 }
 
+/* A rule without wildcards, which may be in the table by either edition. */
+static void may_raise(struct rule *rule)
+{
+    record_words record;
+    set_record(record, rule);
+    if (is_exact(record) && below(2) == 0)
+        rule->priority = 65536;
+}
+
 /* Rules that do not tie with each other; returns how many were found. */
 static uint32_t make_rules(const struct space *space, uint32_t wanted_rules, uint32_t stars, uint32_t priorities)
 {
@@ -1570,6 +1770,7 @@ static uint32_t make_rules(const struct space *space, uint32_t wanted_rules, uin
         for (uint32_t attempt = 0; attempt < 8 && ties; attempt++) {
             ties = 0;
             make_rule(space, index, stars, priorities);
+            may_raise(&made[index].rule);
             for (uint32_t other = 0; other < index; other++)
                 ties |= made[other].rule.priority == made[index].rule.priority && made_overlap(space, other, index);
         }
@@ -1616,7 +1817,7 @@ static uint32_t make_table(const struct space *space, uint32_t slots, uint32_t *
     made[rules].rule.id = made_id(*id_kind, rules);
     if (rules > 0 && below(2) == 0) { /* a priority next to that of some rule */
         uint64_t near = made[below(rules)].rule.priority;
-        made[rules].rule.priority = near == 65535 || (near > 0 && below(2) == 0) ? near - 1 : near + 1;
+        made[rules].rule.priority = near >= 65535 || (near > 0 && below(2) == 0) ? near - 1 : near + 1;
     }
     return rules;
 }
@@ -1630,7 +1831,7 @@ static void swap_slots(uint32_t a, uint32_t b)
     }
 }
 
-/* Damage to the table, the new rule or both; returns the length lent. */
+/* Damage to the table, the new rule, its edition or several of them; returns the length lent. */
 static size_t damage(uint32_t slots, struct rule *rule)
 {
     size_t words = SLOTS(slots);
@@ -1652,6 +1853,8 @@ static size_t damage(uint32_t slots, struct rule *rule)
         rule->priority += (uint64_t)65536 << below(48);
     if (below(32) == 0)
         rule->value[below(width)] |= (uint64_t)1 << below(64);
+    if (below(32) == 0)
+        edition = below(2) == 0 ? below(20) : (uint32_t)random_word();
     return words;
 }
 
@@ -1663,6 +1866,7 @@ static void random_table(uint32_t slots)
     random_space(&space);
     uint32_t rules = make_table(&space, slots, &id_kind);
     struct rule rule = made[rules].rule;
+    edition = editions[below(2)];
     space_keys(&keys, &space);
     size_t words = below(2) == 0 ? SLOTS(slots) : damage(slots, &rule);
     struct lent lent = lend(table, words, (int)below(2));
@@ -1672,11 +1876,11 @@ static void random_table(uint32_t slots)
 }
 
 /* Of the random tables, more than one in so many is refused with each number that stands here. */
-static const unsigned long insert_refusals[15] = {
-    [TCAM_SHAPE] = 200, [TCAM_RECORD] = 200, [TCAM_TWICE] = 200, [TCAM_ORDER] = 200, [TCAM_RULE] = 100,
+static const unsigned long insert_refusals[CAUSES] = {
+    [TCAM_SHAPE] = 200, [TCAM_RECORD] = 200, [TCAM_TWICE] = 200, [TCAM_ORDER] = 200, [TCAM_RULE] = 100, [TCAM_EDITION] = 200,
     [TCAM_KNOWN] = 200, [TCAM_TIE] = 100, [TCAM_FULL] = 50, [TCAM_CROSSED] = 100, [TCAM_SHORT] = 10,
 };
-static const unsigned long delete_refusals[15] = {
+static const unsigned long delete_refusals[CAUSES] = {
     [TCAM_SHAPE] = 200, [TCAM_RECORD] = 200, [TCAM_TWICE] = 200, [TCAM_ORDER] = 200, [TCAM_RULE] = 20, [TCAM_UNKNOWN] = 20,
 };
 
@@ -1684,7 +1888,7 @@ static void check_refusals(const unsigned long *refused, const unsigned long *on
 {
     case_line = 0;
     made_how = "refusal";
-    for (turn = 0; turn < 15; turn++)
+    for (turn = 0; turn < CAUSES; turn++)
         if (one_in[turn] != 0)
             CHECK(refused[turn] > tables / one_in[turn]);
 }
@@ -1705,6 +1909,8 @@ static void check_plans(unsigned long tables)
     CHECK(seen.hop_tie > tables / 20);
     CHECK(seen.on_dependant > tables / 20);
     CHECK(seen.around_dependant > tables / 100);
+    CHECK(seen.raised > tables / 100);
+    CHECK(seen.below_raised > tables / 100);
     CHECK(seen.searched > tables / 5);
     CHECK(seen.deleted > tables / 4);
 }
@@ -1742,6 +1948,7 @@ int main(int count, char **words)
         names, script, last_word_decides, other_rules, other_widths, edge_tables, short_buffers, absent_ids,
         priorities_at_ends, mask_zero, choices, displaced_rules, rules_apart, rules_apart_in_words, wrong_lengths,
         long_lengths, unsound_records, ids_twice, disordered, unsound_rules, known_and_tied, crossed, fault_sets,
+        either_edition, tied_ranks, masks_not_full, ranks_of_records, other_editions, priorities_given,
         long_chains, long_tables_apart, long_tables_of_few_rules, all_tables, random_tables, longer_tables,
     };
     tables_made = begin(count, words, 102000) / 2;

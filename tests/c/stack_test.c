@@ -25,8 +25,8 @@ static const struct limits {
     size_t write;       /* for each word of the plan */
     size_t save, load;
 } limits[] = {
-    {TCAM_WIDTH_128, 288, 128, 24640, 304, 30848, 10752, 96, 24704, 74112},
-    {TCAM_WIDTH_320, 288, 128, 24640, 304, 30848, 10752, 96, 24704, 123264},
+    {TCAM_WIDTH_128, 288, 128, 24640, 304, 30976, 10752, 96, 24704, 74112},
+    {TCAM_WIDTH_320, 288, 128, 24640, 304, 30976, 10752, 96, 24704, 123264},
 };
 static const struct limits *limit;
 
@@ -50,6 +50,8 @@ static uint8_t image[TCAM_IMAGE_BYTES(TCAM_WIDTH_320, SLOTS)];
 static const uint64_t key[TCAM_WIDTH_320] = {1, 2, 3, 4, 5};
 static size_t words, rule_words, room;
 static uint32_t width;
+
+static const uint32_t edition = TCAM_EDITION_10; /* under which a rule's mask is looked at for its rank */
 
 static tcam_progress progress;
 
@@ -76,7 +78,7 @@ ON_OWN_STACK run_slot_record(void)
 ON_OWN_STACK run_plan_insert(void)
 {
     top = __builtin_frame_address(0);
-    result = tcam_plan_insert(table, words, width, rule, rule_words, plan, room, &count, &spot);
+    result = tcam_plan_insert(table, words, width, rule, rule_words, edition, plan, room, &count, &spot);
 }
 
 ON_OWN_STACK run_plan_delete(void)
@@ -88,7 +90,7 @@ ON_OWN_STACK run_plan_delete(void)
 ON_OWN_STACK run_carry_out(void)
 {
     top = __builtin_frame_address(0);
-    carried = tcam_carry_out(table, words, width, rule, rule_words, plan, room, &progress);
+    carried = tcam_carry_out(table, words, width, rule, rule_words, edition, plan, room, &progress);
 }
 
 ON_OWN_STACK run_save(void)

@@ -1,7 +1,7 @@
 /*
- * What the test programs over the library share: the width under test, counted checks, rules and records, checks 1 to 4, random
- * numbers, and lent tables, rules, keys and cells between guards. A program defines _DEFAULT_SOURCE before it includes this, for
- * mmap without a file.
+ * What the test programs over the library share: the width under test and the edition, counted checks, rules and records, checks 1
+ * to 4, random numbers, and lent tables, rules, keys and cells between guards. A program defines _DEFAULT_SOURCE before it includes
+ * this, for mmap without a file.
  */
 #ifndef TESTING_H
 #define TESTING_H
@@ -18,10 +18,14 @@
 #define TOP 0x8000000000000000u
 #define COUNT_OF(array) (sizeof(array) / sizeof *(array))
 
-/* ---- The width under test ---- */
+/* ---- The width under test, and the edition ---- */
 
 static const uint32_t widths[] = {TCAM_WIDTH_128, TCAM_WIDTH_320};
 static uint32_t width = TCAM_WIDTH_128;
+
+/* The edition that rules are given under: 1.3 but where a case says otherwise. */
+static const uint32_t editions[] = {TCAM_EDITION_10, TCAM_EDITION_13};
+static uint32_t edition = TCAM_EDITION_13;
 
 /* Words of a table of so many slots at this width, which are also where slot n begins; and room for it at either width. */
 #define SLOTS(n) ((size_t)(n) * (2 * width + 2))
@@ -55,9 +59,9 @@ static inline void check(int holds, const char *expression, const char *file, in
         return;
     fprintf(stderr, "%s:%d: failed: %s", file, line, expression);
     if (case_line != 0)
-        fprintf(stderr, " (case at line %d, width %u)\n", case_line, (unsigned)width);
+        fprintf(stderr, " (case at line %d, width %u, edition %u)\n", case_line, (unsigned)width, (unsigned)edition);
     else
-        fprintf(stderr, " (%s %lu, width %u, seed %llu)\n", made_how, turn, (unsigned)width, seed);
+        fprintf(stderr, " (%s %lu, width %u, edition %u, seed %llu)\n", made_how, turn, (unsigned)width, (unsigned)edition, seed);
 }
 
 #define CHECK(expression) check((expression) ? 1 : 0, #expression, __FILE__, __LINE__)
@@ -119,7 +123,8 @@ static inline uint32_t id_of(const uint64_t *record)
     return (uint32_t)(tag_of(record) / 4294967296u);
 }
 
-static inline uint64_t priority_of(const uint64_t *record)
+/* The last word: the rank of a rule in a slot, the priority of one that is given. */
+static inline uint64_t rank_of(const uint64_t *record)
 {
     return record[2 * width + 1];
 }
@@ -132,10 +137,17 @@ static inline int is_empty(const uint64_t *record)
     return 1;
 }
 
-static inline int is_sound(const uint64_t *record)
+/* Every bit of the width is cared for. */
+static inline int is_exact(const uint64_t *record)
 {
-    if (id_of(record) == 0 || priority_of(record) > 65535)
-        return 0;
+    for (uint32_t word = 0; word < width; word++)
+        if (record[width + word] != ALL)
+            return 0;
+    return 1;
+}
+
+static inline int is_within_mask(const uint64_t *record)
+{
     for (uint32_t word = 0; word < width; word++) {
         uint64_t value = record[word], mask = record[width + word];
         for (; value != 0; value /= 2, mask /= 2)
@@ -143,6 +155,26 @@ static inline int is_sound(const uint64_t *record)
                 return 0;
     }
     return 1;
+}
+
+/* A rule as a call is given it: its priority is at most 65,535, whatever its mask. */
+static inline int is_sound_given(const uint64_t *record)
+{
+    return id_of(record) != 0 && rank_of(record) <= 65535 && is_within_mask(record);
+}
+
+/* A slot's record: where every bit is cared for its rank may be 65,536 too. */
+static inline int is_sound(const uint64_t *record)
+{
+    return id_of(record) != 0 && rank_of(record) <= (is_exact(record) ? 65536 : 65535) && is_within_mask(record);
+}
+
+/* The record that a rule is put in as: with the rank that the edition gives it. */
+static inline void set_ranked(uint64_t *record, const struct rule *rule)
+{
+    set_record(record, rule);
+    if (edition == 10 && is_exact(record))
+        record[2 * width + 1] = 65536;
 }
 
 /* Bit by bit, until one of the masks has no bits left: no position is cared for by both with different values. */
@@ -201,14 +233,14 @@ static inline uint32_t first_twice(const uint64_t *table, uint32_t slots)
     return slots;
 }
 
-/* The lowest slot with an earlier overlapping rule of no higher priority. */
+/* The lowest slot with an earlier overlapping rule of no higher rank. */
 static inline uint32_t first_out_of_order(const uint64_t *table, uint32_t slots)
 {
     for (uint32_t slot = 0; slot < slots; slot++) {
         const uint64_t *rule = table + SLOTS(slot);
         for (uint32_t earlier = 0; earlier < slot && !is_empty(rule); earlier++) {
             const uint64_t *other = table + SLOTS(earlier);
-            if (priority_of(other) <= priority_of(rule) && !is_empty(other) && overlap(other, rule))
+            if (rank_of(other) <= rank_of(rule) && !is_empty(other) && overlap(other, rule))
                 return slot;
         }
     }
@@ -379,8 +411,10 @@ static inline void run_cases(void (*const *cases)(void), size_t count)
 {
     for (size_t at = 0; at < COUNT_OF(widths); at++) {
         width = widths[at];
-        for (size_t index = 0; index < count; index++)
+        for (size_t index = 0; index < count; index++) {
+            edition = TCAM_EDITION_13;
             cases[index]();
+        }
     }
 }
 

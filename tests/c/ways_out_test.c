@@ -1,9 +1,9 @@
 /*
- * What README.md says of crossed inserts and of plans dropped half-way, on small random tables of each width. The way out of a
- * crossed insert always works, by the rules that depend on the new one and by those that precede it. Rules that are put in by
- * falling or by rising priority are never crossed, by falling priority with one write each. Where a plan was dropped, every key
- * has its old reply, one rule stands twice, the slot that TCAM_TWICE names can be emptied without another reply, and the insert
- * is planned anew.
+ * What README.md says of crossed inserts and of plans dropped half-way, on small random tables of each width, with rules of both
+ * editions. The way out of a crossed insert always works, by the rules that depend on the new one and by those that precede it.
+ * Rules that are put in by falling or by rising rank are never crossed, by falling rank with one write each. Where a plan was
+ * dropped, every key has its old reply, one rule stands twice, the slot that TCAM_TWICE names can be emptied without another
+ * reply, and the insert is planned anew.
  *
  *     ways_out_test [seed [tables]]
  */
@@ -17,13 +17,31 @@
 
 static uint32_t used_word; /* the word of the table's rules and keys that is used */
 
+/* A rule as it stands in a slot. One of eight is without wildcards, and half of these came under 1.0. */
 static void random_rule(uint64_t *record, uint32_t id)
 {
     uint64_t mask = (uint64_t)below(KEYS) << 61, value = (uint64_t)below(KEYS) << 61;
     struct rule rule = {id, below(12), {0}, {0}, id + 100};
+    int exact = below(8) == 0;
+    if (exact)
+        mask = ALL;
+    for (uint32_t word = 0; word < width; word++)
+        rule.mask[word] = exact ? ALL : 0;
     rule.value[used_word] = value & mask;
     rule.mask[used_word] = mask;
+    if (exact && below(2) == 0)
+        rule.priority = TCAM_EXACT_RANK;
     set_record(record, &rule);
+}
+
+/* The rule of a slot as it is given again, to get the rank that it had: under 1.3 with its rank for a priority, or under 1.0. */
+static uint32_t give(uint64_t *given, const uint64_t *record)
+{
+    memcpy(given, record, SLOTS(1) * sizeof *given);
+    if (rank_of(record) <= TCAM_MAX_PRIORITY)
+        return TCAM_EDITION_13;
+    given[2 * width + 1] = 5;
+    return TCAM_EDITION_10;
 }
 
 /* The ids that the keys are answered with. */
@@ -44,7 +62,7 @@ static int replies_are(const uint64_t *table, size_t words, const uint32_t *ids)
     return memcmp(now, ids, sizeof now) == 0;
 }
 
-/* The ids by the rules alone: the highest-priority match, or 0. */
+/* The ids by the rules alone: the highest-ranked match, or 0. */
 static void replies_of(record_words *rules, size_t count, uint32_t *ids)
 {
     for (uint64_t number = 0; number < KEYS; number++) {
@@ -52,7 +70,7 @@ static void replies_of(record_words *rules, size_t count, uint32_t *ids)
         pattern_words key = {0};
         key[used_word] = number << 61;
         for (size_t index = 0; index < count; index++)
-            if (matches(rules[index], key) && (best == NULL || priority_of(rules[index]) > priority_of(best)))
+            if (matches(rules[index], key) && (best == NULL || rank_of(rules[index]) > rank_of(best)))
                 best = rules[index];
         ids[number] = best == NULL ? 0 : id_of(best);
     }
@@ -62,16 +80,27 @@ static void replies_of(record_words *rules, size_t count, uint32_t *ids)
 static void carry_out(uint64_t *table, size_t words, const uint32_t *plan, uint32_t count, const uint64_t *rule, uint32_t writes)
 {
     tcam_progress progress = {0, count};
+    record_words given;
+    edition = give(given, rule);
     for (uint32_t made = 0; made < writes; made++)
-        CHECK(tcam_carry_out(table, words, width, rule, TCAM_RECORD_WORDS(width), plan, count, &progress) ==
+        CHECK(tcam_carry_out(table, words, width, given, TCAM_RECORD_WORDS(width), edition, plan, count, &progress) ==
               (made < count ? TCAM_WROTE : TCAM_FINISHED));
+}
+
+/* The plan of an insert, for as many words as a table may have slots. */
+static uint32_t plan_insert(const uint64_t *table, size_t words, const uint64_t *rule, uint32_t *plan, uint32_t *count,
+                            uint32_t *spot)
+{
+    record_words given;
+    edition = give(given, rule);
+    return tcam_plan_insert(table, words, width, given, TCAM_RECORD_WORDS(width), edition, plan, MOST, count, spot);
 }
 
 /* Inserts, and gives the number of writes; 0 where the insert is declined, with this number. */
 static uint32_t insert(uint64_t *table, size_t words, const uint64_t *rule, uint32_t *number)
 {
     uint32_t plan[MOST], count, spot;
-    *number = tcam_plan_insert(table, words, width, rule, TCAM_RECORD_WORDS(width), plan, MOST, &count, &spot);
+    *number = plan_insert(table, words, rule, plan, &count, &spot);
     if (*number != TCAM_OK)
         return 0;
     carry_out(table, words, plan, count, rule, count + 1);
@@ -85,23 +114,23 @@ static void take_out(uint64_t *table, size_t words, const uint64_t *rule)
     carry_out(table, words, plan, count, tcam_no_rule, 2);
 }
 
-static int by_falling_priority(const void *left, const void *right)
+static int by_falling_rank(const void *left, const void *right)
 {
-    uint64_t one = priority_of(left), other = priority_of(right);
+    uint64_t one = rank_of(left), other = rank_of(right);
     return (one < other) - (one > other);
 }
 
-static int by_rising_priority(const void *left, const void *right)
+static int by_rising_rank(const void *left, const void *right)
 {
-    return by_falling_priority(right, left);
+    return by_falling_rank(right, left);
 }
 
 static void sort(record_words *rules, size_t count, int order)
 {
-    qsort(rules, count, sizeof rules[0], order == FALLING ? by_falling_priority : by_rising_priority);
+    qsort(rules, count, sizeof rules[0], order == FALLING ? by_falling_rank : by_rising_rank);
 }
 
-/* Takes out what depends on the first of these rules, directly or through others, or for rising priority what precedes it, in one
+/* Takes out what depends on the first of these rules, directly or through others, or for rising rank what precedes it, in one
  * pass: from the first slot on, or from the last. */
 static size_t take_out_chain(uint64_t *table, uint32_t slots, record_words *rules, int order)
 {
@@ -110,8 +139,8 @@ static size_t take_out_chain(uint64_t *table, uint32_t slots, record_words *rule
         const uint64_t *record = table + SLOTS(order == FALLING ? step : slots - 1 - step);
         int found = 0;
         for (size_t index = 0; index < count && !is_empty(record); index++)
-            found |= overlap(record, rules[index]) && (order == FALLING ? priority_of(record) < priority_of(rules[index])
-                                                                        : priority_of(record) > priority_of(rules[index]));
+            found |= overlap(record, rules[index]) && (order == FALLING ? rank_of(record) < rank_of(rules[index])
+                                                                        : rank_of(record) > rank_of(rules[index]));
         if (found) {
             memcpy(rules[count], record, SLOTS(1) * sizeof *record);
             take_out(table, SLOTS(slots), rules[count++]);
@@ -156,7 +185,7 @@ static void check_dropped(const uint64_t *start, size_t words, const uint64_t *r
 
     carry_out(table, words, plan, count, rule, writes);
     CHECK(replies_are(table, words, before));
-    CHECK(tcam_plan_insert(table, words, width, rule, TCAM_RECORD_WORDS(width), anew, MOST, &anew_count, &spot) == TCAM_TWICE);
+    CHECK(plan_insert(table, words, rule, anew, &anew_count, &spot) == TCAM_TWICE);
     uint32_t empty = tcam_write_word(TCAM_EMPTY, spot);
     carry_out(table, words, &empty, 1, tcam_no_rule, 1);
     CHECK(replies_are(table, words, before));
@@ -194,8 +223,7 @@ static void check_table(void)
     if (table_fault(table, SLOTS(slots), 4, &spot) != 0)
         return;
     random_rule(rule, 100);
-    uint32_t number =
-        tcam_plan_insert(table, SLOTS(slots), width, rule, TCAM_RECORD_WORDS(width), plan, MOST, &count, &spot);
+    uint32_t number = plan_insert(table, SLOTS(slots), rule, plan, &count, &spot);
     for (uint32_t writes = 1; number == TCAM_OK && writes < count; writes++, dropped++)
         check_dropped(table, SLOTS(slots), rule, plan, count, writes);
     for (int order = FALLING; number == TCAM_CROSSED && order <= RISING; order++, crossed++)

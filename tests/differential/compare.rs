@@ -6,10 +6,11 @@ use crate::input::{initial_bytes, initial_words, Call, Input, CELL_START};
 use crate::tally::Tally;
 use reference::bits::Bits;
 use reference::carry::{carry_out, Carried, Progress};
+use reference::given::Given;
 use reference::image::{load, save};
 use reference::lookup::{lookup, slot_record, Found};
 use reference::plan::{plan_delete, plan_insert};
-use reference::table::{first_out_of_order, read_slots, record_words, rule_of, Refusal, Rule, Slot};
+use reference::table::{first_out_of_order, read_slots, record_words, Refusal, Rule, Slot};
 
 /// Tables of up to this many slots are tested for order after every write; larger ones now and then, and around the last write.
 const SLOTS_ALWAYS_TESTED: usize = 64;
@@ -95,7 +96,7 @@ fn check_lookup(library: &Guarded, input: &Input, key: &[u64], tally: &mut Tally
     match answer {
         Ok(Found::Hit { slot, id, action }) => {
             expected.cells[..3].copy_from_slice(&[slot as u32, id, action]);
-            tally.count_at(Call::Lookup, "hit", slot);
+            tally.hit(input, slot);
         }
         Ok(Found::Miss) => {
             expected.cells[..3].copy_from_slice(&[0, 0, 0]);
@@ -122,7 +123,7 @@ fn expected_slot_record(input: &Input) -> Seen {
 fn check_plan(library: &Guarded, input: &Input, tally: &mut Tally) -> Result<Option<Vec<u32>>, Mismatch> {
     let is_insert = matches!(input.call, Call::PlanInsert | Call::InsertInFull);
     let (call, answer) = if is_insert {
-        (Call::PlanInsert, plan_insert(&input.table, input.width, &input.rule, input.room))
+        (Call::PlanInsert, plan_insert(&input.table, input.width, &input.rule, input.edition, input.room))
     } else {
         (Call::PlanDelete, plan_delete(&input.table, input.width, input.id, input.room))
     };
@@ -133,7 +134,7 @@ fn check_plan(library: &Guarded, input: &Input, tally: &mut Tally) -> Result<Opt
         Ok(writes) => {
             expected.cells[0] = writes.len() as u32;
             expected.plan[..writes.len()].copy_from_slice(writes);
-            tally.plan(call, writes);
+            tally.plan(call, input, writes);
         }
         Err(refusal) => {
             expected = refused(expected, *refusal);
@@ -149,7 +150,7 @@ fn check_plan(library: &Guarded, input: &Input, tally: &mut Tally) -> Result<Opt
 fn check_carry_out(library: &Guarded, input: &mut Input, tally: &mut Tally) -> Result<Option<Carried>, Mismatch> {
     let mut progress = Progress { done: input.done, total: input.total };
     let mut table = input.table.clone();
-    let answer = carry_out(&mut table, input.width, &input.rule, &input.plan, &mut progress);
+    let answer = carry_out(&mut table, input.width, &input.rule, input.edition, &input.plan, &mut progress);
     let result = match answer {
         Ok(Carried::Wrote) => 0,
         Ok(Carried::Finished) => FINISHED,
@@ -200,7 +201,7 @@ fn check_load(library: &Guarded, input: &Input, tally: &mut Tally) -> Result<(),
             if again.as_ref() != Ok(&input.image) {
                 return Err(Mismatch::of("the reference saves other bytes".to_string(), &input.image, again));
             }
-            tally.count_at(Call::Load, "loaded", highest_rule(&table, input.width));
+            tally.loaded(&table, highest_rule(&table, input.width));
             expected.table = table;
         }
         Err(refusal) => {
@@ -211,9 +212,9 @@ fn check_load(library: &Guarded, input: &Input, tally: &mut Tally) -> Result<(),
     same("load", library.load(input), expected)
 }
 
-/// The reply that the demands promise: the highest-priority matching rule of a set, whatever the layout.
+/// The reply that the demands promise: the highest-ranked matching rule of a set, whatever the layout.
 fn reply_of_rules<'a>(rules: impl Iterator<Item = &'a Rule>, key: Bits) -> Option<(u32, u32)> {
-    rules.filter(|rule| rule.matches(key)).max_by_key(|rule| rule.priority).map(|rule| (rule.id, rule.action))
+    rules.filter(|rule| rule.matches(key)).max_by_key(|rule| rule.rank).map(|rule| (rule.id, rule.action))
 }
 
 /// Plans, then carries out write by write. Before the last write each key has its old reply, after it its new one.
@@ -224,7 +225,8 @@ fn check_in_full(library: &Guarded, input: &Input, tally: &mut Tally) -> Result<
     let is_delete = input.call == Call::DeleteInFull;
     let mut new_rules: Vec<Rule> = old_rules.iter().filter(|rule| !is_delete || rule.id != input.id).copied().collect();
     if !is_delete {
-        new_rules.push(rule_of(&input.rule, input.width));
+        let given = Given::of_record(&input.rule, input.width);
+        new_rules.push(given.ranked(input.width, input.edition).expect("a planned rule is sound"));
     }
     let mut state = input.clone();
     state.call = Call::CarryOut;

@@ -136,8 +136,8 @@ impl Guarded {
     pub fn plan_insert(&self, input: &Input) -> Seen {
         let contents = Contents { beside: &input.rule, plan: &initial_words(input.room), ..Contents::default() };
         self.observe(input, contents, 2, |Buffers { table, beside: rule, plan, .. }, cells| unsafe {
-            let (width, count, spot) = (input.width as u32, cells.cell(0), cells.cell(1));
-            u64::from(tcam_plan_insert(table.0, table.1, width, rule.0, rule.1, plan.0, plan.1, count, spot))
+            let (width, edition, count, spot) = (input.width as u32, input.edition, cells.cell(0), cells.cell(1));
+            u64::from(tcam_plan_insert(table.0, table.1, width, rule.0, rule.1, edition, plan.0, plan.1, count, spot))
         })
     }
 
@@ -154,8 +154,9 @@ impl Guarded {
         let contents = Contents { beside: &input.rule, plan: &input.plan, ..Contents::default() };
         let mut guarded = [CELL_GUARD, input.done, input.total, CELL_GUARD];
         let mut seen = self.observe(input, contents, 0, |Buffers { table, beside: rule, plan, .. }, _| unsafe {
+            let (width, edition) = (input.width as u32, input.edition);
             let progress = guarded.as_mut_ptr().add(1) as *mut ProgressRecord;
-            tcam_carry_out(table.0, table.1, input.width as u32, rule.0, rule.1, plan.0, plan.1, progress)
+            tcam_carry_out(table.0, table.1, width, rule.0, rule.1, edition, plan.0, plan.1, progress)
         });
         seen.cells = guarded[1..3].to_vec();
         seen.guards_hold &= guarded[0] == CELL_GUARD && guarded[3] == CELL_GUARD;

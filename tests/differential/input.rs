@@ -1,6 +1,7 @@
 // One input of the differential test: a call and everything handed to it, in one flat record that can be made smaller.
 // Buffers that a call only writes start with known contents, so that words left as they were can be told.
 
+use reference::given::EDITION_13;
 use reference::table::record_words;
 
 #[derive(Clone, Copy, Debug, PartialEq, Eq, PartialOrd, Ord)]
@@ -24,8 +25,10 @@ pub struct Input {
     /// The words of a value, as the call is told; they may be others than those of table, rule and keys.
     pub width: usize,
     pub table: Vec<u64>,
-    /// The new rule's record.
+    /// The new rule's record, with its priority.
     pub rule: Vec<u64>,
+    /// The edition that is told with the rule, which may be none that there is.
+    pub edition: u32,
     /// The id to delete.
     pub id: u32,
     pub keys: Vec<Vec<u64>>,
@@ -40,13 +43,14 @@ pub struct Input {
 }
 
 impl Input {
-    /// A rule of zeros and nothing else beside the table.
+    /// A rule of zeros under 1.3 and nothing else beside the table.
     pub fn new(call: Call, width: usize, table: Vec<u64>, fence_after: bool) -> Input {
         Input {
             call,
             width,
             table,
             rule: vec![0; record_words(width)],
+            edition: EDITION_13,
             id: 0,
             keys: Vec::new(),
             slot: 0,

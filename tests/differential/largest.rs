@@ -4,9 +4,10 @@
 use crate::input::{Call, Input};
 use crate::make::{group_number, group_place, EVERY_GROUP};
 use reference::bits::Bits;
+use reference::given::{EDITION_10, EDITION_13};
 use reference::image::{image_bytes, image_of};
 use reference::plan::{plan_insert, write_word, EMPTYING, PUT_IN};
-use reference::table::{words_of, Rule, Slot, SLOTS_MOST};
+use reference::table::{words_of, Rule, Slot, EXACT_RANK, PRIORITY_MOST, SLOTS_MOST};
 use support::random::Random;
 
 pub const LAST: usize = SLOTS_MOST - 1;
@@ -26,7 +27,7 @@ enum Edge {
     Order,
     /// The new rule has the last slot's id.
     Known,
-    /// The new rule overlaps that of the last slot at equal priority.
+    /// The new rule overlaps that of the last slot at equal rank.
     Tie,
     /// Only the last slot's rule precedes the new one, and one that depends on the new one stands before it.
     Crossed,
@@ -118,7 +119,7 @@ fn long_plan(random: &mut Random, mut input: Input, down: bool, nearly: bool) ->
     let (mut table, new) = chain(random, input.width, place);
     table[hole] = None;
     input.table = words_of(&table, input.width);
-    input.rule = new.record(input.width);
+    give(random, &mut input, new);
     let writes = SLOTS_MOST - spared;
     input.room = random.pick(&[writes, SLOTS_MOST, SLOTS_MOST + 1]);
     if input.call == Call::CarryOut {
@@ -130,6 +131,19 @@ fn long_plan(random: &mut Random, mut input: Input, down: bool, nearly: bool) ->
     input
 }
 
+/// Hands the call a rule that gets its rank in the table: 65,536 under 1.0 from any priority, another under 1.3 or, where the rule has
+/// wildcards, under either edition.
+fn give(random: &mut Random, input: &mut Input, rule: Rule) {
+    let given_with = |priority: u64| Rule { rank: priority, ..rule }.record(input.width);
+    (input.rule, input.edition) = if rule.rank == EXACT_RANK {
+        (given_with(random.below(PRIORITY_MOST as usize + 1) as u64), EDITION_10)
+    } else if rule.mask == Bits::all(input.width) {
+        (given_with(rule.rank), EDITION_13)
+    } else {
+        (given_with(rule.rank), random.pick(&[EDITION_10, EDITION_13]))
+    };
+}
+
 /// Rules in all slots, each of which overlaps the next: either all overlap, or only neighbours, since each rule cares for all
 /// bits of a Gray code but the one that changes toward the next. The new rule overlaps those on both sides of its place.
 fn chain(random: &mut Random, width: usize, place: usize) -> (Vec<Slot>, Rule) {
@@ -138,9 +152,9 @@ fn chain(random: &mut Random, width: usize, place: usize) -> (Vec<Slot>, Rule) {
     let first_bit = random.below(64 * width - CODE_BITS);
     let all: usize = if random.one_in(2) { 0 } else { (1 << CODE_BITS) - 1 };
     let code = |number: usize| number ^ number >> 1;
-    let mut rule = |id: u32, priority: usize, value: usize, mask: usize| {
+    let mut rule = |id: u32, rank: usize, value: usize, mask: usize| {
         let bits = |number: usize| Bits::number(first_bit, CODE_BITS, number);
-        Rule { id, priority: priority as u64, value: bits(value & mask), mask: bits(mask), action: random.word() as u32 }
+        Rule { id, rank: rank as u64, value: bits(value & mask), mask: bits(mask), action: random.word() as u32 }
     };
     let new = rule(NEW_ID, highest + 1 - 2 * place, code(place), all);
     let mut slots = Vec::new();
@@ -155,7 +169,8 @@ const CODE_BITS: usize = 11;
 
 /// The plan of the input's rule, carried out up to one of its last three writes.
 fn carried_far(random: &mut Random, input: &mut Input, mut table: Vec<Slot>) {
-    input.plan = plan_insert(&input.table, input.width, &input.rule, SLOTS_MOST).expect("the rule has its place");
+    let plan = plan_insert(&input.table, input.width, &input.rule, input.edition, SLOTS_MOST);
+    input.plan = plan.expect("the rule has its place");
     let writes = input.plan.len();
     let done = random.between(writes - 3, writes - 1);
     for &write in &input.plan[..done] {
@@ -168,18 +183,18 @@ fn carried_far(random: &mut Random, input: &mut Input, mut table: Vec<Slot>) {
 /// A table of rules that are all apart, in which the last slot decides what the call answers.
 fn last_slot(random: &mut Random, mut input: Input, edge: Edge) -> Input {
     let place = group_place(random, input.width);
-    let mut table = apart(random, place);
+    let mut table = apart(random, input.width, place);
     let last = table[LAST].expect("the last slot has a rule");
     let other = random.below(LAST);
     let mut new = Rule { id: NEW_ID, ..last };
     spoil(random, &mut table, edge, (input.width, other));
     match edge {
         Edge::Known => new.id = last.id,
-        Edge::Crossed => cross(random, &mut table, &mut new, input.width),
+        Edge::Crossed => cross(random, &mut table, &mut new, (input.width, place)),
         _ => {}
     }
     input.room = SLOTS_MOST;
-    input.rule = new.record(input.width);
+    give(random, &mut input, new);
     input.table = words_of(&table, input.width);
     fill_in(random, &mut input, edge, &table, (&last, other));
     input
@@ -212,14 +227,19 @@ fn fill_in(random: &mut Random, input: &mut Input, edge: Edge, table: &[Slot], (
     }
 }
 
-/// A rule in every slot, each with a number of its own at the same bits.
-fn apart(random: &mut Random, place: usize) -> Vec<Slot> {
+/// A rule in every slot, each with a number of its own at the same bits. In every other table all rules are exact, and alike at the
+/// other bits; half of them have rank 65,536, as where some were inserted under 1.0 and some under 1.3.
+fn apart(random: &mut Random, width: usize, place: usize) -> Vec<Slot> {
     let ids = shuffled_ids(random);
     let turned = random.below(SLOTS_MOST);
+    let numbers = group_number(place, EVERY_GROUP);
+    let mask = if random.one_in(2) { Bits::all(width) } else { numbers };
+    let elsewhere = random.bits(width) & mask & !numbers;
     let mut rule = |slot: usize, id: u32| {
         let priority = random.between(1, 65_534) as u64;
-        let value = group_number(place, slot ^ turned);
-        Some(Rule { id, priority, value, mask: group_number(place, EVERY_GROUP), action: random.word() as u32 })
+        let rank = if mask == Bits::all(width) && random.one_in(2) { EXACT_RANK } else { priority };
+        let value = group_number(place, slot ^ turned) | elsewhere;
+        Some(Rule { id, rank, value, mask, action: random.word() as u32 })
     };
     ids.into_iter().enumerate().map(|(slot, id)| rule(slot, id)).collect()
 }
@@ -241,13 +261,14 @@ fn spoil(random: &mut Random, table: &mut [Slot], edge: Edge, (width, other): (u
     match edge {
         Edge::Record => match random.below(3) {
             0 => last.id = 0,
-            1 => last.priority = 65_536,
-            _ => last.value ^= bit_of(random, width, last.mask, true),
+            1 if last.mask == Bits::all(width) => last.rank = EXACT_RANK + 1,
+            1 => last.rank = EXACT_RANK,
+            _ => spoil_pattern(random, last, width),
         },
         Edge::Twice => last.id = rule.id,
         Edge::Order => {
             last.value = rule.value;
-            last.priority = rule.priority + random.below(2) as u64;
+            last.rank = rule.rank + if rule.rank < PRIORITY_MOST { random.below(2) as u64 } else { 0 };
         }
         Edge::WrittenOver => table[LAST] = Some(rule),
         Edge::Copied | Edge::PutIn => table[LAST] = None,
@@ -255,15 +276,31 @@ fn spoil(random: &mut Random, table: &mut [Slot], edge: Edge, (width, other): (u
     }
 }
 
-/// Takes one cared-for bit out of the new rule, which has the last slot's pattern, so that it overlaps a second rule; the last
+/// Sets a value bit outside the mask. A rule with every mask bit set has none: it loses a mask bit whose value is 1 or, at rank 65,536,
+/// any bit of mask and value.
+fn spoil_pattern(random: &mut Random, rule: &mut Rule, width: usize) {
+    if rule.mask != Bits::all(width) {
+        rule.value ^= bit_of(random, width, rule.mask, true);
+        return;
+    }
+    let any = if rule.rank == EXACT_RANK { rule.mask } else { rule.value };
+    let bit = bit_of(random, width, any, false);
+    rule.mask ^= bit;
+    if rule.rank == EXACT_RANK {
+        rule.value &= rule.mask;
+    }
+}
+
+/// Takes one bit of the numbers out of the new rule, which has the last slot's pattern, so that it overlaps a second rule; the last
 /// slot's then precedes it, and the second depends on it. Slot 0, whose number has no bit of the last one's, is emptied.
-fn cross(random: &mut Random, table: &mut [Slot], new: &mut Rule, width: usize) {
-    new.mask ^= bit_of(random, width, new.mask, false);
+fn cross(random: &mut Random, table: &mut [Slot], new: &mut Rule, (width, place): (usize, usize)) {
+    new.mask ^= bit_of(random, width, group_number(place, EVERY_GROUP), false);
     new.value &= new.mask;
+    new.rank = new.rank.min(PRIORITY_MOST - 1);
     table[0] = None;
     for (slot, rule) in table.iter_mut().enumerate() {
         if let Some(rule) = rule.as_mut().filter(|rule| rule.overlaps(new)) {
-            rule.priority = if slot == LAST { new.priority + 1 } else { new.priority - 1 };
+            rule.rank = if slot == LAST { new.rank + 1 } else { new.rank - 1 };
         }
     }
 }

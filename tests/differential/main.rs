@@ -5,6 +5,7 @@
 
 mod apart;
 mod compare;
+mod exact;
 mod fence;
 mod guarded;
 mod input;
@@ -138,7 +139,7 @@ fn print_input(input: &Input) {
     for (place, words) in input.table.chunks(words).enumerate() {
         eprintln!("  {part} {place}: {words:x?}");
     }
-    eprintln!("  rule {:x?}, id {:x}", input.rule, input.id);
+    eprintln!("  rule {:x?}, edition {}, id {:x}", input.rule, input.edition, input.id);
     eprintln!("  keys {:x?}, slot {}, room {}", input.keys, input.slot, input.room);
     eprintln!("  plan {:x?}, done {}, total {}", input.plan, input.done, input.total);
     eprintln!("  image {:x?}", input.image);

@@ -2,14 +2,17 @@
 // Rules use few bit positions, so that overlaps, ties and crossings are frequent and plans long.
 // In larger tables they also stand apart, so that the maps of 160 slots and more tell most pairs.
 // Half of the inputs have values of two words, half of five; in some, words and width don't fit each other.
+// In half of the tables some rules are exact, with every mask bit set, or nearly so, among those that are not.
 
+use crate::exact::{edition, exact_or_nearly, Edged};
 use crate::input::{Call, Input};
 use crate::largest::make_largest;
 use crate::misfit;
 use reference::bits::{Bits, WIDTHS};
+use reference::given::{Given, EDITION_10, EDITION_13};
 use reference::image::{body_offset, image_bytes, image_of};
 use reference::plan::{plan_insert, write_word, EMPTYING, PUT_IN};
-use reference::table::{read_slots, record_words, rule_of, words_of, Rule, Slot, SLOTS_MOST};
+use reference::table::{read_slots, record_words, rule_of, words_of, Rule, Slot, EXACT_RANK, PRIORITY_MOST, SLOTS_MOST};
 use support::random::Random;
 
 /// How the patterns of a table are made.
@@ -52,12 +55,19 @@ pub fn group_number(place: usize, number: usize) -> Bits {
 /// A number that has all bits of the groups' numbers.
 pub const EVERY_GROUP: usize = (1 << GROUP_BITS) - 1;
 
+/// Value and mask.
+type Pattern = (Bits, Bits);
+
 struct Maker<'a> {
     random: &'a mut Random,
     width: usize,
     style: Style,
     /// The bit positions in use.
     bits: Vec<usize>,
+    /// Of eight rules so many are exact, or nearly so. Where the style leaves a bit uncared for, they have that of `elsewhere`: so
+    /// two of them are often alike.
+    exact_of_eight: usize,
+    elsewhere: Bits,
 }
 
 /// One input of this many is at an edge of the largest table.
@@ -77,7 +87,10 @@ fn make_any(random: &mut Random, width: usize) -> Input {
     let fence_after = random.one_in(2);
     let slots = slot_count(random);
     let style = style(random, slots, width);
-    let mut maker = Maker { bits: bit_positions(random, width), width, style, random };
+    let bits = bit_positions(random, width);
+    let exact_of_eight = random.pick(&[0, 0, 0, 0, 1, 2, 4, 7]);
+    let elsewhere = if random.one_in(2) { random.bits(width) } else { Bits::NONE };
+    let mut maker = Maker { random, width, style, bits, exact_of_eight, elsewhere };
     let call = maker.random.pick(CALLS);
     if call == Call::InsertInFull || call == Call::DeleteInFull {
         return maker.in_full(call, slots, fence_after);
@@ -90,6 +103,7 @@ fn make_any(random: &mut Random, width: usize) -> Input {
     }
     let mut input = Input::new(call, width, words_of(&table, width), fence_after);
     (input.rule, input.id) = (new.record(width), new.id);
+    input.edition = edition(maker.random, if call == Call::CarryOut { 6 } else { 24 });
     if maker.random.one_in(3) {
         maker.damage(&mut input.table);
     }
@@ -168,7 +182,16 @@ impl Maker<'_> {
     }
 
     /// Value and mask of a rule; `place` is where it stands among the rules of a path.
-    fn pattern(&mut self, place: usize) -> (Bits, Bits) {
+    fn pattern(&mut self, place: usize) -> Pattern {
+        let (value, mask) = self.style_pattern(place);
+        if self.random.below(8) >= self.exact_of_eight {
+            return (value, mask);
+        }
+        let wider = exact_or_nearly(self.random, self.width, 6);
+        ((value | self.elsewhere & !mask) & wider, wider)
+    }
+
+    fn style_pattern(&mut self, place: usize) -> Pattern {
         let all = 1 << self.bits.len();
         match self.style {
             Style::Path => {
@@ -210,54 +233,81 @@ impl Maker<'_> {
         let table = self.sound_table(slots);
         let new = self.new_rule(&table);
         let mut input = Input::new(call, self.width, words_of(&table, self.width), fence_after);
-        let subject = if call == Call::DeleteInFull { self.present_rule(&table).unwrap_or(new) } else { new };
+        let subject = new.with_rank(0);
+        let subject = if call == Call::DeleteInFull { self.present_rule(&table).unwrap_or(subject) } else { subject };
         if call == Call::InsertInFull || self.random.one_in(2) {
             input.rule = new.record(self.width);
+            input.edition = edition(self.random, 24);
         }
         input.id = subject.id;
-        input.keys = (0..4).map(|_| self.key(&table, &subject)).collect();
+        input.keys = (0..4).map(|_| self.key(&table, (subject.value, subject.mask))).collect();
         input.room = slots + self.random.below(3);
         input
     }
 
-    /// A sound table: patterns and ids at random, then priorities from the last slot to the first, each higher than
-    /// those of the later rules it overlaps.
+    /// A sound table: patterns and ids at random, then ranks from the last slot to the first, each higher than those of the later
+    /// rules it overlaps.
     fn sound_table(&mut self, slots: usize) -> Vec<Slot> {
         let occupied = self.occupied(slots);
         let mut ids: Vec<u32> = (1..=slots as u32).collect();
         self.random.shuffle(&mut ids);
         let id_step = self.random.pick(&[1, 1, 1, 65_536, 4_194_303]);
-        let path_start = self.random.below(4);
         let mut table: Vec<Slot> = vec![None; slots];
         let spread = self.random.pick(&[1, 1, 2, 3, 20]);
-        let mut path_place = path_start;
-        for slot in 0..slots {
-            if occupied[slot] {
-                let (value, mask) = self.pattern(path_place);
-                let action = if self.random.one_in(3) { self.random.word() as u32 } else { self.random.below(4) as u32 };
-                table[slot] = Some(Rule { id: ids[slot] * id_step, priority: 0, value, mask, action });
-                path_place += if self.random.one_in(8) { 2 } else { 1 };
-            }
+        let mut patterns = self.patterns(occupied.iter().filter(|&&is_occupied| is_occupied).count()).into_iter();
+        for slot in (0..slots).filter(|&slot| occupied[slot]) {
+            let (value, mask) = patterns.next().expect("a pattern for each occupied slot");
+            let action = if self.random.one_in(3) { self.random.word() as u32 } else { self.random.below(4) as u32 };
+            table[slot] = Some(Rule { id: ids[slot] * id_step, rank: 0, value, mask, action });
         }
         self.give_priorities(&mut table, spread);
+        self.give_exact_ranks(&mut table);
         table
     }
 
+    /// The patterns of so many rules. In some tables those that are exact come first, as where all were inserted under 1.0.
+    fn patterns(&mut self, count: usize) -> Vec<Pattern> {
+        let mut path_place = self.random.below(4);
+        let mut patterns = Vec::new();
+        for _ in 0..count {
+            patterns.push(self.pattern(path_place));
+            path_place += if self.random.one_in(8) { 2 } else { 1 };
+        }
+        if self.random.one_in(2) {
+            patterns.sort_by_key(|(_, mask)| *mask != Bits::all(self.width));
+        }
+        patterns
+    }
+
+    /// A priority for each rule's rank, as under 1.3.
     fn give_priorities(&mut self, table: &mut [Slot], spread: usize) {
         let mut highest = 0;
         for slot in (0..table.len()).rev() {
             let Some(rule) = table[slot] else { continue };
             let above =
-                table[slot + 1..].iter().flatten().filter(|later| later.overlaps(&rule)).map(|later| later.priority + 1).max();
+                table[slot + 1..].iter().flatten().filter(|later| later.overlaps(&rule)).map(|later| later.rank + 1).max();
             let priority = above.unwrap_or(0) + self.random.below(spread) as u64;
-            table[slot].as_mut().unwrap().priority = priority;
+            table[slot].as_mut().unwrap().rank = priority;
             highest = highest.max(priority);
         }
         let factor = self.random.pick(&[1, 2, 2, 2, 10]);
-        if highest * factor <= 65_535 {
-            let top = if self.random.one_in(8) { 65_535 - highest * factor } else { 0 };
+        if highest * factor <= PRIORITY_MOST {
+            let top = if self.random.one_in(8) { PRIORITY_MOST - highest * factor } else { 0 };
             for rule in table.iter_mut().flatten() {
-                rule.priority = rule.priority * factor + top;
+                rule.rank = rule.rank * factor + top;
+            }
+        }
+    }
+
+    /// Rank 65,536 for all exact rules that may have it, for some, or for none: a table may have rules of both editions. A rule that
+    /// overlaps an earlier one may not.
+    fn give_exact_ranks(&mut self, table: &mut [Slot]) {
+        let of_two = self.random.pick(&[0, 1, 2, 2]);
+        for slot in 0..table.len() {
+            let Some(rule) = table[slot].filter(|rule| rule.mask == Bits::all(self.width)) else { continue };
+            let stands_first = !table[..slot].iter().flatten().any(|earlier| earlier.overlaps(&rule));
+            if self.random.below(2) < of_two && stands_first {
+                table[slot] = Some(Rule { rank: EXACT_RANK, ..rule });
             }
         }
     }
@@ -289,20 +339,24 @@ impl Maker<'_> {
         }
     }
 
-    /// A rule to insert: mostly of the table's style and of a priority that leaves it uncrossed somewhere.
-    fn new_rule(&mut self, table: &[Slot]) -> Rule {
+    /// A rule to insert: mostly of the table's style and of a priority that leaves it uncrossed somewhere; often with the pattern of
+    /// a rule present, where that is exact.
+    fn new_rule(&mut self, table: &[Slot]) -> Given {
         let place = self.random.below(table.len() + 2);
-        let (value, mask) = self.pattern(place);
-        let mut rule = Rule { id: 0, priority: 0, value, mask, action: self.random.word() as u32 };
-        rule.id = self.new_id(table);
-        let priorities: Vec<u64> =
-            table.iter().flatten().filter(|other| other.overlaps(&rule)).map(|other| other.priority).collect();
+        let (value, mask) = match self.present_rule(table) {
+            Some(rule) if rule.mask == Bits::all(self.width) && self.random.one_in(3) => (rule.value, rule.mask),
+            _ => self.pattern(place),
+        };
+        let mut rule = Given { id: self.new_id(table), priority: 0, value, mask, action: self.random.word() as u32 };
+        let overlapping = table.iter().flatten().filter(|other| other.overlaps(&rule.with_rank(0)));
+        let priorities: Vec<u64> = overlapping.map(|other| other.rank).filter(|&rank| rank <= PRIORITY_MOST).collect();
         let near = if priorities.is_empty() { self.random.below(40) as u64 } else { self.random.pick(&priorities) };
-        rule.priority = match self.random.below(12) {
+        rule.priority = match self.random.below(13) {
             0 => near,
             1 => self.random.pick(&[0, 1, 65_534, 65_535, 65_535, 65_536, 65_537, 1 << 17, u32::MAX.into(), 1 << 32, u64::MAX]),
             2 => self.random.below(65_536) as u64,
             3..=7 => near + 1,
+            8 if mask == Bits::all(self.width) => EXACT_RANK,
             _ => near.saturating_sub(1),
         };
         if self.random.one_in(60) {
@@ -341,16 +395,16 @@ impl Maker<'_> {
     }
 
     /// A key that matches some rule, nearly matches one, or is anything.
-    fn key(&mut self, table: &[Slot], new: &Rule) -> Vec<u64> {
-        let rule = self.present_rule(table).unwrap_or(*new);
-        let rule = if self.random.one_in(3) { *new } else { rule };
+    fn key(&mut self, table: &[Slot], new: Pattern) -> Vec<u64> {
+        let present = self.present_rule(table).map_or(new, |rule| (rule.value, rule.mask));
+        let (value, mask) = if self.random.one_in(3) { new } else { present };
         let some_bits = self.some_bits();
-        let elsewhere = if self.random.one_in(2) { self.random.bits(self.width) } else { Bits::NONE };
+        let elsewhere = if self.random.one_in(2) { self.random.bits(self.width) } else { self.elsewhere };
         let key = match self.random.below(6) {
             0 => self.random.bits(self.width),
             1 => some_bits,
-            2 => rule.value ^ self.any_bit(),
-            _ => rule.value | (some_bits | elsewhere) & !rule.mask,
+            2 => value ^ self.any_bit(),
+            _ => value | (some_bits | elsewhere) & !mask,
         };
         key.words(self.width).to_vec()
     }
@@ -369,9 +423,9 @@ impl Maker<'_> {
         let slot_words = record_words(self.width);
         let slots = words.len() / slot_words;
         let record = slot_words * self.random.below(slots);
-        let (id_and_action, priority) = (record + slot_words - 2, record + slot_words - 1);
+        let (id_and_action, rank) = (record + slot_words - 2, record + slot_words - 1);
         let other = slot_words * self.random.below(slots);
-        match self.random.below(18) {
+        match self.random.below(22) {
             0..=3 => {
                 let word = self.random.below(words.len());
                 words[word] ^= 1 << self.random.below(64);
@@ -380,15 +434,16 @@ impl Maker<'_> {
             5 => words.extend(vec![0; self.random.between(1, slot_words)]),
             6 => *words = vec![0; self.odd_length()],
             7 => words[id_and_action] &= 0xffff_ffff,
-            8 => words[priority] = self.random.pick(&[65_535, 65_536, 1 << 32, 1 << 63, u64::MAX]),
+            8 => words[rank] = self.random.pick(&[65_535, 65_536, 65_537, 1 << 32, 65_536 + (1 << 32), 1 << 63, u64::MAX]),
             9 => (0..slot_words).for_each(|word| words.swap(record + word, other + word)),
             10 | 11 => words[other + slot_words - 2] = words[id_and_action],
-            12 => words[priority] = words[priority].wrapping_add(1),
+            12 => words[rank] = words[rank].wrapping_add(1),
             13..=15 => {
                 let other = self.overlapping_record(words, record);
-                words[priority] = words[other + slot_words - 1].saturating_add(self.random.below(2) as u64);
+                words[rank] = words[other + slot_words - 1].saturating_add(self.random.below(2) as u64);
             }
             16 => words.iter_mut().for_each(|word| *word = self.random.word()),
+            17..=20 => Edged::draw(self.random, self.width).put_in_record(&mut words[record..record + slot_words]),
             _ => {
                 for word in words.iter_mut() {
                     let any = self.random.any_word();
@@ -418,10 +473,10 @@ impl Maker<'_> {
     }
 
     /// What the call needs beside the table and the rule.
-    fn fill_in(&mut self, input: &mut Input, table: &[Slot], new: &Rule) {
+    fn fill_in(&mut self, input: &mut Input, table: &[Slot], new: &Given) {
         let slots = table.len();
         match input.call {
-            Call::Lookup => input.keys = (0..3).map(|_| self.key(table, new)).collect(),
+            Call::Lookup => input.keys = (0..3).map(|_| self.key(table, (new.value, new.mask))).collect(),
             Call::SlotRecord => input.slot = self.slot_number(slots) as u32,
             Call::PlanInsert => {
                 input.room = match self.random.below(4) {
@@ -460,10 +515,11 @@ impl Maker<'_> {
         }
     }
 
-    /// A plan of the library's kind or a foreign one, with progress at its start, within it, or wrong.
+    /// A plan of the library's kind, drawn under any edition, or a foreign one, with progress at its start, within it, or wrong.
     fn plan_to_carry_out(&mut self, input: &mut Input, slots: usize) {
         if self.random.one_in(4) {
-            if let Ok(plan) = plan_insert(&input.table, self.width, &input.rule, slots) {
+            let edition = self.random.pick(&[EDITION_10, EDITION_13]);
+            if let Ok(plan) = plan_insert(&input.table, self.width, &input.rule, edition, slots) {
                 input.plan = plan;
             }
         }
@@ -528,7 +584,7 @@ impl Maker<'_> {
         let entry = 4 + 10 * self.random.below(rules.max(1));
         let body = body_offset(self.width, rules, self.random.below(rules.max(1)));
         let pattern_bytes = 16 * self.width;
-        let field = match self.random.below(10) {
+        let field = match self.random.below(13) {
             0 => return image.truncate(self.random.below(image.len())),
             1 => return image.extend(vec![0; self.random.pick(&[1, 2, rule_bytes - 1, rule_bytes])]),
             2 => self.random.below(4),
@@ -538,6 +594,7 @@ impl Maker<'_> {
             6 => body + self.random.below(pattern_bytes),
             7 => body + pattern_bytes + self.random.below(4),
             8 => entry + self.random.below(4),
+            9..=11 if rules > 0 => return Edged::draw(self.random, self.width).put_in_body(&mut image[body..]),
             _ => self.random.below(image.len()),
         };
         if field < image.len() {

@@ -9,8 +9,8 @@ use reference::image::image_of;
 use reference::table::{read_slots, record_words, rule_of, Rule, Slot, SLOTS_MOST};
 use support::random::Random;
 
-/// Widths that would pass for 2 or 5 where only a part of the number is looked at, and others.
-const FAR_WIDTHS: [usize; 11] = [7, 8, 10, 12, 258, 261, 65_538, 65_541, 0x8000_0002, 0x8000_0005, 0xffff_ffff];
+/// Widths that would pass for 2 or 5 where only a part of the number is looked at, the editions, and others.
+const FAR_WIDTHS: [usize; 12] = [7, 8, 10, 12, 13, 258, 261, 65_538, 65_541, 0x8000_0002, 0x8000_0005, 0xffff_ffff];
 
 pub fn misfit(random: &mut Random, input: &mut Input, table: &[Slot]) {
     match (random.below(4), input.call) {
@@ -88,15 +88,15 @@ pub fn either_width(random: &mut Random, width: usize, slots: usize) -> Vec<Slot
 }
 
 /// At five words the first five are the value and the next five the mask. At two, words 2 and 3 are the mask of words 0 and 1,
-/// word 4 has an id and word 5 is a priority; words 8 and 9 are the mask of words 6 and 7.
+/// word 4 has an id and word 5 is a rank; words 8 and 9 are the mask of words 6 and 7.
 fn either_record(random: &mut Random) -> [u64; 12] {
     let mut few = || random.word() & random.word() & random.word() & random.word();
     let (first, second, more_first, more_second) = (few(), few(), few(), few());
-    let priority = random.below(65_536) as u64;
+    let rank = random.below(65_536) as u64;
     let id = (random.between(1, 40) as u64) << 32 | 7;
-    let value = [first & priority, second & random.word(), first, second, id];
+    let value = [first & rank, second & random.word(), first, second, id];
     let (third, fourth) = (value[1] | more_first, first | more_second);
     let last = (random.between(1, 40) as u64) << 32 | random.below(9) as u64;
-    let mask = [priority, third, fourth, third | second, fourth | id];
+    let mask = [rank, third, fourth, third | second, fourth | id];
     [&value[..], &mask, &[last, random.below(65_536) as u64]].concat().try_into().expect("twelve words")
 }

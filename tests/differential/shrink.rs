@@ -1,8 +1,10 @@
-// Makes a failing input smaller as long as it still fails: two words for five, fewer slots, zeroed slots, fewer bits, smaller numbers.
+// Makes a failing input smaller as long as it still fails: two words for five, edition 1.3 for another, fewer slots, zeroed slots,
+// fewer bits, smaller numbers.
 // Each change is tried in turn and kept if the input still fails; rounds go on until one keeps nothing.
 
 use crate::input::{Call, Input};
 use reference::bits::WIDTHS;
+use reference::given::{EDITION_10, EDITION_13};
 use reference::table::record_words;
 use std::time::{Duration, Instant};
 
@@ -19,6 +21,7 @@ pub fn shrink(input: Input, fails: impl Fn(&Input) -> bool) -> Input {
     loop {
         let before = shrinker.input.clone();
         shrinker.keep(narrow);
+        shrinker.plain_edition();
         shrinker.drop_slots();
         shrinker.zero_slots();
         shrinker.drop_plan_words();
@@ -42,6 +45,17 @@ impl<F: Fn(&Input) -> bool> Shrinker<F> {
             self.input = smaller;
         }
         kept
+    }
+
+    /// 1.3 if it fails so too, else 1.0; where neither fails, a smaller number that is none of the two.
+    fn plain_edition(&mut self) {
+        let told = self.input.edition;
+        if told == EDITION_13 || self.keep(|smaller| smaller.edition = EDITION_13) {
+            return;
+        }
+        if told != EDITION_10 && !self.keep(|smaller| smaller.edition = EDITION_10) {
+            self.lessen(|input| u64::from(input.edition), |input, number| input.edition = number as u32);
+        }
     }
 
     fn slot_words(&self) -> usize {

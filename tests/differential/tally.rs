@@ -1,14 +1,18 @@
 // Counts of what a run reached at each width: answers and refusals of each call, plan lengths and directions.
 // A run that never reached one of the answers listed here, at one of the widths, has tested less than it says, and fails.
+// A rule is named exact here where every mask bit is set; its rank under 1.0 is 65,536.
 
+use crate::exact::OTHER_EDITIONS;
 use crate::input::{Call, Input};
 use crate::largest::{LAST, LONG};
-use reference::bits::WIDTHS;
-use reference::carry::Carried;
+use reference::bits::{Bits, WIDTHS};
+use reference::carry::{fits, Carried};
+use reference::given::{Given, EDITION_10, EDITION_13};
 use reference::image::image_bytes;
 use reference::plan::{EMPTYING, PUT_IN};
 use reference::table::{
-    record_words, Refusal, CROSSED, FULL, IMAGE, KNOWN, ORDER, RECORD, RULE, SHAPE, SHORT, SLOTS_MOST, TIE, TWICE, UNKNOWN, WRITE,
+    read_slots, record_words, rule_of, Refusal, Rule, CROSSED, EDITION, EXACT_RANK, FULL, IMAGE, KNOWN, ORDER, RECORD, RULE,
+    SHAPE, SHORT, SLOTS_MOST, TIE, TWICE, UNKNOWN, WRITE,
 };
 use std::collections::BTreeMap;
 
@@ -21,9 +25,10 @@ pub struct Tally {
     counts: BTreeMap<(Call, String), BTreeMap<usize, u64>>,
     /// Inputs by the width that they tell.
     inputs: BTreeMap<usize, u64>,
-    /// The width told and the slots of the table at hand.
+    /// The width told, the slots of the table that the input starts with, and whether one of them has rank 65,536.
     width: usize,
     slots: usize,
+    holds_exact_rank: bool,
     /// How many insert plans had 1, 2, 3 .. writes, and how long the longest was, at each width; the last place is for longer ones.
     lengths: BTreeMap<usize, [u64; 10]>,
     longest: BTreeMap<usize, usize>,
@@ -50,10 +55,10 @@ fn wanted() -> Vec<(Call, String)> {
     want(Call::Lookup, &["hit", "miss", "1 key words"], &[RECORD]);
     want(Call::SlotRecord, &["record", "empty part", "empty part, 1", "empty part, 2"], &[]);
     want(Call::PlanInsert, &["one write", "down", "up"], &table);
-    want(Call::PlanInsert, &["1 rule words"], &[RULE, KNOWN, TIE, FULL, CROSSED, SHORT]);
+    want(Call::PlanInsert, &["1 rule words"], &[RULE, EDITION, KNOWN, TIE, FULL, CROSSED, SHORT]);
     want(Call::PlanDelete, &["emptying"], &table);
     want(Call::PlanDelete, &[], &[RULE, UNKNOWN, SHORT]);
-    want(Call::CarryOut, &["copied", "put in", "emptied", "finished"], &[RECORD, RULE]);
+    want(Call::CarryOut, &["copied", "put in", "emptied", "finished"], &[RECORD, RULE, EDITION]);
     want(
         Call::CarryOut,
         &["1 rule words, copy", "1 rule words, put-in", "1 rule words, emptying", "1 rule words, finished"],
@@ -64,8 +69,45 @@ fn wanted() -> Vec<(Call, String)> {
     want(Call::Save, &[], &[SHORT]);
     want(Call::Load, &["loaded", "14 at 0", "14 at 2", "14 at an id", "14 at a slot", "14 at an offset", "14 at a body"], &[]);
     want(Call::Load, &["14 at 2, the other width's length"], &[TWICE, ORDER]);
+    wanted.extend(wanted_of_editions());
     wanted.extend(wanted_of_large());
     wanted.extend(wanted_of_largest());
+    wanted
+}
+
+/// The answers on tables that pass and have a rule of rank 65,536, which are counted apart too; of a load, the table that it leaves.
+const HELD: [(Call, &[&str]); 7] = [
+    (Call::Lookup, &["hit", "miss"]),
+    (Call::SlotRecord, &["record", "empty part"]),
+    (Call::PlanInsert, &["one write", "down", "up", "6", "8", "9", "10", "18"]),
+    (Call::PlanDelete, &["emptying", "7"]),
+    (Call::CarryOut, &["copied", "put in", "emptied", "finished"]),
+    (Call::Save, &["saved"]),
+    (Call::Load, &["loaded"]),
+];
+
+/// What every run must reach of ranks and editions.
+fn wanted_of_editions() -> Vec<(Call, String)> {
+    let mut wanted: Vec<(Call, String)> =
+        HELD.iter().flat_map(|(call, kinds)| kinds.iter().map(|kind| (*call, held(kind)))).collect();
+    let mut want = |call: Call, kinds: &[&str]| wanted.extend(kinds.iter().map(|kind| (call, kind.to_string())));
+    for call in [Call::Lookup, Call::PlanInsert, Call::PlanDelete, Call::CarryOut, Call::Save] {
+        want(call, &["2, 65,536 not exact", "2, 65,537 exact"]);
+    }
+    want(Call::Lookup, &["hit, rank 65,536"]);
+    // no rule precedes one of rank 65,536: it is never crossed, and no plan for it goes up
+    want(Call::PlanInsert, &["one write, rank 65,536", "down, rank 65,536", "8, rank 65,536"]);
+    for kind in ["one write", "down", "up", "8"] {
+        want(Call::PlanInsert, &[&format!("{kind}, exact under 13"), &format!("{kind}, nearly exact")]);
+    }
+    want(Call::PlanInsert, &["5, 65,536 exact", "5, another edition", "18, id present"]);
+    want(Call::CarryOut, &["put in, rank 65,536", "put in, exact under 13", "put in, nearly exact", "5, 65,536 exact"]);
+    want(Call::CarryOut, &["5, another edition", "18, does not fit", "copied, another edition", "emptied, another edition"]);
+    want(Call::CarryOut, &["finished, another edition", "12 copy, another edition"]);
+    want(Call::Load, &["14 at a body, 65,536 not exact", "14 at a body, 65,537 exact"]);
+    for call in [Call::PlanInsert, Call::CarryOut] {
+        wanted.extend(OTHER_EDITIONS.map(|edition| (call, of_edition(edition))));
+    }
     wanted
 }
 
@@ -111,6 +153,26 @@ fn wanted_of_largest() -> Vec<(Call, String)> {
     wanted
 }
 
+/// The name of an answer on a table that has a rule of rank 65,536.
+fn held(kind: &str) -> String {
+    format!("{kind}, 65,536 held")
+}
+
+/// The name of an answer where the rule that is given gets rank 65,536.
+fn ranked_highest(kind: &str) -> String {
+    format!("{kind}, rank 65,536")
+}
+
+/// The name of a refusal for an edition that there is not.
+fn of_edition(edition: u32) -> String {
+    format!("{EDITION}, edition {edition}")
+}
+
+/// The name of an answer that an edition that there is not has no part in.
+fn another_edition(kind: &str) -> String {
+    format!("{kind}, another edition")
+}
+
 /// The name of an answer on a table of many slots.
 fn large(kind: &str) -> String {
     format!("{kind}, large")
@@ -139,6 +201,7 @@ impl Tally {
         *self.inputs.entry(input.width).or_default() += 1;
         self.width = input.width;
         self.slots = input.table.len() / record_words(input.width);
+        self.holds_exact_rank = holds_exact_rank(&input.table, input.width);
     }
 
     fn add(&mut self, call: Call, kind: String) {
@@ -149,6 +212,16 @@ impl Tally {
         self.add(call, kind.to_string());
         if self.slots > SMALL_MOST {
             self.add(call, large(kind));
+        }
+        if self.holds_exact_rank && HELD.iter().any(|(held, kinds)| *held == call && kinds.contains(&kind)) {
+            self.add(call, held(kind));
+        }
+    }
+
+    pub fn hit(&mut self, input: &Input, slot: usize) {
+        self.count_at(Call::Lookup, "hit", slot);
+        if rule_at(input, slot).rank == EXACT_RANK {
+            self.add(Call::Lookup, ranked_highest("hit"));
         }
     }
 
@@ -180,9 +253,15 @@ impl Tally {
         } else {
             self.count(call, &kind);
         }
+        if let Some(apart) = refused_apart(call, input, refusal) {
+            self.add(call, apart);
+        }
+        if refusal.number == EDITION && OTHER_EDITIONS.contains(&input.edition) {
+            self.add(call, of_edition(input.edition));
+        }
     }
 
-    pub fn plan(&mut self, call: Call, writes: &[u32]) {
+    pub fn plan(&mut self, call: Call, input: &Input, writes: &[u32]) {
         let to = writes[0] as usize % 65_536;
         if call == Call::PlanDelete {
             return self.count_at(call, "emptying", to);
@@ -192,10 +271,16 @@ impl Tally {
         let lengths = self.lengths.entry(self.width).or_default();
         lengths[(writes.len() - 1).min(9)] += 1;
         let kind = match writes {
-            [_] => return self.count_at(call, "one write", to),
+            [_] => "one write",
             [copy, ..] if copy / 65_536 < copy % 65_536 => "down",
             _ => "up",
         };
+        if let Some(apart) = given_apart(kind, input) {
+            self.add(call, apart);
+        }
+        if kind == "one write" {
+            return self.count_at(call, kind, to);
+        }
         self.count(call, kind);
         if writes.len() == SLOTS_MOST {
             self.add(call, longest(kind));
@@ -219,6 +304,20 @@ impl Tally {
             (Err(_), _) => "12 copy",
         };
         self.count_at(Call::CarryOut, kind, next as usize % 65_536);
+        let apart = match kind {
+            _ if !is_edition(input.edition) => Some(another_edition(kind)),
+            "put in" => given_apart(kind, input),
+            _ => None,
+        };
+        if let Some(apart) = apart {
+            self.add(Call::CarryOut, apart);
+        }
+    }
+
+    /// A load that is accepted, by the table that it leaves.
+    pub fn loaded(&mut self, table: &[u64], highest_rule: usize) {
+        self.holds_exact_rank = holds_exact_rank(table, self.width);
+        self.count_at(Call::Load, "loaded", highest_rule);
     }
 
     /// A refused load, by the field that an image was refused at.
@@ -232,7 +331,7 @@ impl Tally {
             0 => "14 at 0",
             2 if is_of_other_width(image, input.width) => "14 at 2, the other width's length",
             2 => "14 at 2",
-            spot if spot >= bodies => "14 at a body",
+            spot if spot >= bodies => self.body(&input.image[spot as usize..]),
             spot => match (spot - 4) % 10 {
                 0 => "14 at an id",
                 4 => "14 at a slot",
@@ -240,6 +339,18 @@ impl Tally {
             },
         };
         self.count(Call::Load, kind);
+    }
+
+    /// The name of a refusal at a body, which the bytes start with; by its rank it is counted apart too.
+    fn body(&mut self, bytes: &[u8]) -> &'static str {
+        let word = |place: usize| u64::from_be_bytes(bytes[8 * place..8 * place + 8].try_into().expect("eight bytes"));
+        let words: Vec<u64> = (0..2 * self.width).map(word).collect();
+        let (value, mask) = (Bits::of_words(&words[..self.width]), Bits::of_words(&words[self.width..]));
+        let rule = Rule { id: 1, rank: word(2 * self.width) >> 32, value, mask, action: 0 };
+        if let Some(why) = unsound_by_rank(&rule, self.width) {
+            self.add(Call::Load, format!("14 at a body, {why}"));
+        }
+        "14 at a body"
     }
 
     /// What this run never reached.
@@ -275,6 +386,74 @@ fn print_row(call: &str, kind: &str, at_widths: &BTreeMap<usize, u64>) {
     let [two, five] = WIDTHS.map(|width| at_widths.get(&width).copied().unwrap_or(0));
     let others = at_widths.values().sum::<u64>() - two - five;
     println!("  {call:<12} {kind:<36} {two:>10} {five:>10} {others:>10}");
+}
+
+fn is_edition(edition: u32) -> bool {
+    [EDITION_10, EDITION_13].contains(&edition)
+}
+
+fn holds_exact_rank(table: &[u64], width: usize) -> bool {
+    WIDTHS.contains(&width) && table.chunks_exact(record_words(width)).any(|record| record[2 * width + 1] == EXACT_RANK)
+}
+
+fn rule_at(input: &Input, slot: usize) -> Rule {
+    rule_of(&input.table[slot * record_words(input.width)..][..record_words(input.width)], input.width)
+}
+
+/// Why a rule may not stand in a slot, where it is for its rank alone.
+fn unsound_by_rank(rule: &Rule, width: usize) -> Option<&'static str> {
+    let is_exact = rule.mask == Bits::all(width);
+    match rule.rank {
+        _ if !(Rule { rank: 0, ..*rule }).is_sound(width) => None,
+        65_536 if !is_exact => Some("65,536 not exact"),
+        65_537 if is_exact => Some("65,537 exact"),
+        _ => None,
+    }
+}
+
+/// The name of an answer to a sound rule for what its mask and its edition give it, where that is worth a count of its own.
+fn given_apart(kind: &str, input: &Input) -> Option<String> {
+    let rule = Given::of_record(&input.rule, input.width).ranked(input.width, input.edition).ok()?;
+    let is_exact = rule.mask == Bits::all(input.width);
+    match input.edition {
+        EDITION_10 if is_exact => Some(ranked_highest(kind)),
+        EDITION_13 if is_exact => Some(format!("{kind}, exact under 13")),
+        EDITION_10 if is_nearly_exact(rule.mask, input.width) => Some(format!("{kind}, nearly exact")),
+        _ => None,
+    }
+}
+
+/// Whether a mask has all bits of some word, and not all bits of the width.
+fn is_nearly_exact(mask: Bits, width: usize) -> bool {
+    mask != Bits::all(width) && mask.words(width).contains(&u64::MAX)
+}
+
+/// The name of a refusal that a rank or an edition has a part in, beside its number.
+fn refused_apart(call: Call, input: &Input, refusal: Refusal) -> Option<String> {
+    let number = refusal.number;
+    match number {
+        RECORD => unsound_by_rank(&rule_at(input, refusal.spot as usize), input.width).map(|why| format!("{number}, {why}")),
+        TIE | CROSSED => given_apart(&number.to_string(), input),
+        RULE if matches!(call, Call::PlanInsert | Call::CarryOut) => {
+            let given = Given::of_record(&input.rule, input.width);
+            let is_by_priority = Given { priority: 0, ..given }.is_sound();
+            match given.priority {
+                _ if !is_edition(input.edition) => Some(another_edition(&number.to_string())),
+                EXACT_RANK if is_by_priority && given.mask == Bits::all(input.width) => Some(format!("{number}, 65,536 exact")),
+                _ => None,
+            }
+        }
+        EDITION if call == Call::PlanInsert => {
+            let id = Given::of_record(&input.rule, input.width).id;
+            let is_present = (0..input.table.len() / record_words(input.width)).any(|slot| rule_at(input, slot).id == id);
+            is_present.then(|| format!("{number}, id present"))
+        }
+        EDITION => {
+            let slots = read_slots(&input.table, input.width).expect("checks 1 and 2 come before");
+            (!fits(&slots, input.plan[input.done as usize])).then(|| format!("{number}, does not fit"))
+        }
+        _ => None,
+    }
 }
 
 /// Which words of an input that is refused with 1 are at fault.

@@ -1,17 +1,20 @@
 // The exhaustive small check: the planned count against the shortest sequence of document 01's comparison class, at both widths.
-// All tables of up to four slots over two bits and four priorities, and seeded tables of five and six over three bits.
+// All tables of up to four slots over two bits and four priorities, all of up to three with exact rules under both editions, and
+// seeded tables of five and six over three bits.
 
 mod shortest;
 
 use crate::shortest::shortest_sequence;
 use reference::bits::{Bits, WIDTHS};
 use reference::carry::{carry_out, Carried, Progress};
-use reference::table::{first_out_of_order, read_slots, read_sound_table, words_of, Rule, Slot};
+use reference::given::{Given, EDITION_10, EDITION_13};
+use reference::table::{first_out_of_order, read_slots, read_sound_table, words_of, Rule, Slot, EXACT_RANK};
 use std::collections::BTreeMap;
 use std::time::Instant;
 use support::random::Random;
 
 const SLOTS_MOST: usize = 4;
+const EXACT_SLOTS_MOST: usize = 3;
 const SEEDED_TABLES: u64 = 60_000;
 const SEED: u64 = 1;
 
@@ -27,35 +30,45 @@ struct Counts {
     refused: BTreeMap<u32, u64>,
 }
 
-/// A new rule, and its record, at each width.
+/// A new rule as it is given, with its edition, and as it then stands in the table, at each width.
 struct New {
-    rules: Both<Rule>,
+    edition: u32,
     records: Both<Vec<u64>>,
+    rules: Both<Rule>,
 }
 
 impl New {
-    fn of(rules: Both<Rule>) -> New {
-        New { rules, records: [0, 1].map(|at| rules[at].record(WIDTHS[at])) }
+    /// The ranks told are given as priorities.
+    fn of(rules: Both<Rule>, edition: u32) -> New {
+        let records = [0, 1].map(|at| rules[at].record(WIDTHS[at]));
+        let ranked = |at: usize| Given::of_record(&records[at], WIDTHS[at]).ranked(WIDTHS[at], edition);
+        New { edition, rules: [0, 1].map(|at| ranked(at).expect("a sound rule")), records }
     }
+}
+
+/// What the rules of a table have at the bits that their patterns don't tell.
+#[derive(Clone, Copy, PartialEq)]
+enum Others {
+    Uncared,
+    /// 0, cared for: a rule whose pattern has no uncared bit is exact.
+    Cared,
 }
 
 fn main() {
     let start = Instant::now();
-    let mut counts = Counts::default();
-    let new_rules = every_new_rule();
-    for slots in 1..=SLOTS_MOST {
-        let mut tables = [vec![None; slots], vec![None; slots]];
-        each_table(&mut tables, 0, &mut |tables| check_table(tables, &new_rules, &mut counts));
-    }
+    let counts = check_every_table(SLOTS_MOST, Others::Uncared, &[EDITION_13]);
     print("every table of one to four slots over two bits", &counts);
     // All there are: a run that leaves some out does not pass.
     assert_eq!((counts.tables, counts.planned.values().sum::<u64>()), (206_965, 3_736_462));
+    let counts = check_every_table(EXACT_SLOTS_MOST, Others::Cared, &[EDITION_10, EDITION_13]);
+    print("every table of one to three slots over two bits, all others cared for, under both editions", &counts);
+    assert_eq!((counts.tables, counts.planned.values().sum::<u64>()), (23_735, 475_414));
     let mut counts = Counts::default();
     for number in 0..SEEDED_TABLES {
         let mut random = Random::new(SEED, number);
         let slots = random.between(5, 6);
         let tables = seeded_tables(&mut random, slots);
-        let new_rules: Vec<New> = (0..4).map(|_| New::of(seeded_rules(&mut random, 99))).collect();
+        let new_rules: Vec<New> = (0..4).map(|_| New::of(seeded_rules(&mut random, 99), EDITION_13)).collect();
         check_table(&tables, &new_rules, &mut counts);
     }
     print("seeded tables of five and six slots over three bits", &counts);
@@ -69,16 +82,32 @@ fn print(what: &str, counts: &Counts) {
     println!("  inserts refused, by number: {:?}", counts.refused);
 }
 
+/// Every table of up to so many slots, with every new rule under each of the editions.
+fn check_every_table(slots_most: usize, others: Others, editions: &[u32]) -> Counts {
+    let mut counts = Counts::default();
+    let new_rules: Vec<New> = editions.iter().flat_map(|&edition| every_new_rule(others, edition)).collect();
+    for slots in 1..=slots_most {
+        let mut tables = [vec![None; slots], vec![None; slots]];
+        each_table(&mut tables, 0, others, &mut |tables| check_table(tables, &new_rules, &mut counts));
+    }
+    counts
+}
+
 /// The rule whose pattern's digits to base 3 say 0, 1 or uncared for at each of the bits, of which the first stands in the first
 /// word of the value and the last in its last word.
-fn rules_of(id: u32, priority: u64, pattern: usize, bits: usize) -> Both<Rule> {
+fn rules_of(id: u32, rank: u64, pattern: usize, bits: usize, others: Others) -> Both<Rule> {
     WIDTHS.map(|width| {
-        let mut rule = Rule { id, priority, value: Bits::NONE, mask: Bits::NONE, action: id };
+        let mut rule = Rule { id, rank, value: Bits::NONE, mask: Bits::NONE, action: id };
+        let mut told = Bits::NONE;
         for bit in 0..bits {
-            let place = 64 * ((width - 1) * bit).div_ceil(bits - 1) + bit;
+            let place = Bits::at(64 * ((width - 1) * bit).div_ceil(bits - 1) + bit);
             let digit = pattern / 3usize.pow(bit as u32) % 3;
-            rule.mask |= if digit < 2 { Bits::at(place) } else { Bits::NONE };
-            rule.value |= if digit == 1 { Bits::at(place) } else { Bits::NONE };
+            told |= place;
+            rule.mask |= if digit < 2 { place } else { Bits::NONE };
+            rule.value |= if digit == 1 { place } else { Bits::NONE };
+        }
+        if others == Others::Cared {
+            rule.mask |= Bits::all(width) ^ told;
         }
         rule
     })
@@ -92,19 +121,20 @@ fn empty(tables: &mut Both<Vec<Slot>>, slot: usize) {
     tables.iter_mut().for_each(|table| table[slot] = None);
 }
 
-/// Every sound table that agrees with `tables` below `slot`; the rule in slot k has id k + 1. Priorities are even here and any
-/// in a new rule, so that there is room between two of them.
-fn each_table(tables: &mut Both<Vec<Slot>>, slot: usize, check: &mut dyn FnMut(&Both<Vec<Slot>>)) {
+/// Every sound table that agrees with `tables` below `slot`; the rule in slot k has id k + 1. Ranks are even here, priorities of new
+/// rules any, so that there is room between two of them; an exact rule may also have rank 65,536.
+fn each_table(tables: &mut Both<Vec<Slot>>, slot: usize, others: Others, check: &mut dyn FnMut(&Both<Vec<Slot>>)) {
     if slot == tables[0].len() {
         return check(tables);
     }
     empty(tables, slot);
-    each_table(tables, slot + 1, check);
+    each_table(tables, slot + 1, others, check);
     for pattern in 0..9 {
-        for priority in 1..=4 {
-            set(tables, slot, rules_of(slot as u32 + 1, 2 * priority, pattern, 2));
-            if first_out_of_order(&tables[0][..=slot]).is_none() {
-                each_table(tables, slot + 1, check);
+        for rank in [2, 4, 6, 8, EXACT_RANK] {
+            let rules = rules_of(slot as u32 + 1, rank, pattern, 2, others);
+            set(tables, slot, rules);
+            if rules[0].is_sound(WIDTHS[0]) && first_out_of_order(&tables[0][..=slot]).is_none() {
+                each_table(tables, slot + 1, others, check);
             }
         }
     }
@@ -112,25 +142,25 @@ fn each_table(tables: &mut Both<Vec<Slot>>, slot: usize, check: &mut dyn FnMut(&
 }
 
 /// New rules of every pattern and of every priority at, between and beside those of the tables.
-fn every_new_rule() -> Vec<New> {
-    let new = |pattern: usize, priority: u64| New::of(rules_of(99, priority, pattern, 2));
+fn every_new_rule(others: Others, edition: u32) -> Vec<New> {
+    let new = |pattern: usize, priority: u64| New::of(rules_of(99, priority, pattern, 2, others), edition);
     (0..9).flat_map(|pattern| (1..=9).map(move |priority| new(pattern, priority))).collect()
 }
 
 fn seeded_rules(random: &mut Random, id: u32) -> Both<Rule> {
-    rules_of(id, random.between(0, 16) as u64, random.below(27), 3)
+    rules_of(id, random.between(0, 16) as u64, random.below(27), 3, Others::Uncared)
 }
 
-/// Patterns at random, priorities from the last slot to the first; one or two slots are empty.
+/// Patterns at random, ranks from the last slot to the first; one or two slots are empty.
 fn seeded_tables(random: &mut Random, slots: usize) -> Both<Vec<Slot>> {
     let mut tables = [vec![None; slots], vec![None; slots]];
     let empty = [random.below(slots), random.below(slots)];
     for slot in (0..slots).rev().filter(|slot| !empty.contains(slot)) {
         let mut rules = seeded_rules(random, slot as u32 + 1);
         let later = tables[0][slot + 1..].iter().flatten().filter(|later: &&Rule| later.overlaps(&rules[0]));
-        let least = later.map(|later| later.priority + 1).max().unwrap_or(1);
-        let priority = least + random.below(3) as u64;
-        rules.iter_mut().for_each(|rule| rule.priority = priority);
+        let least = later.map(|later| later.rank + 1).max().unwrap_or(1);
+        let rank = least + random.below(3) as u64;
+        rules.iter_mut().for_each(|rule| rule.rank = rank);
         set(&mut tables, slot, rules);
     }
     tables
@@ -144,10 +174,10 @@ fn check_table(tables: &Both<Vec<Slot>>, new_rules: &[New], counts: &mut Counts)
     let words = [0, 1].map(|at| words_of(&tables[at], WIDTHS[at]));
     let has_empty_slot = tables[at].contains(&None);
     for new in new_rules {
-        let fail = |what: &str| fail(&tables[at], &new.rules[at], what);
-        let expected = reference::plan::plan_insert(&words[at], WIDTHS[at], &new.records[at], tables[at].len());
+        let fail = |what: &str| fail(&tables[at], new, at, what);
+        let expected = reference::plan::plan_insert(&words[at], WIDTHS[at], &new.records[at], new.edition, tables[at].len());
         for (place, width) in WIDTHS.into_iter().enumerate().filter(|(place, _)| has_empty_slot || *place == at) {
-            let planned = support::calls::plan_insert(&words[place], width, &new.records[place]);
+            let planned = support::calls::plan_insert(&words[place], width, &new.records[place], new.edition);
             if planned != expected {
                 fail(&format!("the library says {planned:x?} at width {width}, the reference {expected:x?}"));
             }
@@ -159,7 +189,7 @@ fn check_table(tables: &Both<Vec<Slot>>, new_rules: &[New], counts: &mut Counts)
                 if shortest != plan.len() {
                     fail(&format!("planned {} writes, the search found {shortest}", plan.len()));
                 }
-                if !keeps_order(words[at].clone(), WIDTHS[at], &new.records[at], &plan) {
+                if !keeps_order(words[at].clone(), at, new, &plan) {
                     fail(&format!("the plan {plan:x?} does not fit or leaves the order"));
                 }
                 *counts.planned.entry(plan.len()).or_default() += 1;
@@ -169,9 +199,10 @@ fn check_table(tables: &Both<Vec<Slot>>, new_rules: &[New], counts: &mut Counts)
 }
 
 /// The plan carried out by the reference: each write fits and leaves the table in order, and the last table is sound.
-fn keeps_order(mut words: Vec<u64>, width: usize, rule: &[u64], plan: &[u32]) -> bool {
+fn keeps_order(mut words: Vec<u64>, at: usize, new: &New, plan: &[u32]) -> bool {
+    let width = WIDTHS[at];
     let mut progress = Progress { done: 0, total: plan.len() as u32 };
-    while carry_out(&mut words, width, rule, plan, &mut progress) == Ok(Carried::Wrote) {
+    while carry_out(&mut words, width, &new.records[at], new.edition, plan, &mut progress) == Ok(Carried::Wrote) {
         if read_slots(&words, width).map_or(true, |slots| first_out_of_order(&slots).is_some()) {
             return false;
         }
@@ -179,11 +210,11 @@ fn keeps_order(mut words: Vec<u64>, width: usize, rule: &[u64], plan: &[u32]) ->
     progress.done == progress.total && read_sound_table(&words, width).is_ok()
 }
 
-fn fail(table: &[Slot], new: &Rule, what: &str) -> ! {
+fn fail(table: &[Slot], new: &New, at: usize, what: &str) -> ! {
     println!("exhaustive: MISMATCH: {what}");
     for (slot, entry) in table.iter().enumerate() {
         println!("  slot {slot}: {entry:x?}");
     }
-    println!("  new rule: {new:x?}");
+    println!("  new rule, given under edition {}: {:x?}", new.edition, new.rules[at]);
     std::process::exit(1)
 }

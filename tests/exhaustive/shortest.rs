@@ -70,7 +70,7 @@ impl Search {
             return true;
         }
         let (earlier, later) = (&self.rules[earlier as usize], &self.rules[later as usize]);
-        !earlier.overlaps(later) || earlier.priority > later.priority
+        !earlier.overlaps(later) || earlier.rank > later.rank
     }
 
     /// All tables one copy further, each once.

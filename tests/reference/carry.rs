@@ -1,8 +1,9 @@
 // Carrying out one write of a plan, with the progress record.
 // A call that declines, and one that answers "finished", changes nothing.
 
+use crate::given::Given;
 use crate::plan::{EMPTYING, PUT_IN};
-use crate::table::{check_shape, check_words, read_slots, record_words, refuse, rule_of, words_of, Refusal, Slot, RULE, WRITE};
+use crate::table::{check_shape, check_words, read_slots, record_words, refuse, words_of, Refusal, Slot, WRITE};
 
 #[derive(Clone, Copy, Debug, PartialEq, Eq)]
 pub struct Progress {
@@ -16,11 +17,13 @@ pub enum Carried {
     Finished,
 }
 
-/// The rule is a record, which has its words in a delete and a finished plan too.
+/// The rule is a record, which has its words in a delete and a finished plan too. What they say, and the edition, counts "only where
+/// a rule is put in".
 pub fn carry_out(
     words: &mut [u64],
     width: usize,
     rule: &[u64],
+    edition: u32,
     plan: &[u32],
     progress: &mut Progress,
 ) -> Result<Carried, Refusal> {
@@ -34,15 +37,15 @@ pub fn carry_out(
         return Ok(Carried::Finished);
     }
     let write = plan[progress.done as usize];
-    let new = rule_of(rule, width);
-    if write / 65_536 == PUT_IN && !new.is_sound() {
-        return refuse(RULE, 0);
-    }
+    let put_in = match write / 65_536 {
+        PUT_IN => Some(Given::of_record(rule, width).ranked(width, edition)?),
+        _ => None,
+    };
     if !fits(&slots, write) {
         return refuse(WRITE, progress.done as usize);
     }
     slots[write as usize % 65_536] = match write / 65_536 {
-        PUT_IN => Some(new),
+        PUT_IN => put_in,
         EMPTYING => None,
         from => slots[from as usize],
     };
@@ -51,7 +54,7 @@ pub fn carry_out(
     Ok(Carried::Wrote)
 }
 
-fn fits(slots: &[Slot], write: u32) -> bool {
+pub fn fits(slots: &[Slot], write: u32) -> bool {
     let (from, to) = (write / 65_536, write as usize % 65_536);
     match from {
         PUT_IN => may_be_overwritten(slots, to),

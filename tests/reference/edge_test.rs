@@ -1,19 +1,21 @@
 // Document 01's tables at the edge and its traps, and tables for requests of document 02, on the reference.
-// Tables are written as lists of slots with rules by id, priority and pattern; each is asked at both widths, with the same answer.
+// Tables are written as lists of slots with rules by id, rank and pattern. Each is asked at both widths and under both editions, with
+// the same answer: no rule here has every mask bit set, so that a rule that is given has its priority for its rank.
 
 use crate::bits::{Bits, WIDTHS};
 use crate::carry::{carry_out, Carried, Progress};
+use crate::given::{EDITION_10, EDITION_13};
 use crate::lookup::{lookup, slot_record, Found};
 use crate::plan::{plan_delete, plan_insert, write_word, EMPTYING, PUT_IN};
 use crate::table::*;
 
 /// A pattern is of `0 1 *`, highest bit first, the rest uncared for.
-pub fn rule(id: u32, priority: u64, pattern: &str) -> Rule {
+pub fn rule(id: u32, rank: u64, pattern: &str) -> Rule {
     let bits = |wanted: &str| {
         let is_wanted = |place: &usize| wanted.contains(&pattern[*place..place + 1]);
         (0..pattern.len()).filter(is_wanted).fold(Bits::NONE, |bits, place| bits | Bits::at(place))
     };
-    Rule { id, priority, value: bits("1"), mask: bits("01"), action: id + 100 }
+    Rule { id, rank, value: bits("1"), mask: bits("01"), action: id + 100 }
 }
 
 pub fn refused<T>(number: u32, spot: u64) -> Result<T, Refusal> {
@@ -31,20 +33,30 @@ pub fn at_each_width<T: PartialEq + std::fmt::Debug>(answer: impl Fn(usize) -> T
     answers.into_iter().next().unwrap()
 }
 
-/// The plan for `new`, carried out, with order tested after each write.
-fn plan_of(slots: &[Slot], new: &Rule) -> Result<Vec<u32>, Refusal> {
-    at_each_width(|width| plan_at(width, slots, new))
+/// The same, under each edition.
+fn at_each<T: PartialEq + std::fmt::Debug>(answer: impl Fn(usize, u32) -> T) -> T {
+    at_each_width(|width| {
+        let [under_10, under_13] = [EDITION_10, EDITION_13].map(|edition| answer(width, edition));
+        assert_eq!(under_10, under_13, "under 1.0 and under 1.3, at {width} words");
+        under_13
+    })
 }
 
-pub fn plan_at(width: usize, slots: &[Slot], new: &Rule) -> Result<Vec<u32>, Refusal> {
+/// The plan for `new`, carried out, with order tested after each write.
+fn plan_of(slots: &[Slot], new: &Rule) -> Result<Vec<u32>, Refusal> {
+    at_each(|width, edition| plan_at(width, slots, new, edition).map(|(plan, _)| plan))
+}
+
+/// The plan, and the slots once it is carried out.
+pub fn plan_at(width: usize, slots: &[Slot], new: &Rule, edition: u32) -> Result<(Vec<u32>, Vec<Slot>), Refusal> {
     let (mut words, record) = (words_of(slots, width), new.record(width));
-    let plan = plan_insert(&words, width, &record, slots.len())?;
+    let plan = plan_insert(&words, width, &record, edition, slots.len())?;
     let mut progress = Progress { done: 0, total: plan.len() as u32 };
-    while carry_out(&mut words, width, &record, &plan, &mut progress)? == Carried::Wrote {
+    while carry_out(&mut words, width, &record, edition, &plan, &mut progress)? == Carried::Wrote {
         assert_eq!(first_out_of_order(&read_slots(&words, width).unwrap()), None);
     }
-    assert!(read_sound_table(&words, width).is_ok());
-    Ok(plan)
+    let slots = read_sound_table(&words, width).expect("a plan leaves a sound table");
+    Ok((plan, slots))
 }
 
 fn checks_of(slots: &[Slot]) -> Result<Vec<Slot>, Refusal> {
@@ -99,11 +111,10 @@ fn priorities_of_apart_rules_are_not_compared() {
 #[test]
 fn short_buffer() {
     let slots = [None, Some(rule(1, 30, "1")), Some(rule(2, 10, "1"))];
-    for width in WIDTHS {
-        let words = words_of(&slots, width);
-        assert_eq!(plan_insert(&words, width, &rule(3, 20, "1").record(width), 1), refused(SHORT, 2));
-        assert_eq!(plan_delete(&words, width, 2, 0), refused(SHORT, 1));
-    }
+    let new = rule(3, 20, "1");
+    let planned = at_each(|width, edition| plan_insert(&words_of(&slots, width), width, &new.record(width), edition, 1));
+    assert_eq!(planned, refused(SHORT, 2));
+    assert_eq!(at_each_width(|width| plan_delete(&words_of(&slots, width), width, 2, 0)), refused(SHORT, 1));
 }
 
 #[test]
@@ -119,9 +130,9 @@ fn deletes() {
 fn slot_counts() {
     for (width, slot_words) in [(2, 6), (5, 12)] {
         let record = rule(1, 1, "1").record(width);
-        assert_eq!(plan_insert(&vec![0; slot_words * 1024], width, &record, 1), Ok(vec![put(0)]));
+        assert_eq!(plan_insert(&vec![0; slot_words * 1024], width, &record, EDITION_13, 1), Ok(vec![put(0)]));
         for count in [0, 1, slot_words - 1, slot_words + 1, slot_words * 1025] {
-            assert_eq!(plan_insert(&vec![0; count], width, &record, 1), refused(SHAPE, 0));
+            assert_eq!(plan_insert(&vec![0; count], width, &record, EDITION_13, 1), refused(SHAPE, 0));
             assert_eq!(lookup(&vec![0; count], width, &vec![0; width]), refused(SHAPE, 0));
         }
     }
@@ -198,10 +209,10 @@ fn lookup_takes_the_lowest_slot_even_out_of_order() {
 
 /// One call of carrying out, with what it answers, the slots after it and how far it gets.
 fn carried(slots: &[Slot], plan: &[u32], new: &Rule, done: u32, total: u32) -> (Result<Carried, Refusal>, Vec<Slot>, u32) {
-    at_each_width(|width| {
+    at_each(|width, edition| {
         let mut words = words_of(slots, width);
         let mut progress = Progress { done, total };
-        let answer = carry_out(&mut words, width, &new.record(width), plan, &mut progress);
+        let answer = carry_out(&mut words, width, &new.record(width), edition, plan, &mut progress);
         (answer, read_slots(&words, width).expect("the records stay sound"), progress.done)
     })
 }

@@ -3,8 +3,7 @@
 
 use crate::bits::Bits;
 use crate::table::{
-    check_ids_and_order, check_shape, read_slots, read_sound_table, refuse, words_of, Refusal, Rule, Slot, IMAGE, PRIORITY_MOST,
-    SHORT,
+    check_ids_and_order, check_shape, read_slots, read_sound_table, refuse, words_of, Refusal, Rule, Slot, IMAGE, SHORT,
 };
 
 const HEAD_BYTES: usize = 4;
@@ -43,7 +42,7 @@ pub fn image_of(slots: &[Slot], width: usize) -> Vec<u8> {
         for word in rule.value.words(width).iter().chain(rule.mask.words(width)) {
             image.extend(word.to_be_bytes());
         }
-        image.extend((rule.priority as u32).to_be_bytes());
+        image.extend((rule.rank as u32).to_be_bytes());
         image.extend(rule.action.to_be_bytes());
     }
     image
@@ -102,16 +101,17 @@ fn read_contents(image: &[u8], width: usize, count: usize, rules: usize) -> Resu
     Ok(places)
 }
 
+/// The rule that a body and its entry's id, which is not 0, mean: one that a slot may hold.
 fn read_body(image: &[u8], width: usize, start: usize, id: u32) -> Result<Rule, Refusal> {
     let numbers = start + 16 * width;
     let rule = Rule {
         id,
         value: words_at(image, start, width),
         mask: words_at(image, start + 8 * width, width),
-        priority: number_at(image, numbers, 4),
+        rank: number_at(image, numbers, 4),
         action: number_at(image, numbers + 4, 4) as u32,
     };
-    if !(rule.value & !rule.mask).is_none() || rule.priority > PRIORITY_MOST {
+    if !rule.is_sound(width) {
         return refuse(IMAGE, start);
     }
     Ok(rule)

@@ -73,9 +73,9 @@ fn load_declines_wrong_fields() {
         assert_eq!(load_edited(9, 2), refused(IMAGE, 18));
         assert_eq!(load_edited(13, 25), refused(IMAGE, 10));
         assert_eq!(load_edited(24 + 8 * width - 1, 1), refused(IMAGE, 24)); // the value's last bit
-        assert_eq!(load_edited(24 + 2 * body - 7, 1), refused(IMAGE, 24 + body as u64)); // priority 65,538
+        assert_eq!(load_edited(24 + 2 * body - 7, 1), refused(IMAGE, 24 + body as u64)); // rank 65,538
         assert_eq!(load_edited(17, 7), refused(TWICE, 2));
-        assert_eq!(load_edited(24 + body - 6, 0), refused(ORDER, 2)); // priority 1
+        assert_eq!(load_edited(24 + body - 6, 0), refused(ORDER, 2)); // rank 1
     }
 }
 

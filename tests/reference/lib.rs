@@ -3,6 +3,7 @@
 
 pub mod bits;
 pub mod carry;
+pub mod given;
 pub mod image;
 pub mod lookup;
 pub mod plan;
@@ -11,6 +12,8 @@ pub mod table;
 
 #[cfg(test)]
 mod edge_test;
+#[cfg(test)]
+mod editions_test;
 #[cfg(test)]
 mod image_test;
 #[cfg(test)]

@@ -1,9 +1,10 @@
 // How a plan is found: A, B, down and up costs, the choice, the chain, and the plan's words.
 // The costs are written as the paper defines them, for one slot from those of the slots on its far side.
 
+use crate::given::Given;
 use crate::table::{
-    check_shape, check_words, read_sound_table, record_words, refuse, rule_of, Refusal, Rule, Slot, CROSSED, FULL, KNOWN, RULE,
-    SHORT, TIE, UNKNOWN,
+    check_shape, check_words, read_sound_table, record_words, refuse, Refusal, Rule, Slot, CROSSED, FULL, KNOWN, RULE, SHORT,
+    TIE, UNKNOWN,
 };
 
 pub const PUT_IN: u32 = 65_535;
@@ -142,28 +143,26 @@ fn writes_of_chain(chain: &[usize]) -> Vec<u32> {
     writes
 }
 
-/// Checks 1 to 11 and the plan's words; the new rule is a record, `room` is the length of the lent plan buffer, in words.
-pub fn plan_insert(words: &[u64], width: usize, rule: &[u64], room: usize) -> Result<Vec<u32>, Refusal> {
+/// Checks 1 to 11, 18 after 5, and the plan's words; the new rule is a record, `room` is the length of the lent plan buffer, in words.
+pub fn plan_insert(words: &[u64], width: usize, rule: &[u64], edition: u32, room: usize) -> Result<Vec<u32>, Refusal> {
     check_shape(words.len(), width)?;
     check_words(rule, record_words(width))?;
     let slots = read_sound_table(words, width)?;
-    let writes = insert_writes(&slots, &rule_of(rule, width))?;
+    let new = Given::of_record(rule, width).ranked(width, edition)?;
+    let writes = insert_writes(&slots, &new)?;
     if writes.len() > room {
         return refuse(SHORT, writes.len());
     }
     Ok(writes)
 }
 
-/// Checks 5 to 10 and the plan's words, for a sound table.
+/// Checks 6 to 10 and the plan's words, for a sound table and a sound rule.
 fn insert_writes(slots: &[Slot], new: &Rule) -> Result<Vec<u32>, Refusal> {
-    if !new.is_sound() {
-        return refuse(RULE, 0);
-    }
     let slot_where = |test: &dyn Fn(&Rule) -> bool| slots.iter().position(|entry| entry.as_ref().is_some_and(test));
     if let Some(slot) = slot_where(&|rule| rule.id == new.id) {
         return refuse(KNOWN, slot);
     }
-    if let Some(slot) = slot_where(&|rule| rule.overlaps(new) && rule.priority == new.priority) {
+    if let Some(slot) = slot_where(&|rule| rule.overlaps(new) && rule.rank == new.rank) {
         return refuse(TIE, slot);
     }
     if slots.iter().all(|entry| entry.is_some()) {

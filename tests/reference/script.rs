@@ -3,9 +3,10 @@
 
 use crate::bits::Bits;
 use crate::carry::{carry_out, Carried, Progress};
+use crate::given::{Given, EDITION_13};
 use crate::lookup::{lookup, Found};
 use crate::plan::{plan_delete, plan_insert, EMPTYING, PUT_IN};
-use crate::table::{record_words, refuse, Refusal, Rule, LINE, SHAPE, SLOTS_MOST};
+use crate::table::{record_words, refuse, Refusal, LINE, SHAPE, SLOTS_MOST};
 
 const LINE_BYTES_MOST: usize = 256;
 
@@ -15,7 +16,7 @@ const BITS: usize = 64 * WIDTH;
 
 enum Command {
     Table { slots: u32 },
-    Insert(Rule),
+    Insert(Given),
     Delete { id: u32 },
     Lookup { key: Bits },
 }
@@ -54,7 +55,7 @@ fn read_line(line: &[u8]) -> Option<Command> {
         [b"T", slots] => Some(Command::Table { slots: read_number(slots)? }),
         [b"I", id, priority, pattern, action] => {
             let (value, mask) = read_pattern(pattern)?;
-            Some(Command::Insert(Rule {
+            Some(Command::Insert(Given {
                 id: read_number(id)?,
                 priority: u64::from(read_number(priority)?),
                 value,
@@ -118,7 +119,7 @@ fn answer_to(command: Command, words: &mut Vec<u64>) -> Result<String, Refusal> 
         }
         Command::Insert(rule) => {
             let record = rule.record(WIDTH);
-            let plan = plan_insert(words, WIDTH, &record, words.len() / record_words(WIDTH))?;
+            let plan = plan_insert(words, WIDTH, &record, EDITION_13, words.len() / record_words(WIDTH))?;
             Ok(carried_out(words, &record, &plan))
         }
         Command::Delete { id } => {
@@ -133,10 +134,10 @@ fn answer_to(command: Command, words: &mut Vec<u64>) -> Result<String, Refusal> 
     }
 }
 
-/// Carries the whole plan out and gives the lines that print it.
+/// Carries the whole plan out and gives the lines that print it. The script's edition is 13, with the words of no rule too.
 fn carried_out(words: &mut [u64], rule: &[u64], plan: &[u32]) -> String {
     let mut progress = Progress { done: 0, total: plan.len() as u32 };
-    while carry_out(words, WIDTH, rule, plan, &mut progress) == Ok(Carried::Wrote) {}
+    while carry_out(words, WIDTH, rule, EDITION_13, plan, &mut progress) == Ok(Carried::Wrote) {}
     assert_eq!(progress.done, progress.total, "our own plan is carried out in full");
     let mut text = format!("P {}\n", plan.len());
     for write in plan {

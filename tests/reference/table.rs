@@ -5,6 +5,8 @@ use crate::bits::{Bits, WIDTHS};
 
 pub const SLOTS_MOST: usize = 1024;
 pub const PRIORITY_MOST: u64 = 65_535;
+/// The rank above all priorities, of rules with every mask bit set.
+pub const EXACT_RANK: u64 = 65_536;
 
 pub const SHAPE: u32 = 1;
 pub const RECORD: u32 = 2;
@@ -20,6 +22,7 @@ pub const SHORT: u32 = 11;
 pub const WRITE: u32 = 12;
 pub const LINE: u32 = 13;
 pub const IMAGE: u32 = 14;
+pub const EDITION: u32 = 18;
 
 /// Why a call declines: document 01's number, and the spot it names (0 where none is named).
 #[derive(Clone, Copy, Debug, PartialEq, Eq)]
@@ -37,18 +40,21 @@ pub fn record_words(width: usize) -> usize {
     2 * width + 2
 }
 
+/// A rule as it stands in a slot: "the record and the image keep the rank".
 #[derive(Clone, Copy, Debug, PartialEq, Eq)]
 pub struct Rule {
     pub id: u32,
-    pub priority: u64,
+    pub rank: u64,
     pub value: Bits,
     pub mask: Bits,
     pub action: u32,
 }
 
 impl Rule {
-    pub fn is_sound(&self) -> bool {
-        self.id != 0 && self.priority <= PRIORITY_MOST && (self.value & !self.mask).is_none()
+    /// "Both allow 65,536 where every mask bit is set", which is every bit of the width.
+    pub fn is_sound(&self, width: usize) -> bool {
+        let is_allowed = self.rank <= PRIORITY_MOST || self.rank == EXACT_RANK && self.mask == Bits::all(width);
+        self.id != 0 && is_allowed && (self.value & !self.mask).is_none()
     }
 
     /// "A key matches when it equals the value at all bits cared for."
@@ -63,9 +69,9 @@ impl Rule {
         (cared_for_by_both & different).is_none()
     }
 
-    /// "The higher of an overlapping pair precedes the other."
+    /// "The higher of an overlapping pair precedes the other", and "wherever two rules' priorities were compared, ranks are".
     pub fn precedes(&self, other: &Rule) -> bool {
-        self.overlaps(other) && self.priority > other.priority
+        self.overlaps(other) && self.rank > other.rank
     }
 
     pub fn depends_on(&self, other: &Rule) -> bool {
@@ -83,7 +89,7 @@ pub fn rule_of(record: &[u64], width: usize) -> Rule {
     let (mask, rest) = rest.split_at(width);
     Rule {
         id: (rest[0] >> 32) as u32,
-        priority: rest[1],
+        rank: rest[1],
         value: Bits::of_words(value),
         mask: Bits::of_words(mask),
         action: rest[0] as u32,
@@ -124,7 +130,7 @@ pub fn read_slots(words: &[u64], width: usize) -> Result<Vec<Slot>, Refusal> {
             continue;
         }
         let rule = rule_of(record, width);
-        if !rule.is_sound() {
+        if !rule.is_sound(width) {
             return refuse(RECORD, slot);
         }
         slots.push(Some(rule));
@@ -147,12 +153,12 @@ pub fn check_ids_and_order(slots: &[Slot]) -> Result<(), Refusal> {
     }
 }
 
-/// The lowest slot that has an earlier overlapping rule of no higher priority; copies of one id aren't compared.
+/// The lowest slot that has an earlier overlapping rule of no higher rank; copies of one id aren't compared.
 pub fn first_out_of_order(slots: &[Slot]) -> Option<usize> {
     for (slot, entry) in slots.iter().enumerate() {
         if let Some(rule) = entry {
             for earlier in slots[..slot].iter().flatten() {
-                if earlier.id != rule.id && earlier.overlaps(rule) && earlier.priority <= rule.priority {
+                if earlier.id != rule.id && earlier.overlaps(rule) && earlier.rank <= rule.rank {
                     return Some(slot);
                 }
             }
@@ -175,7 +181,7 @@ pub fn words_of(slots: &[Slot], width: usize) -> Vec<u64> {
             Some(rule) => {
                 words.extend_from_slice(rule.value.words(width));
                 words.extend_from_slice(rule.mask.words(width));
-                words.extend([u64::from(rule.id) << 32 | u64::from(rule.action), rule.priority]);
+                words.extend([u64::from(rule.id) << 32 | u64::from(rule.action), rule.rank]);
             }
             None => words.resize(words.len() + record_words(width), 0),
         }

@@ -4,6 +4,7 @@
 use crate::bits::Bits;
 use crate::carry::{carry_out, Carried, Progress};
 use crate::edge_test::{plan_at, put, refused, rule};
+use crate::given::EDITION_13;
 use crate::image::save;
 use crate::lookup::{lookup, slot_record, Found};
 use crate::plan::{plan_delete, plan_insert, write_word, EMPTYING};
@@ -13,9 +14,9 @@ const LAST_BIT: usize = 319;
 const WRONG_WIDTHS: [usize; 5] = [0, 1, 3, 4, 6];
 
 /// A rule that cares for the last bit of the fifth word alone.
-fn last_bit_rule(id: u32, priority: u64, is_set: bool, action: u32) -> Rule {
+fn last_bit_rule(id: u32, rank: u64, is_set: bool, action: u32) -> Rule {
     let value = if is_set { Bits::at(LAST_BIT) } else { Bits::NONE };
-    Rule { id, priority, value, mask: Bits::at(LAST_BIT), action }
+    Rule { id, rank, value, mask: Bits::at(LAST_BIT), action }
 }
 
 fn slots() -> [Slot; 3] {
@@ -28,15 +29,16 @@ fn new_rule() -> Rule {
 
 fn words_with_new_rule() -> Vec<u64> {
     let mut words = words_of(&slots(), 5);
-    let plan = plan_insert(&words, 5, &new_rule().record(5), 3).unwrap();
+    let plan = plan_insert(&words, 5, &new_rule().record(5), EDITION_13, 3).unwrap();
     let mut progress = Progress { done: 0, total: 2 };
-    while carry_out(&mut words, 5, &new_rule().record(5), &plan, &mut progress) == Ok(Carried::Wrote) {}
+    while carry_out(&mut words, 5, &new_rule().record(5), EDITION_13, &plan, &mut progress) == Ok(Carried::Wrote) {}
     words
 }
 
 #[test]
 fn the_last_bit_of_the_fifth_word_decides() {
-    assert_eq!(plan_at(5, &slots(), &new_rule()), Ok(vec![write_word(1, 2), put(1)]));
+    let planned = plan_at(5, &slots(), &new_rule(), EDITION_13).map(|(plan, _)| plan);
+    assert_eq!(planned, Ok(vec![write_word(1, 2), put(1)]));
     let words = words_with_new_rule();
     let top = 1 << 63;
     assert_eq!(lookup(&words, 5, &[top, 0, 0, 0, 1]), Ok(Found::Hit { slot: 1, id: 3, action: 9 }));
@@ -49,9 +51,9 @@ fn the_last_bit_of_the_fifth_word_decides() {
 fn rules_apart_by_the_last_bit_do_not_tie() {
     let words = words_with_new_rule();
     let apart = last_bit_rule(4, 25, false, 9).record(5);
-    assert_eq!(plan_insert(&words, 5, &apart, 3), refused(FULL, 0));
+    assert_eq!(plan_insert(&words, 5, &apart, EDITION_13, 3), refused(FULL, 0));
     let equal = last_bit_rule(4, 25, true, 9).record(5);
-    assert_eq!(plan_insert(&words, 5, &equal, 3), refused(TIE, 1));
+    assert_eq!(plan_insert(&words, 5, &equal, EDITION_13, 3), refused(TIE, 1));
 }
 
 #[test]
@@ -59,10 +61,10 @@ fn the_same_words_at_the_other_width() {
     let words = words_with_new_rule();
     assert_eq!(words.len(), 36);
     let record = rule(4, 25, "1").record(2);
-    assert_eq!(plan_insert(&words, 2, &record, 6), refused(RECORD, 0));
+    assert_eq!(plan_insert(&words, 2, &record, EDITION_13, 6), refused(RECORD, 0));
     assert_eq!(lookup(&words, 2, &[0, 0]), refused(RECORD, 0));
     assert_eq!(slot_record(&words, 2, 1), 0..0);
-    assert_eq!(plan_insert(&[0; 36], 2, &record, 6), Ok(vec![put(0)]));
+    assert_eq!(plan_insert(&[0; 36], 2, &record, EDITION_13, 6), Ok(vec![put(0)]));
     let two_words = words_of(&[Some(rule(1, 30, "11")), None], 2);
     assert_eq!(lookup(&two_words, 5, &[0; 5]), refused(RECORD, 0));
     // three slots of two words are no whole number of slots of five
@@ -89,11 +91,11 @@ fn widths_that_no_table_has() {
         let (key, record) = (vec![0; width.min(6)], vec![0; record_words(width.min(6))]);
         assert_eq!(lookup(&words, width, &key), refused(SHAPE, 0));
         assert_eq!(slot_record(&words, width, 0), 0..0);
-        assert_eq!(plan_insert(&words, width, &record, 3), refused(SHAPE, 0));
+        assert_eq!(plan_insert(&words, width, &record, EDITION_13, 3), refused(SHAPE, 0));
         assert_eq!(plan_delete(&words, width, 1, 3), refused(SHAPE, 0));
         assert_eq!(save(&words, width, 1000), refused(SHAPE, 0));
         let mut progress = Progress { done: 0, total: 0 };
-        assert_eq!(carry_out(&mut words.clone(), width, &record, &[], &mut progress), refused(SHAPE, 0));
+        assert_eq!(carry_out(&mut words.clone(), width, &record, EDITION_13, &[], &mut progress), refused(SHAPE, 0));
     }
 }
 
@@ -106,10 +108,10 @@ fn keys_and_rules_of_another_number_of_words() {
         assert_eq!(lookup(&unsound, 5, &vec![0; count]), refused(SHAPE, 0));
     }
     for count in [0, 1, 6, 11, 13, 24] {
-        assert_eq!(plan_insert(&words, 5, &vec![0; count], 3), refused(SHAPE, 0));
-        assert_eq!(plan_insert(&unsound, 5, &vec![0; count], 3), refused(SHAPE, 0));
+        assert_eq!(plan_insert(&words, 5, &vec![0; count], EDITION_13, 3), refused(SHAPE, 0));
+        assert_eq!(plan_insert(&unsound, 5, &vec![0; count], EDITION_13, 3), refused(SHAPE, 0));
     }
-    assert_eq!(plan_insert(&words, 5, &[0; 12], 3), refused(RULE, 0));
+    assert_eq!(plan_insert(&words, 5, &[0; 12], EDITION_13, 3), refused(RULE, 0));
 }
 
 #[test]
@@ -118,19 +120,22 @@ fn carrying_out_asks_for_the_words_of_a_rule_in_every_write() {
     for done in 0..=3 {
         for count in [0, 6, 11, 13] {
             let (mut words, mut progress) = (words_of(&slots(), 5), Progress { done, total: 3 });
-            assert_eq!(carry_out(&mut words, 5, &vec![0; count], &plan, &mut progress), refused(SHAPE, 0));
+            assert_eq!(carry_out(&mut words, 5, &vec![0; count], EDITION_13, &plan, &mut progress), refused(SHAPE, 0));
             assert_eq!((words, progress.done), (words_of(&slots(), 5), done));
         }
     }
-    let with_zeros = |done: u32| carry_out(&mut words_of(&slots(), 5), 5, &[0; 12], &plan, &mut Progress { done, total: 3 });
+    let with_zeros = |done: u32| {
+        let mut progress = Progress { done, total: 3 };
+        carry_out(&mut words_of(&slots(), 5), 5, &[0; 12], EDITION_13, &plan, &mut progress)
+    };
     assert_eq!([0, 1, 2, 3].map(with_zeros), [Ok(Carried::Wrote), Ok(Carried::Wrote), refused(RULE, 0), Ok(Carried::Finished)]);
 }
 
 #[test]
 fn the_largest_table_of_five_words() {
     let record = rule(1, 1, "1").record(5);
-    assert_eq!(plan_insert(&[0; 12 * 1024], 5, &record, 1), Ok(vec![put(0)]));
-    assert_eq!(plan_insert(&[0; 12 * 1025], 5, &record, 1), refused(SHAPE, 0));
+    assert_eq!(plan_insert(&[0; 12 * 1024], 5, &record, EDITION_13, 1), Ok(vec![put(0)]));
+    assert_eq!(plan_insert(&[0; 12 * 1025], 5, &record, EDITION_13, 1), refused(SHAPE, 0));
     // 1,024 slots of five words are 2,048 of two
-    assert_eq!(plan_insert(&[0; 12 * 1024], 2, &rule(1, 1, "1").record(2), 1), refused(SHAPE, 0));
+    assert_eq!(plan_insert(&[0; 12 * 1024], 2, &rule(1, 1, "1").record(2), EDITION_13, 1), refused(SHAPE, 0));
 }

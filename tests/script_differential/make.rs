@@ -63,8 +63,12 @@ fn some_id(random: &mut Random, scale: &Scale) -> u64 {
     random.between(1, scale.ids) as u64
 }
 
-/// Nested patterns have no 0, so that the key of ones matches them all.
+/// Nested patterns have no 0, so that the key of ones matches them all. A few others care for all 128 bits, most of them 0, as a key's
+/// are: by the script's edition, 1.3, such a rule stands no higher than its priority.
 fn pattern(random: &mut Random, scale: &Scale) -> String {
+    if !scale.nested && random.one_in(25) {
+        return (0..128).map(|place| if place < scale.bits { random.pick(&['0', '1']) } else { '0' }).collect();
+    }
     let length = if random.one_in(60) { random.between(120, 130) } else { random.between(1, scale.bits) };
     let symbols: &[char] = if scale.nested { &['1', '*'] } else { &['0', '1', '*', '*'] };
     (0..length).map(|_| random.pick(symbols)).collect()

@@ -20,7 +20,7 @@ extern "C" {
     pub fn tcam_slot_record(table: *const u64, words: usize, width: u32, slot: u32, first: *mut u32) -> u32;
     pub fn tcam_plan_insert(
         table: *const u64, words: usize, width: u32,
-        rule: *const u64, rule_words: usize,
+        rule: *const u64, rule_words: usize, edition: u32,
         plan: *mut u32, plan_words: usize, count: *mut u32, spot: *mut u32,
     ) -> u32;
     pub fn tcam_plan_delete(
@@ -29,7 +29,7 @@ extern "C" {
     ) -> u32;
     pub fn tcam_carry_out(
         table: *mut u64, words: usize, width: u32,
-        rule: *const u64, rule_words: usize,
+        rule: *const u64, rule_words: usize, edition: u32,
         plan: *const u32, plan_words: usize, progress: *mut ProgressRecord,
     ) -> u64;
     pub fn tcam_save(
@@ -42,15 +42,15 @@ extern "C" {
     ) -> u32;
 }
 
-/// The library's plan for the insert of a rule, given as a record, in a buffer of one word per slot.
-pub fn plan_insert(table: &[u64], width: usize, rule: &[u64]) -> Result<Vec<u32>, Refusal> {
+/// The library's plan for the insert of a rule, given as a record under an edition, in a buffer of one word per slot.
+pub fn plan_insert(table: &[u64], width: usize, rule: &[u64], edition: u32) -> Result<Vec<u32>, Refusal> {
     let mut plan = vec![0; table.len() / record_words(width)];
     let (mut count, mut spot) = (0, 0);
     let (room, cells) = (plan.len(), (&mut count, &mut spot));
     let number = unsafe {
         let (words, rule_words) = (table.len(), rule.len());
-        let buffer = plan.as_mut_ptr();
-        tcam_plan_insert(table.as_ptr(), words, width as u32, rule.as_ptr(), rule_words, buffer, room, cells.0, cells.1)
+        let (table, rule, buffer) = (table.as_ptr(), rule.as_ptr(), plan.as_mut_ptr());
+        tcam_plan_insert(table, words, width as u32, rule, rule_words, edition, buffer, room, cells.0, cells.1)
     };
     if number != 0 {
         return Err(Refusal { number, spot: u64::from(spot) });
