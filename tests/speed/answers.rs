@@ -2,9 +2,11 @@
 // `export_calls` turns lent pointers into slices and answers into numbers and cells, and chooses the width; all else is the
 // versions' own.
 
+pub use reference::given::{EDITION_10, EDITION_13};
 pub use reference::plan::{EMPTYING, PUT_IN};
 pub use reference::table::{
-    CROSSED, FULL, IMAGE, KNOWN, ORDER, PRIORITY_MOST, RECORD, RULE, SHAPE, SHORT, SLOTS_MOST, TIE, TWICE, UNKNOWN, WRITE,
+    CROSSED, EDITION, EXACT_RANK, FULL, IMAGE, KNOWN, ORDER, PRIORITY_MOST, RECORD, RULE, SHAPE, SHORT, SLOTS_MOST, TIE, TWICE,
+    UNKNOWN, WRITE,
 };
 
 /// A number and a spot.
@@ -17,7 +19,7 @@ pub fn refuse<T>(number: u32, spot: usize) -> Result<T, Refusal> {
     Err(Refusal { number, spot: spot as u32 })
 }
 
-/// A slot's record, of W words of value and as many of mask; that of a rule to be inserted too.
+/// A slot's record, of W words of value and as many of mask; that of a rule that is given too, with its priority for its rank.
 #[derive(Clone, Copy)]
 #[repr(C)]
 pub struct Record<const W: usize> {
@@ -184,13 +186,14 @@ macro_rules! export_calls {
             width: u32,
             rule: *const u64,
             rule_words: usize,
+            edition: u32,
             plan: *mut u32,
             plan_words: usize,
             count: &mut u32,
             spot: &mut u32,
         ) -> u32 {
             let (table, rule, plan) = (lent(table, words), lent(rule, rule_words), lent_mut(plan, plan_words));
-            spread($crate::at_width!(width, plans::plan_insert(table, rule, plan)), count, spot)
+            spread($crate::at_width!(width, plans::plan_insert(table, rule, edition, plan)), count, spot)
         }
 
         #[no_mangle]
@@ -215,12 +218,13 @@ macro_rules! export_calls {
             width: u32,
             rule: *const u64,
             rule_words: usize,
+            edition: u32,
             plan: *const u32,
             plan_words: usize,
             progress: &mut Progress,
         ) -> u64 {
             let (table, rule, plan) = (lent_mut(table, words), lent(rule, rule_words), lent(plan, plan_words));
-            step_number($crate::at_width!(width, steps::carry_out(table, rule, plan, progress)))
+            step_number($crate::at_width!(width, steps::carry_out(table, rule, edition, plan, progress)))
         }
 
         #[no_mangle]

@@ -2,17 +2,22 @@
 // An edit changes one or two things; many inputs stay accepted.
 
 use crate::inputs::{occupied_slots, Input};
+use reference::bits::Bits;
 use reference::image::{body_offset, image_bytes};
 use reference::table::record_words;
 use support::random::Random;
 
 /// Widths that are given: those that tables have, and others.
 const WIDTHS_GIVEN: [u32; 10] = [2, 5, 2, 5, 0, 1, 3, 4, 6, u32::MAX];
+/// Editions that are given: those that there are, and others.
+const EDITIONS_GIVEN: [u32; 12] = [10, 13, 10, 13, 0, 9, 11, 12, 14, 99, 10 + (1 << 16), u32::MAX];
+/// Ranks and priorities on both sides of the highest that there are.
+const RANKS_AT_THE_EDGE: [u64; 4] = [65_535, 65_536, 65_536, 65_537];
 
 pub fn edit(input: &Input, random: &mut Random) -> Input {
     let mut edited = input.clone();
     for _ in 0..random.between(1, 2) {
-        match random.below(13) {
+        match random.below(15) {
             0..=2 => edit_table(&mut edited.table, edited.width, random),
             3 | 4 => edit_rule(&mut edited, random),
             5 => edit_key(&mut edited, random),
@@ -20,6 +25,7 @@ pub fn edit(input: &Input, random: &mut Random) -> Input {
             7 => edit_id(&mut edited, random),
             8 | 9 => edit_plan(&mut edited, random),
             10 | 11 => edit_image(&mut edited.image, edited.width, random),
+            12 | 13 => edited.edition = random.pick(&EDITIONS_GIVEN),
             _ => edit_shape(&mut edited, random),
         }
     }
@@ -42,14 +48,34 @@ fn edit_table(table: &mut Vec<u64>, width: usize, random: &mut Random) {
         return;
     }
     let (one, other) = (random.below(slots), random.below(slots));
-    match random.below(6) {
+    match random.below(7) {
         0 => table[random.below(words * slots)] = random.any_word(),
         1 => table.copy_within(words * one..words * (one + 1), words * other),
         2 => (0..words).for_each(|word| table.swap(words * one + word, words * other + word)),
         3 => copy_pattern(table, width, one, other),
         4 => table.truncate(random.below(table.len())),
+        5 => widen(&mut table[words * one..words * (one + 1)], width, random),
         _ => fill_empty_slots(table, width),
     }
+}
+
+/// All bits, or all but one.
+fn wide_mask(width: usize, random: &mut Random) -> Bits {
+    let all = Bits::all(width);
+    if random.one_in(3) {
+        return all ^ Bits::at(random.below(64 * width));
+    }
+    all
+}
+
+/// Gives a record, of a slot or of a rule that is given, a mask of all bits or nearly all and a rank at the edge.
+fn widen(record: &mut [u64], width: usize, random: &mut Random) {
+    let mask = wide_mask(width, random);
+    for (word, &mask) in mask.words(width).iter().enumerate() {
+        record[word] &= mask;
+        record[width + word] = mask;
+    }
+    record[2 * width + 1] = random.pick(&RANKS_AT_THE_EDGE);
 }
 
 /// The other slot gets the one's words, but an id of its own.
@@ -79,9 +105,10 @@ fn edit_rule(input: &mut Input, random: &mut Random) {
     }
     let occupied = occupied_slots(&input.table, width);
     let (owner, rank) = (2 * width, 2 * width + 1);
-    match random.below(6) {
+    match random.below(7) {
         0 => input.rule[owner] &= 0xffff_ffff,
         1 => input.rule[rank] = random.pick(&[65_535, 65_536, 65_537, 1 << 32, u64::MAX]),
+        6 => widen(&mut input.rule, width, random),
         2 => input.rule[random.below(width)] |= 1 << random.below(64),
         3 | 4 if !occupied.is_empty() => {
             let record = &input.table[record_words(width) * random.pick(&occupied)..][..record_words(width)];
@@ -129,7 +156,7 @@ fn edit_image(image: &mut Vec<u8>, width: usize, random: &mut Random) {
         return;
     }
     let rules = (image.len() - 4) / (image_bytes(width, 1) - 4);
-    match random.below(5) {
+    match random.below(6) {
         0 => image.truncate(random.below(image.len())),
         1 => image.push(0),
         2 if rules > 0 => {
@@ -141,9 +168,21 @@ fn edit_image(image: &mut Vec<u8>, width: usize, random: &mut Random) {
             let body = |place: usize| body_offset(width, rules, place);
             image.copy_within(body(one)..body(one + 1), body(other));
         }
+        4 if rules > 0 => widen_body(&mut image[body_offset(width, rules, random.below(rules))..], width, random),
         _ => {
             let place = random.below(image.len());
             image[place] = random.any_word() as u8;
         }
     }
+}
+
+/// The same as for a record, for the body that the bytes start with.
+fn widen_body(body: &mut [u8], width: usize, random: &mut Random) {
+    let mask: Vec<u8> = wide_mask(width, random).words(width).iter().flat_map(|word| word.to_be_bytes()).collect();
+    for (place, &mask) in mask.iter().enumerate() {
+        body[place] &= mask;
+        body[8 * width + place] = mask;
+    }
+    let rank = random.pick(&RANKS_AT_THE_EDGE) as u32;
+    body[16 * width..16 * width + 4].copy_from_slice(&rank.to_be_bytes());
 }

@@ -5,7 +5,7 @@ use crate::tables::{dense_mask, drawn, falling, from_last, Kind, Size};
 use reference::bits::Bits;
 use support::random::Random;
 
-/// Value of all bits wanted, mask, and priority.
+/// Value of all bits wanted, mask, and rank or, of a new rule, priority.
 pub type Pattern = (Bits, Bits, u64);
 
 const LOWER: u64 = 30_000;

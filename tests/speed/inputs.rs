@@ -19,8 +19,9 @@ pub struct Input {
     pub key: Vec<u64>,
     pub slot: u32,
     pub id: u32,
-    /// A rule's record.
+    /// The record of a rule that is given, and its edition.
     pub rule: Vec<u64>,
+    pub edition: u32,
     /// Words of the plan buffer, or bytes of the image buffer, that the call may write.
     pub room: usize,
     pub plan: Vec<u32>,
@@ -69,13 +70,15 @@ pub fn perform(version: &Version, input: &Input, lent: &mut Lent) -> u64 {
     let (plan, plan_words) = (lent.plan.as_mut_ptr(), lent.plan.len());
     let (image, image_bytes) = (lent.image.as_mut_ptr(), lent.image.len());
     let (key, key_words) = (input.key.as_ptr(), input.key.len());
-    let (rule, rule_words) = (input.rule.as_ptr(), input.rule.len());
+    let (rule, rule_words, edition) = (input.rule.as_ptr(), input.rule.len(), input.edition);
     let [first, second, third, fourth] = &mut lent.cells;
     let number = unsafe {
         match input.call {
             Call::Lookup => (version.lookup)(table, words, width, key, key_words, first, second, third, fourth),
             Call::SlotRecord => (version.slot_record)(table, words, width, input.slot, first),
-            Call::PlanInsert => (version.plan_insert)(table, words, width, rule, rule_words, plan, plan_words, first, second),
+            Call::PlanInsert => {
+                (version.plan_insert)(table, words, width, rule, rule_words, edition, plan, plan_words, first, second)
+            }
             Call::PlanDelete => (version.plan_delete)(table, words, width, input.id, plan, plan_words, first, second),
             Call::Save => (version.save)(table, words, width, image, image_bytes, first, second),
             Call::Load => (version.load)(image, image_bytes, table, words, width, first),
@@ -87,11 +90,11 @@ pub fn perform(version: &Version, input: &Input, lent: &mut Lent) -> u64 {
 
 fn perform_carry_out(version: &Version, input: &Input, lent: &mut Lent) -> u64 {
     let (table, words) = (lent.table.as_mut_ptr(), lent.table.len());
-    let (rule, rule_words) = (input.rule.as_ptr(), input.rule.len());
+    let (rule, rule_words, edition) = (input.rule.as_ptr(), input.rule.len(), input.edition);
     let (plan, plan_words) = (lent.plan.as_ptr(), lent.plan.len());
     let mut progress = Progress { done: lent.done, total: lent.total };
     let step = version.carry_out;
-    let number = unsafe { step(table, words, input.given, rule, rule_words, plan, plan_words, &mut progress) };
+    let number = unsafe { step(table, words, input.given, rule, rule_words, edition, plan, plan_words, &mut progress) };
     lent.done = progress.done;
     lent.total = progress.total;
     number
@@ -111,7 +114,7 @@ pub fn inputs_of(table: &RuleTable) -> Vec<Input> {
     let slot = occupied_slots(words, width).last().copied().unwrap_or(0);
     let last = &words[slot * record_words(width)..][..record_words(width)];
     let rule = table.new.record(width);
-    let plan = plan_insert(words, width, &rule, slots).unwrap_or_default();
+    let plan = plan_insert(words, width, &rule, table.edition, slots).unwrap_or_default();
     let image = save(words, width, image_bytes(width, slots)).expect("a sound table");
     let input = |call: Call| Input {
         call,
@@ -122,6 +125,7 @@ pub fn inputs_of(table: &RuleTable) -> Vec<Input> {
         slot: slot as u32,
         id: (last[2 * width] >> 32) as u32,
         rule: rule.clone(),
+        edition: table.edition,
         room: if call == Call::Save { image.len() } else { slots },
         plan: plan.clone(),
         done: 0,

@@ -2,7 +2,6 @@
 // Counting is on only inside the calls; the counts repeat to the digit.
 
 use crate::cases::{for_each_case, Case, Measured};
-use crate::report;
 use crate::versions::{versions, Call, CALLS, OURS};
 use std::collections::BTreeMap;
 use std::path::Path;
@@ -12,13 +11,13 @@ pub type Counts = BTreeMap<Case, u64>;
 /// Our own functions that stay apart within a planned insert, by what each spends itself.
 pub type Functions = BTreeMap<Case, BTreeMap<String, u64>>;
 
-pub fn run(every_table: bool) {
+pub fn run(print: impl FnOnce(&Counts, &Functions)) {
     let folder = std::env::temp_dir().join(format!("speed-{}", std::process::id()));
     std::fs::create_dir(&folder).expect("a folder for the counts");
     let read = run_callgrind(&folder).map(|()| read_counts(&folder));
     std::fs::remove_dir_all(&folder).expect("the folder of the counts is removed");
     match read {
-        Ok((counts, functions)) => report::print(&counts, &functions, every_table),
+        Ok((counts, functions)) => print(&counts, &functions),
         Err(message) => {
             eprintln!("speed: {message}");
             std::process::exit(1);

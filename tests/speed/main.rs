@@ -1,5 +1,5 @@
 // The speed comparison: this library beside tests/reference, safe Rust, unchecked Rust and C, all on the same tables.
-// Flags: --self-check, --times [--rounds N], --instructions [--every-table]; --calls is what --instructions runs under callgrind.
+// Flags: --self-check, --times [--rounds N], --instructions [--every-table], --record; --calls is what the last two run under callgrind.
 
 // the numbers of refusals are for the versions that make the checks themselves
 #[allow(dead_code, unused_imports)]
@@ -12,6 +12,7 @@ mod ids;
 mod inputs;
 mod instructions;
 mod properties;
+mod record;
 mod reference_calls;
 mod report;
 mod self_check;
@@ -47,7 +48,11 @@ fn main() {
         std::process::exit(1);
     }
     if has_flag("--instructions") {
-        instructions::run(has_flag("--every-table"));
+        before::need_all();
+        instructions::run(|counts, functions| report::print(counts, functions, has_flag("--every-table")));
+    }
+    if has_flag("--record") {
+        instructions::run(|counts, _| record::print(counts));
     }
     if has_flag("--times") {
         times::run(number_flag("--rounds", ROUNDS).max(1));

@@ -3,8 +3,9 @@
 
 use crate::hostile::sample_step;
 use crate::tables::{every_kind, make, Kind, Size};
+use reference::bits::Bits;
 use reference::plan::plan_insert;
-use reference::table::{read_sound_table, Rule, Slot};
+use reference::table::{read_sound_table, Rule, Slot, EXACT_RANK};
 
 pub struct Properties {
     pub rules: usize,
@@ -15,6 +16,9 @@ pub struct Properties {
     pub falling: bool,
     /// Whether the slots that the choice of places looks at have one pattern.
     pub sampled_alike: bool,
+    /// Rules with every mask bit set, and those of rank 65,536.
+    pub full_masks: usize,
+    pub ranked_highest: usize,
     pub writes: usize,
 }
 
@@ -28,9 +32,11 @@ pub fn properties(kind: Kind, (width, slots): Size) -> Properties {
         pairs: rules.len() * (rules.len() - 1) / 2,
         overlapping: 0,
         apart_by_word: vec![0; width],
-        falling: rules.windows(2).all(|pair| pair[0].priority > pair[1].priority),
+        falling: rules.windows(2).all(|pair| pair[0].rank > pair[1].rank),
         sampled_alike,
-        writes: plan_insert(&table.words, width, &table.new.record(width), slots).map_or(0, |plan| plan.len()),
+        full_masks: rules.iter().filter(|rule| rule.mask == Bits::all(width)).count(),
+        ranked_highest: rules.iter().filter(|rule| rule.rank == EXACT_RANK).count(),
+        writes: plan_insert(&table.words, width, &table.new.record(width), table.edition, slots).map_or(0, |plan| plan.len()),
     };
     for (place, rule) in rules.iter().enumerate() {
         for earlier in &rules[..place] {
@@ -70,9 +76,12 @@ pub fn hold(kind: Kind, (width, slots): Size) -> bool {
         Kind::TwoBits => overlapping > 0.95 && counted.falling,
         Kind::MoreBits => overlapping > 0.4 && overlapping < 0.7 && counted.falling,
         Kind::Unsampled => overlapping < 0.02 && counted.sampled_alike && counted.falling,
+        Kind::Exact => counted.overlapping == 0 && apart > 0.99 && counted.full_masks == counted.rules,
     };
     let rules = if kind == Kind::HalfEmpty { slots / 2 } else { slots - 1 };
-    of_kind && counted.rules == rules && counted.writes > 0
+    let ranked_highest = if kind == Kind::Exact { rules } else { 0 };
+    let of_masks = (counted.full_masks > 0) == kind.has_full_masks() && counted.ranked_highest == ranked_highest;
+    of_kind && of_masks && counted.rules == rules && counted.writes > 0
 }
 
 pub fn print((width, slots): Size) {

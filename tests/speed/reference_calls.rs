@@ -34,8 +34,8 @@ mod lookups {
 mod plans {
     use super::{copied, Refusal};
 
-    pub fn plan_insert<const W: usize>(table: &[u64], rule: &[u64], plan: &mut [u32]) -> Result<u32, Refusal> {
-        copied(reference::plan::plan_insert(table, W, rule, plan.len()), plan)
+    pub fn plan_insert<const W: usize>(table: &[u64], rule: &[u64], edition: u32, plan: &mut [u32]) -> Result<u32, Refusal> {
+        copied(reference::plan::plan_insert(table, W, rule, edition, plan.len()), plan)
     }
 
     pub fn plan_delete<const W: usize>(table: &[u64], id: u32, plan: &mut [u32]) -> Result<u32, Refusal> {
@@ -50,11 +50,12 @@ mod steps {
     pub fn carry_out<const W: usize>(
         table: &mut [u64],
         rule: &[u64],
+        edition: u32,
         plan: &[u32],
         progress: &mut Progress,
     ) -> Result<bool, Refusal> {
         let mut record = reference::carry::Progress { done: progress.done, total: progress.total };
-        let carried = reference::carry::carry_out(table, W, rule, plan, &mut record).map_err(narrow)?;
+        let carried = reference::carry::carry_out(table, W, rule, edition, plan, &mut record).map_err(narrow)?;
         progress.done = record.done;
         Ok(carried == Carried::Wrote)
     }

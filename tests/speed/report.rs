@@ -44,10 +44,10 @@ impl Found<'_> {
         SIZES.windows(2).map(|pair| of_size(pair[1]) / of_size(pair[0])).fold(0.0, f64::max)
     }
 
-    /// Ours beside what it was before, at its worst over the sizes; at two words.
+    /// Ours beside what it was before, at its worst over the sizes.
     pub fn now_to_before(&self, kind: Kind, call: Call) -> f64 {
-        let of_size = |slots: usize| self.count(slots, kind, call, OURS) / before::count(slots, kind, call);
-        SIZES.into_iter().map(of_size).fold(0.0, f64::max)
+        let of_size = |slots: usize| self.count(slots, kind, call, OURS) / before::count(self.width, slots, kind, call);
+        before::sizes(kind, call).map(of_size).fold(0.0, f64::max)
     }
 }
 
@@ -70,9 +70,7 @@ fn print_width(found: &Found, functions: &Functions, every_table: bool) {
         let others: Vec<Call> = CALLS.into_iter().filter(|&call| call != Call::PlanInsert).collect();
         print_tables(found, &others, &kinds, "The other calls, by table");
     }
-    if found.width == before::WIDTH {
-        print_before(found);
-    }
+    print_before(found);
     print_parts(found);
     print_ids(found);
     print_functions(found.width, functions);
@@ -126,14 +124,16 @@ fn print_worst(found: &Found) {
     println!();
 }
 
-/// Ours beside what it was before the width was given, each call and table.
+/// Ours beside what it was before rules had an edition, each call and table.
 fn print_before(found: &Found) {
-    println!("### Beside what it was before tables of five words: now / before\n");
-    println!("| Table | {} |", CALLS.map(Call::name).join(" | "));
-    println!("|---|{}", "---|".repeat(CALLS.len()));
-    for kind in every_kind(found.width) {
+    println!("### Beside what it was before editions: now / before, the worst of the sizes\n");
+    println!("Tables with full masks are not judged.\n");
+    println!("| Table | full masks | {} |", CALLS.map(Call::name).join(" | "));
+    println!("|---|---|{}", "---|".repeat(CALLS.len()));
+    for kind in before::kinds(found.width) {
+        let full_masks = if kind.has_full_masks() { "yes" } else { "no" };
         let cells = CALLS.map(|call| format!("{:.4}", found.now_to_before(kind, call)));
-        println!("| {} | {} |", kind.name(found.width), cells.join(" | "));
+        println!("| {} | {full_masks} | {} |", kind.name(found.width), cells.join(" | "));
     }
     println!();
 }

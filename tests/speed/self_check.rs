@@ -20,11 +20,11 @@ const SEED: u64 = 11;
 /// The results that each call must have had at each width: refusals by number, and 2^32 - 1 for a finished plan. Beside them a
 /// slot's record has had its words.
 const RESULTS: [(Call, &[u64]); 7] = [
-    (Call::PlanInsert, &[0, 1, 2, 3, 4, 5, 6, 8, 9, 10, 11]),
+    (Call::PlanInsert, &[0, 1, 2, 3, 4, 5, 6, 8, 9, 10, 11, 18]),
     (Call::PlanDelete, &[0, 1, 2, 3, 4, 5, 7, 11]),
     (Call::Lookup, &[0, 1, 2]),
     (Call::SlotRecord, &[0]),
-    (Call::CarryOut, &[0, 1, 2, 5, 12, 0xffff_ffff]),
+    (Call::CarryOut, &[0, 1, 2, 5, 12, 18, 0xffff_ffff]),
     (Call::Save, &[0, 1, 2, 3, 4, 11]),
     (Call::Load, &[0, 1, 3, 4, 14]),
 ];
@@ -102,9 +102,10 @@ fn gives(versions: &[Version], input: &Input, wanted: u64, tally: &mut Tally) ->
     if result != wanted {
         let (width, slots) = (input.width, input.table.len() / record_words(input.width));
         println!(
-            "speed: {} on {slots} slots of width {width}, width {} given: result {result:#x}",
+            "speed: {} on {slots} slots of width {width}, width {} and edition {} given: result {result:#x}",
             input.call.name(),
-            input.given
+            input.given,
+            input.edition
         );
     }
     result == wanted
@@ -133,6 +134,7 @@ fn compare(versions: &[Version], input: &Input, tally: &mut Tally) -> u64 {
 fn report(version: &Version, input: &Input, ours: (u64, &Lent), other: (u64, &Lent)) {
     let (words, width) = (input.table.len(), input.width);
     println!("speed: {} of {} differs, {words} words, made at width {width}:", input.call.name(), version.name);
+    println!("  width {} and edition {} given", input.given, input.edition);
     println!("  ours {:#x}, cells {:x?}, done {}", ours.0, ours.1.cells, ours.1.done);
     println!("  this {:#x}, cells {:x?}, done {}", other.0, other.1.cells, other.1.done);
     let parts = [

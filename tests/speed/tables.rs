@@ -1,10 +1,11 @@
-// The rule tables of the comparison, at any width and number of slots, each with a new rule that it accepts.
-// All are sound: of two overlapping rules the one in the lower slot has the higher priority.
+// The rule tables of the comparison, at any width and number of slots, each with a new rule that it accepts and its edition.
+// All are sound: of two overlapping rules the one in the lower slot has the higher rank.
 
 use crate::hostile;
 use crate::ids::id_of_place;
 use reference::bits::Bits;
-use reference::table::{words_of, Rule, Slot};
+use reference::given::{Given, EDITION_10, EDITION_13};
+use reference::table::{words_of, Rule, Slot, EXACT_RANK};
 use support::random::Random;
 
 /// A table's kind, named as in the printed tables.
@@ -42,9 +43,11 @@ pub enum Kind {
     Unsampled,
     /// Only the last word tells pairs apart, and it tells all; at two words that is the second.
     LastWord,
+    /// Rules that care for all bits, each of rank 65,536, and a new one of this kind: all inserted under 1.0.
+    Exact,
 }
 
-const KINDS: [Kind; 10] = [
+const KINDS: [Kind; 11] = [
     Kind::Sparse,
     Kind::Dense,
     Kind::DenseDown,
@@ -55,6 +58,7 @@ const KINDS: [Kind; 10] = [
     Kind::SecondWord,
     Kind::LastWord,
     Kind::HalfEmpty,
+    Kind::Exact,
 ];
 
 /// The kinds at a width, the hostile ones apart.
@@ -91,6 +95,20 @@ impl Kind {
             Kind::MoreBits if width == 2 => "12 of 128 bits",
             Kind::MoreBits => "19 of 320 bits",
             Kind::Unsampled => "sampled slots alike",
+            Kind::Exact => "exact, under 1.0",
+        }
+    }
+
+    /// Whether some rule of the table, the new one apart, has every mask bit set.
+    pub fn has_full_masks(self) -> bool {
+        matches!(self, Kind::OneHot | Kind::Unsampled | Kind::Exact)
+    }
+
+    /// Under 1.3 a new rule with every mask bit set, as some tables have one, gets its priority for its rank.
+    fn edition(self) -> u32 {
+        match self {
+            Kind::Exact => EDITION_10,
+            _ => EDITION_13,
         }
     }
 
@@ -107,7 +125,8 @@ impl Kind {
 pub struct RuleTable {
     pub width: usize,
     pub words: Vec<u64>,
-    pub new: Rule,
+    pub new: Given,
+    pub edition: u32,
 }
 
 /// A width and a number of slots.
@@ -127,11 +146,12 @@ pub fn make(kind: Kind, width: usize, slots: usize) -> RuleTable {
         rules.push(rule);
     }
     if kind == Kind::Prefixes {
-        rules.sort_by_key(|rule| 65_535 - rule.priority);
+        rules.sort_by_key(|rule| 65_535 - rule.rank);
     }
     let entry = |(slot, rule): (usize, &Rule)| if kind.is_empty_at(slots, slot) { None } else { Some(*rule) };
     let entries: Vec<Slot> = rules.iter().enumerate().map(entry).collect();
-    RuleTable { width, words: words_of(&entries, width), new: new_rule(kind, (width, slots), &mut random) }
+    let new = new_rule(kind, (width, slots), &mut random);
+    RuleTable { width, words: words_of(&entries, width), new, edition: kind.edition() }
 }
 
 /// A rule that may stand after those before it.
@@ -140,7 +160,7 @@ fn fitting_rule(kind: Kind, size: Size, slot: usize, before: &[Rule], random: &m
         let rule = any_rule(kind, size, slot, random);
         let clash = |earlier: &Rule| match kind {
             Kind::Prefixes => earlier.value == rule.value && earlier.mask == rule.mask,
-            _ => earlier.overlaps(&rule) && earlier.priority <= rule.priority,
+            _ => earlier.overlaps(&rule) && earlier.rank <= rule.rank,
         };
         if !before.iter().any(clash) {
             return rule;
@@ -184,7 +204,7 @@ fn undecided_mask() -> Bits {
 }
 
 fn any_rule(kind: Kind, (width, slots): Size, slot: usize, random: &mut Random) -> Rule {
-    let (wanted, mask, priority) = match kind {
+    let (wanted, mask, rank) = match kind {
         Kind::Sparse | Kind::HalfEmpty => (drawn(width, random), drawn(width, random), random.below(LEVELS) as u64),
         Kind::Sorted => (drawn(width, random), drawn(width, random), falling(slot)),
         Kind::Dense | Kind::DenseDown | Kind::DenseUp => (drawn(width, random), dense_mask(width, random), falling(slot)),
@@ -195,15 +215,16 @@ fn any_rule(kind: Kind, (width, slots): Size, slot: usize, random: &mut Random) 
         Kind::Undecided => (drawn(width, random), undecided_mask(), random.below(LEVELS) as u64),
         Kind::SecondWord => (drawn(width, random), word_mask(1), random.below(LEVELS) as u64),
         Kind::LastWord => (drawn(width, random), word_mask(width - 1), random.below(LEVELS) as u64),
+        Kind::Exact => (drawn(width, random), Bits::all(width), EXACT_RANK),
         _ => hostile::pattern(kind, (width, slots), slot, random),
     };
-    Rule { id: id_of_place(slot), priority, value: wanted & mask, mask, action: slot as u32 ^ 0x5a5a }
+    Rule { id: id_of_place(slot), rank, value: wanted & mask, mask, action: slot as u32 ^ 0x5a5a }
 }
 
-fn new_rule(kind: Kind, (width, slots): Size, random: &mut Random) -> Rule {
+fn new_rule(kind: Kind, (width, slots): Size, random: &mut Random) -> Given {
     let id = id_of_place(slots + 7);
     let (wanted, mask, priority) = match kind {
-        Kind::Sparse | Kind::Sorted | Kind::HalfEmpty => (drawn(width, random), Bits::all(width), 30_001),
+        Kind::Sparse | Kind::Sorted | Kind::HalfEmpty | Kind::Exact => (drawn(width, random), Bits::all(width), 30_001),
         Kind::Dense => (Bits::NONE, Bits::NONE, falling(slots / 2) + 1),
         Kind::DenseDown => (Bits::NONE, Bits::NONE, falling(0) + 1),
         Kind::DenseUp => (Bits::NONE, Bits::NONE, falling(slots) + 1),
@@ -213,5 +234,5 @@ fn new_rule(kind: Kind, (width, slots): Size, random: &mut Random) -> Rule {
         Kind::LastWord => (drawn(width, random), word_mask(width - 1), 30_001),
         _ => hostile::new_pattern(kind, (width, slots), random),
     };
-    Rule { id, priority, value: wanted & mask, mask, action: 5 }
+    Given { id, priority, value: wanted & mask, mask, action: 5 }
 }

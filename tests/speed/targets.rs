@@ -1,12 +1,12 @@
 // The targets of the comparison, each with what was found at its worst and where.
-// Ratios hold for safe Rust and for gcc -O3; the other versions are reported only. At two words ours is held to what it was
-// before, too.
+// Ratios hold for safe Rust and for gcc -O3; the other versions are reported only. Ours is held to what it was before, too.
 
 use crate::before;
 use crate::cases::PAIR_CALLS;
 use crate::report::{Found, LARGEST};
-use crate::tables::{every_kind, kinds, Kind, HOSTILE, HOSTILE_JUDGED};
+use crate::tables::{kinds, Kind, HOSTILE, HOSTILE_JUDGED};
 use crate::versions::{Call, CALLS, GCC, OURS, SAFE};
+use reference::bits::WIDTHS;
 
 const PAIRS_RATIO: f64 = 1.05;
 const CALL_RATIO: f64 = 1.10;
@@ -15,9 +15,8 @@ const HOSTILE_MOST: f64 = 7_000_000.0;
 const LOOKUP_A_SLOT: f64 = 30.0;
 const PAIRS_GROWTH: f64 = 2.8;
 const CALL_GROWTH: f64 = 2.2;
-/// Of what it was before, at two words: planning, delete, save, load and carrying out; lookup and a slot's record.
-const BEFORE_RATIO: f64 = 1.03;
-const BEFORE_SHORT_RATIO: f64 = 1.05;
+/// Of what it was before, every call.
+const BEFORE_RATIO: f64 = 1.01;
 
 /// At five words: planning, an insert or a delete, and every other call; then planning an insert and a load by themselves.
 const WIDE_PLAN_RATIO: f64 = 1.10;
@@ -62,11 +61,8 @@ impl Target {
 }
 
 pub fn all(found: &Found) -> Vec<Target> {
-    if found.width == before::WIDTH {
-        [at_two(found), beside_before(found)].concat()
-    } else {
-        at_five(found)
-    }
+    let of_width = if found.width == WIDTHS[0] { at_two(found) } else { at_five(found) };
+    [of_width, beside_before(found)].concat()
 }
 
 /// Ratios at two words: all calls that compare rules in pairs are held to safe Rust alike; beside gcc -O3 planning is.
@@ -106,13 +102,12 @@ fn at_two(found: &Found) -> Vec<Target> {
     targets
 }
 
-/// Each call on every table, hostile ones too, at every size, beside what it was before.
+/// Each call on every table without full masks, hostile ones too, at every size, beside what it was before.
 fn beside_before(found: &Found) -> Vec<Target> {
-    let kinds: Vec<Kind> = every_kind(found.width).collect();
+    let kinds: Vec<Kind> = before::kinds(found.width).filter(|kind| !kind.has_full_masks()).collect();
     let target = |call: Call| {
-        let most = if matches!(call, Call::Lookup | Call::SlotRecord) { BEFORE_SHORT_RATIO } else { BEFORE_RATIO };
         let title = format!("{} / before", call.name());
-        Target::among(&kinds, found.width, title, most, |kind| found.now_to_before(kind, call))
+        Target::among(&kinds, found.width, title, BEFORE_RATIO, |kind| found.now_to_before(kind, call))
     };
     CALLS.into_iter().map(target).collect()
 }

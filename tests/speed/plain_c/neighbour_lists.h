@@ -12,16 +12,16 @@ enum { NONE = 65535, MAPS_FROM = 160, BLOCKS = 16 };
    its; NONE where there is none. */
 enum { NEAR_MOST = 2 * SLOTS_MOST };
 
-/* full: the rules before a slot; free: those of them without a dependant yet; low: for each block a number that no priority of
-   its rules is below. */
+/* full: the rules before a slot; free: those of them without a dependant yet; low: for each block a number that no rank of its
+   rules is below. */
 typedef struct marks {
     uint64_t full[BLOCKS];
     uint64_t free[BLOCKS];
     uint64_t low[BLOCKS];
 } marks;
 
-/* The slots of a block that are to be asked. Once the later slot has its preceding rule, a block of higher priorities has
-   nothing to tell but to the rules that have no dependant. */
+/* The slots of a block that are to be asked. Once the later slot has its preceding rule, a block of higher ranks has nothing to
+   tell but to the rules that have no dependant. */
 static inline uint64_t needed(const uint16_t *near, const marks *noted, size_t block, size_t later, uint64_t rank)
 {
     return near[2 * later + 1] == NONE || noted->low[block] <= rank ? noted->full[block] : noted->free[block];
@@ -50,7 +50,7 @@ static inline bool ask_pair(const uint64_t *table, uint16_t *near, marks *noted,
     return false;
 }
 
-/* Whether a pair need not be asked: both slots have their numbers and the priorities fall, or the patterns do not overlap. */
+/* Whether a pair need not be asked: both slots have their numbers and the ranks fall, or the patterns do not overlap. */
 static inline bool quiet(const uint64_t *table, const uint16_t *near, size_t slot, size_t later)
 {
     const uint64_t *first = table + slot * WORDS, *second = table + later * WORDS;
@@ -111,7 +111,7 @@ static size_t pass_with(const uint64_t *table, size_t slots, uint16_t *near, uin
     marks noted = {{0}, {0}, {0}};
     size_t others[PLACES_MOST], own[PLACES_MOST], first = 0;
     for (size_t block = 0; block < BLOCKS; block++)
-        noted.low[block] = PRIORITY_MOST + 1;
+        noted.low[block] = EXACT_RANK;
     for (size_t slot = 0; slot < slots; slot++) {
         const uint64_t *record = table + slot * WORDS;
         bool bad = false;

@@ -91,11 +91,9 @@ static void write_plan(const uint16_t *costs, size_t slots, choice made, uint32_
     plan[made.cost] = (uint32_t)PUT_IN << 16 | slot_at(slots, made.up, made.position);
 }
 
-/* Checks 5 to 9. */
+/* Checks 6 to 9. */
 static check check_rule(const uint64_t *table, size_t slots, const uint64_t *new)
 {
-    if (!is_sound(new))
-        return fail(RULE, 0);
     size_t known = slot_of_id(table, slots, id_of(new));
     if (known < slots)
         return fail(KNOWN, known);
@@ -138,12 +136,15 @@ static check plan_between(const uint64_t *table, size_t slots, const uint16_t *n
     return pass();
 }
 
-static check plan_new(const uint64_t *table, size_t words, const uint64_t *new, size_t rule_words, uint32_t *plan,
-                      size_t plan_words, uint32_t *count)
+static check plan_new(const uint64_t *table, size_t words, const uint64_t *rule, size_t rule_words, uint32_t edition,
+                      uint32_t *plan, size_t plan_words, uint32_t *count)
 {
     uint16_t near[NEAR_MOST];
+    uint64_t new[WORDS];
     size_t slots = words / WORDS, after, dependant;
     check made = rule_words == WORDS ? check_listed(table, words, near) : fail(SHAPE, 0);
+    if (made.number == OK)
+        made = check_given(rule, edition, new);
     if (made.number == OK)
         made = check_rule(table, slots, new);
     if (made.number == OK)
@@ -153,10 +154,10 @@ static check plan_new(const uint64_t *table, size_t words, const uint64_t *new, 
     return made;
 }
 
-uint32_t CALL(plan_insert)(const uint64_t *table, size_t words, const uint64_t *rule, size_t rule_words, uint32_t *plan,
-                           size_t plan_words, uint32_t *count, uint32_t *spot)
+uint32_t CALL(plan_insert)(const uint64_t *table, size_t words, const uint64_t *rule, size_t rule_words, uint32_t edition,
+                           uint32_t *plan, size_t plan_words, uint32_t *count, uint32_t *spot)
 {
-    check made = plan_new(table, words, rule, rule_words, plan, plan_words, count);
+    check made = plan_new(table, words, rule, rule_words, edition, plan, plan_words, count);
     if (made.number != OK)
         *spot = made.spot;
     return made.number;

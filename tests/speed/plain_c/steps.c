@@ -41,10 +41,11 @@ static uint64_t refusal(uint32_t number, uint32_t spot)
     return (uint64_t)spot << 32 | number;
 }
 
-uint64_t CALL(carry_out)(uint64_t *table, size_t words, const uint64_t *new, size_t rule_words, const uint32_t *plan,
-                         size_t plan_words, progress_record *progress)
+uint64_t CALL(carry_out)(uint64_t *table, size_t words, const uint64_t *rule, size_t rule_words, uint32_t edition,
+                         const uint32_t *plan, size_t plan_words, progress_record *progress)
 {
     static const uint64_t vacant[WORDS] = {0};
+    uint64_t new[WORDS];
     check slots_check = rule_words == WORDS ? check_slots(table, words) : fail(SHAPE, 0);
     if (slots_check.number != OK)
         return refusal(slots_check.number, slots_check.spot);
@@ -53,8 +54,9 @@ uint64_t CALL(carry_out)(uint64_t *table, size_t words, const uint64_t *new, siz
     if (progress->done == progress->total)
         return 0xFFFFFFFF;
     size_t from = plan[progress->done] >> 16, to = plan[progress->done] & 0xFFFF;
-    if (from == PUT_IN && !is_sound(new))
-        return refusal(RULE, 0);
+    check given = from == PUT_IN ? check_given(rule, edition, new) : pass();
+    if (given.number != OK)
+        return refusal(given.number, given.spot);
     if (!fits(table, words / WORDS, from, to))
         return refusal(WRITE, progress->done);
     const uint64_t *record = from == PUT_IN ? new : from == EMPTYING ? vacant : table + from * WORDS;

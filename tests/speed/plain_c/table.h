@@ -13,12 +13,15 @@
 #define AT(width, name) PASTED(width, name)
 #define CALL(name) AT(WIDTH, name)
 
-/* A record is WIDTH words of value and as many of mask, the word of id and action, and the priority. */
+/* A record is WIDTH words of value and as many of mask, the word of id and action, and the rank; of a rule that is given the last
+   word is its priority. */
 enum { WORDS = 2 * WIDTH + 2, OWNER = 2 * WIDTH, RANK = 2 * WIDTH + 1 };
 
-enum { SLOTS_MOST = 1024, PRIORITY_MOST = 65535, PUT_IN = 65535, EMPTYING = 65534 };
+enum { SLOTS_MOST = 1024, PRIORITY_MOST = 65535, EXACT_RANK = 65536, PUT_IN = 65535, EMPTYING = 65534 };
 
-enum { OK, SHAPE, RECORD, TWICE, ORDER, RULE, KNOWN, UNKNOWN, TIE, FULL, CROSSED, SHORT, WRITE, LINE, IMAGE };
+enum { EDITION_10 = 10, EDITION_13 = 13 };
+
+enum { OK, SHAPE, RECORD, TWICE, ORDER, RULE, KNOWN, UNKNOWN, TIE, FULL, CROSSED, SHORT, WRITE, LINE, IMAGE, EDITION = 18 };
 
 /* A number, 0 for a pass, and a spot. */
 typedef struct check {
@@ -49,19 +52,40 @@ static inline uint32_t id_of(const uint64_t *record)
     return (uint32_t)(record[OWNER] >> 32);
 }
 
-static inline bool rest_is_sound(const uint64_t *record)
+static inline bool is_within(const uint64_t *record)
 {
-    if (record[RANK] > PRIORITY_MOST)
-        return false;
     for (size_t word = 0; word < WIDTH; word++)
         if ((record[word] & ~record[WIDTH + word]) != 0)
             return false;
     return true;
 }
 
+/* Whether every mask bit is set. */
+static inline bool is_exact(const uint64_t *record)
+{
+    for (size_t word = 0; word < WIDTH; word++)
+        if (record[WIDTH + word] != UINT64_MAX)
+            return false;
+    return true;
+}
+
+/* Whether a record's rank and pattern are a rule's: the rank is a priority, or the one above all priorities that only a rule
+   without wildcards may have. Of most records the first comparison tells. */
+static inline bool rest_is_sound(const uint64_t *record)
+{
+    if (record[RANK] > PRIORITY_MOST && !(record[RANK] == EXACT_RANK && is_exact(record)))
+        return false;
+    return is_within(record);
+}
+
 static inline bool is_sound(const uint64_t *record)
 {
     return id_of(record) != 0 && rest_is_sound(record);
+}
+
+static inline bool is_sound_given(const uint64_t *rule)
+{
+    return id_of(rule) != 0 && rule[RANK] <= PRIORITY_MOST && is_within(rule);
 }
 
 /* Whether a record is empty or sound. */
@@ -113,6 +137,19 @@ static inline bool tied(const uint64_t *first, const uint64_t *second)
 static inline bool precedes(const uint64_t *first, const uint64_t *second)
 {
     return first[RANK] > second[RANK] && overlap(first, second) && distinct(first, second);
+}
+
+/* Checks 5 and 18 of a rule that is given; where they pass, its record with its rank is in the lent one. */
+static inline check check_given(const uint64_t *rule, uint32_t edition, uint64_t *ranked)
+{
+    if (!is_sound_given(rule))
+        return fail(RULE, 0);
+    if (edition != EDITION_10 && edition != EDITION_13)
+        return fail(EDITION, 0);
+    memcpy(ranked, rule, WORDS * sizeof *ranked);
+    if (edition == EDITION_10 && is_exact(rule))
+        ranked[RANK] = EXACT_RANK;
+    return pass();
 }
 
 static inline check check_shape(size_t words)

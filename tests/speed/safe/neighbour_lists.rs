@@ -1,7 +1,7 @@
 // The neighbour list of a table, and check 4, in one pass over the pairs of its rules: slot after slot is asked against the
 // earlier ones, in blocks of 64 going down, the highest slot of a block first, and noted for the later ones.
 
-use crate::answers::Record;
+use crate::answers::{Record, EXACT_RANK};
 use crate::bitmaps::{apart_in, choose_places, fill_rows, note_rows, spread_places, Spread, PLACES_MOST, PLACE_WORDS};
 use crate::records::{id_of, overlap, rules_overlap};
 
@@ -18,8 +18,8 @@ pub struct Near {
     pub before: u16,
 }
 
-/// full: the rules before a slot; free: those of them without a dependant yet; low: for each block a number that no priority of
-/// its rules is below.
+/// full: the rules before a slot; free: those of them without a dependant yet; low: for each block a number that no rank of its
+/// rules is below.
 struct Marks {
     full: [u64; 16],
     free: [u64; 16],
@@ -27,8 +27,8 @@ struct Marks {
 }
 
 impl Marks {
-    /// The slots of a block that are to be asked. Once the later slot has its preceding rule, a block of higher priorities has
-    /// nothing to tell but to the rules that have no dependant.
+    /// The slots of a block that are to be asked. Once the later slot has its preceding rule, a block of higher ranks has nothing to
+    /// tell but to the rules that have no dependant.
     fn needed(&self, later: &Near, block: usize, rank: u64) -> u64 {
         if later.before == NONE || self.low[block] <= rank {
             self.full[block]
@@ -108,7 +108,7 @@ impl Marks {
     }
 }
 
-/// Whether a pair need not be asked: both slots have their numbers and the priorities fall, or the patterns do not overlap.
+/// Whether a pair need not be asked: both slots have their numbers and the ranks fall, or the patterns do not overlap.
 fn quiet<const W: usize>(records: &[Record<W>], near: &[Near], slot: usize, later: usize) -> bool {
     let (first, second) = (&records[slot], &records[later]);
     let settled = near[later].before != NONE && first.rank > second.rank && near[slot].next != NONE;
@@ -129,7 +129,7 @@ fn skip_quiet<const W: usize>(records: &[Record<W>], near: &[Near], block: usize
 }
 
 fn pass_with<const W: usize>(records: &[Record<W>], near: &mut [Near], maps: &mut [u64], spread: &Spread<W>) -> usize {
-    let mut marks = Marks { full: [0; 16], free: [0; 16], low: [65_536; 16] };
+    let mut marks = Marks { full: [0; 16], free: [0; 16], low: [EXACT_RANK; 16] };
     let mut others = [0; PLACES_MOST];
     let mut own = [0; PLACES_MOST];
     let mut first = 0;

@@ -4,14 +4,15 @@
 use crate::answers::{refuse, Record, Refusal, CROSSED, EMPTYING, FULL, KNOWN, RULE, SHORT, TIE, UNKNOWN};
 use crate::checks::{check_listed, check_table, new_list};
 use crate::planner::{choose, costs_along, write_plan};
-use crate::records::{id_of, is_sound, precedes, tied};
+use crate::records::{id_of, precedes, ranked, tied};
 
-pub fn plan_insert<const W: usize>(table: &[u64], rule: &[u64], plan: &mut [u32]) -> Result<u32, Refusal> {
-    let new = Record::<W>::one(rule)?;
+pub fn plan_insert<const W: usize>(table: &[u64], rule: &[u64], edition: u32, plan: &mut [u32]) -> Result<u32, Refusal> {
+    let given = Record::<W>::one(rule)?;
     let mut near = new_list();
     let records = check_listed(table, &mut near)?;
     let slots = records.len();
-    let (after, dependant) = check_new(records, new)?;
+    let new = ranked(given, edition)?;
+    let (after, dependant) = check_new(records, &new)?;
     let down = costs_along(records, &near, false);
     let up = costs_along(records, &near, true);
     let choice = choose(&down, &up, slots, after, dependant);
@@ -23,11 +24,8 @@ pub fn plan_insert<const W: usize>(table: &[u64], rule: &[u64], plan: &mut [u32]
     Ok(count as u32)
 }
 
-/// Checks 5 to 10; A + 1, and B.
+/// Checks 6 to 10; A + 1, and B.
 fn check_new<const W: usize>(records: &[Record<W>], new: &Record<W>) -> Result<(usize, usize), Refusal> {
-    if !is_sound(new) {
-        return refuse(RULE, 0);
-    }
     if let Some(slot) = slot_of_id(records, id_of(new)) {
         return refuse(KNOWN, slot);
     }

@@ -1,7 +1,7 @@
 // Tests of one slot's record, and of two. The test of a pair ends at the first word that keeps the two apart.
 // After check 2 an id of 0 tells an empty slot: no further word is kept in a register for it.
 
-use crate::answers::{Record, PRIORITY_MOST};
+use crate::answers::{refuse, Record, Refusal, EDITION, EDITION_10, EDITION_13, EXACT_RANK, PRIORITY_MOST, RULE};
 
 pub fn is_empty<const W: usize>(record: &Record<W>) -> bool {
     let some = (0..W).fold(record.owner | record.rank, |some, word| some | record.value[word] | record.mask[word]);
@@ -12,13 +12,34 @@ pub fn id_of<const W: usize>(record: &Record<W>) -> u32 {
     (record.owner >> 32) as u32
 }
 
-/// Whether a record's priority and pattern are a rule's.
-pub fn rest_is_sound<const W: usize>(record: &Record<W>) -> bool {
-    record.rank <= PRIORITY_MOST && (0..W).all(|word| record.value[word] & !record.mask[word] == 0)
+fn is_within<const W: usize>(record: &Record<W>) -> bool {
+    (0..W).all(|word| record.value[word] & !record.mask[word] == 0)
 }
 
-pub fn is_sound<const W: usize>(record: &Record<W>) -> bool {
-    id_of(record) != 0 && rest_is_sound(record)
+/// Whether every mask bit is set.
+fn is_exact<const W: usize>(record: &Record<W>) -> bool {
+    (0..W).all(|word| record.mask[word] == u64::MAX)
+}
+
+/// Whether a record's rank and pattern are a rule's: the rank is a priority, or the one above all priorities that only a rule
+/// without wildcards may have. Of most records the first comparison tells.
+pub fn rest_is_sound<const W: usize>(record: &Record<W>) -> bool {
+    if record.rank > PRIORITY_MOST && !(record.rank == EXACT_RANK && is_exact(record)) {
+        return false;
+    }
+    is_within(record)
+}
+
+/// Checks 5 and 18 of a rule that is given; its record with its rank.
+pub fn ranked<const W: usize>(given: &Record<W>, edition: u32) -> Result<Record<W>, Refusal> {
+    if id_of(given) == 0 || given.rank > PRIORITY_MOST || !is_within(given) {
+        return refuse(RULE, 0);
+    }
+    match edition {
+        EDITION_10 if is_exact(given) => Ok(Record { rank: EXACT_RANK, ..*given }),
+        EDITION_10 | EDITION_13 => Ok(*given),
+        _ => refuse(EDITION, 0),
+    }
 }
 
 /// Whether a record is empty or sound.

@@ -1,18 +1,19 @@
 // One write of a plan: checks 1 and 2, the progress, whether the write fits, and the write.
 // A step that declines or is finished changes nothing.
 
-use crate::answers::{refuse, Progress, Record, Refusal, EMPTYING, PUT_IN, RULE, WRITE};
+use crate::answers::{refuse, Progress, Record, Refusal, EMPTYING, PUT_IN, WRITE};
 use crate::checks::check_slots;
-use crate::records::{id_of, is_empty, is_sound};
+use crate::records::{id_of, is_empty, ranked};
 
 /// Whether a write was made; if not, the plan is finished.
 pub fn carry_out<const W: usize>(
     table: &mut [u64],
     rule: &[u64],
+    edition: u32,
     plan: &[u32],
     progress: &mut Progress,
 ) -> Result<bool, Refusal> {
-    let new = Record::<W>::one(rule)?;
+    let given = Record::<W>::one(rule)?;
     let records = check_slots::<W>(table)?;
     let done = progress.done as usize;
     if progress.done > progress.total || progress.total as usize > plan.len() {
@@ -23,15 +24,12 @@ pub fn carry_out<const W: usize>(
     }
     let from = plan[done] >> 16;
     let to = (plan[done] & 0xffff) as usize;
-    if from == PUT_IN && !is_sound(new) {
-        return refuse(RULE, 0);
-    }
+    let new = if from == PUT_IN { ranked(given, edition)? } else { Record::EMPTY };
     if !fits(records, from, to) {
         return refuse(WRITE, done);
     }
     let record = match from {
-        PUT_IN => *new,
-        EMPTYING => Record::EMPTY,
+        PUT_IN | EMPTYING => new,
         _ => records[from as usize],
     };
     Record::all_mut(table)?[to] = record;

@@ -1,7 +1,7 @@
 // The neighbour list of a table, and check 4, in one pass over the pairs of its rules: slot after slot is asked against the
 // earlier ones, in blocks of 64 going down, the highest slot of a block first, and noted for the later ones.
 
-use crate::answers::{Record, SLOTS_MOST};
+use crate::answers::{Record, EXACT_RANK, SLOTS_MOST};
 use crate::bitmaps::{apart_in, choose_places, fill_rows, note_rows, spread_places, Spread, PLACES_MOST, PLACE_WORDS};
 use crate::records::{at, id_of, overlap, put, rules_overlap};
 
@@ -15,16 +15,16 @@ const PLACES_FEW: usize = 8;
 /// 65,535 for none.
 pub type Near = [u16; 2 * SLOTS_MOST];
 
-/// full: the rules before a slot; free: those of them without a dependant yet; low: for each block a number that no priority of
-/// its rules is below.
+/// full: the rules before a slot; free: those of them without a dependant yet; low: for each block a number that no rank of its
+/// rules is below.
 struct Marks {
     full: [u64; 16],
     free: [u64; 16],
     low: [u64; 16],
 }
 
-/// The slots of a block that are to be asked. Once the later slot has its preceding rule, a block of higher priorities has
-/// nothing to tell but to the rules that have no dependant.
+/// The slots of a block that are to be asked. Once the later slot has its preceding rule, a block of higher ranks has nothing to
+/// tell but to the rules that have no dependant.
 unsafe fn needed(near: &Near, marks: &Marks, block: usize, later: usize, rank: u64) -> u64 {
     if at(near, 2 * later + 1) == NONE || at(&marks.low, block) <= rank {
         at(&marks.full, block)
@@ -57,7 +57,7 @@ unsafe fn ask_pair<const W: usize>(records: &[Record<W>], near: &mut Near, marks
     false
 }
 
-/// Whether a pair need not be asked: both slots have their numbers and the priorities fall, or the patterns do not overlap.
+/// Whether a pair need not be asked: both slots have their numbers and the ranks fall, or the patterns do not overlap.
 unsafe fn quiet<const W: usize>(records: &[Record<W>], near: &Near, slot: usize, later: usize) -> bool {
     let (first, second) = (records.get_unchecked(slot), records.get_unchecked(later));
     let settled = at(near, 2 * later + 1) != NONE && first.rank > second.rank && at(near, 2 * slot) != NONE;
@@ -129,7 +129,7 @@ unsafe fn note_rule(marks: &mut Marks, slot: usize, rank: u64) {
 }
 
 unsafe fn pass_with<const W: usize>(records: &[Record<W>], near: &mut Near, maps: &mut [u64], spread: &Spread<W>) -> usize {
-    let mut marks = Marks { full: [0; 16], free: [0; 16], low: [65_536; 16] };
+    let mut marks = Marks { full: [0; 16], free: [0; 16], low: [EXACT_RANK; 16] };
     let mut others = [0; PLACES_MOST];
     let mut own = [0; PLACES_MOST];
     let mut first = 0;

@@ -4,14 +4,15 @@
 use crate::answers::{refuse, Record, Refusal, CROSSED, EMPTYING, FULL, KNOWN, RULE, SHORT, SLOTS_MOST, TIE, UNKNOWN};
 use crate::checks::{check_listed, check_table};
 use crate::planner::{choose, fill_costs, write_plan};
-use crate::records::{id_of, is_sound, precedes, put, tied};
+use crate::records::{id_of, precedes, put, ranked, tied};
 
-pub fn plan_insert<const W: usize>(table: &[u64], rule: &[u64], plan: &mut [u32]) -> Result<u32, Refusal> {
-    let new = Record::<W>::one(rule)?;
+pub fn plan_insert<const W: usize>(table: &[u64], rule: &[u64], edition: u32, plan: &mut [u32]) -> Result<u32, Refusal> {
+    let given = Record::<W>::one(rule)?;
     let mut near = [0; 2 * SLOTS_MOST];
     let records = check_listed(table, &mut near)?;
     let slots = records.len();
-    let (after, dependant) = check_new(records, new)?;
+    let new = ranked(given, edition)?;
+    let (after, dependant) = check_new(records, &new)?;
     let mut ends = [0; SLOTS_MOST];
     let mut down = [0; SLOTS_MOST];
     let mut up = [0; SLOTS_MOST];
@@ -38,12 +39,9 @@ fn first_slot<const W: usize>(records: &[Record<W>], test: impl Fn(&Record<W>) -
     slot
 }
 
-/// Checks 5 to 10; A + 1, and B.
+/// Checks 6 to 10; A + 1, and B.
 fn check_new<const W: usize>(records: &[Record<W>], new: &Record<W>) -> Result<(usize, usize), Refusal> {
     let slots = records.len();
-    if !is_sound(new) {
-        return refuse(RULE, 0);
-    }
     let known = slot_of_id(records, id_of(new));
     if known < slots {
         return refuse(KNOWN, known);
