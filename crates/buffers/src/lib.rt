@@ -1,6 +1,11 @@
 // What a call that writes into a lent buffer answers and leaves there, a plan's words or an image's bytes, and what a planning call answers.
 // specs/ has the definitions, which planning and saving share.
 use records::Cause;
+ghost use mathlib.Core.Path.{_≡_};
+ghost use mathlib.Core.List.{[], _∷_};
+ghost use lib.ListN.{length};
+ghost use Rattle.records.specs.declared.Check.the-variants.{Pass};
+ghost use Rattle.buffers.specs.Buffers.{planTold, bufferAnswer, bufferAfter};
 
 // What a plan that was written tells: how many words it has.
 pub struct PlanInfo {
@@ -11,4 +16,16 @@ pub struct PlanInfo {
 pub enum PlanAnswer {
     Planned(PlanInfo),
     Refused(Cause, u32),
+}
+
+// A plan of one word: the word, where the buffer has room for it.
+pub fn answer_word(word: u32, plan: &mut [u32]) -> PlanAnswer
+    ensures { λ r. ⌜ planTold r ≡ bufferAnswer Pass 1 (length (now (plan .entry))) ⌝ }
+    ensures { λ _. ⌜ now (plan .exit) ≡ bufferAfter Pass (word ∷ []) (now (plan .entry)) ⌝ }
+{
+    if plan.len() < 1 {
+        return PlanAnswer::Refused(Cause::Short, 1);
+    }
+    plan[0] = word;
+    PlanAnswer::Planned(PlanInfo { count: 1 })
 }

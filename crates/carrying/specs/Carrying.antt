@@ -1,16 +1,19 @@
 -- Document 01, "Carrying out": what a step answers, and the table and the writes done after it, for every table, plan, rule with its edition, and progress.
 -- The step's contract is an equation with these definitions, at the width that the call names.
-use mathlib.Core.Bool.{Bool, not, cond, _&&_}
+use mathlib.Core.Bool.{Bool, not, cond, _&&_, _||_}
 use mathlib.Core.List.{List, [], _∷_}
 use Prim.Native.Nat.{ℕ, _+_}
-use lib.Dec.{eqb, leb}
+use lib.Dec.{eqb, ltb, leb}
 use lib.ListN.{length, getD}
 use Rattle.layout.specs.Write.{Write, copy, put, clear}
 use Rattle.plan_words.specs.PlanWords.{writeOf}
+use Rattle.records.specs.Record.{word as wordAt, slotWords, recordOf}
+use Rattle.records.specs.Order.{slots, equalRule}
 use Rattle.records.specs.Checks.{Told, success, refusal, unless, passes, orElse, slotChecks}
 use Rattle.records.specs.Widths.{checkRule, leaves}
 use Rattle.records.specs.Writes.{fitsWrite, applyWord}
 use Rattle.records.specs.Editions.{Given, lentRule, ranked, checkGiven}
+use Rattle.records.specs.declared.Rule.{Rule}
 use Rattle.records.specs.declared.Cause.the-variants.{Write as WriteCause}
 use Rattle.records.specs.declared.Check.{Check}
 use Rattle.records.specs.declared.Check.the-variants.{Pass, Fail}
@@ -33,9 +36,19 @@ putChecks w given (copy from to) = Pass
 putChecks w given (put to) = checkGiven w given
 putChecks w given (clear to) = Pass
 
+-- document 02, 2026-03: slot `to` holds a rule of the same value, mask and rank as the one that is put in
+unfoldable pub overEqual : ℕ → List ℕ → Rule → ℕ → Bool
+overEqual w t rule to = ltb to (slots w t) && equalRule w (slotWords w t to) (wordAt (recordOf w rule))
+
+-- when a write fits: as document 01 has it, and a put-in also over an equal rule. The rule has its rank
+abbrev pub fitsCarried : ℕ → List ℕ → Rule → Write → Bool
+fitsCarried w t rule (copy from to) = fitsWrite w t (copy from to)
+fitsCarried w t rule (put to) = fitsWrite w t (put to) || overEqual w t rule to
+fitsCarried w t rule (clear to) = fitsWrite w t (clear to)
+
 -- the next write: 5 for an unsound rule and 18 for another edition where a rule is put in; else 12 unless it fits
 unfoldable pub writeChecks : ℕ → List ℕ → Given → ℕ → ℕ → Check
-writeChecks w t given word done = orElse (putChecks w given (writeOf word)) (cond (fitsWrite w t (writeOf word)) Pass (Fail WriteCause done))
+writeChecks w t given word done = orElse (putChecks w given (writeOf word)) (cond (fitsCarried w t (ranked w given) (writeOf word)) Pass (Fail WriteCause done))
 
 -- the answer: a refusal; "finished", if done = in all; else the writes done after one more
 unfoldable pub stepAnswer : ℕ → List ℕ → List ℕ → Given → ℕ → ℕ → Told

@@ -15,14 +15,13 @@ use Rattle.records.specs.Order.{slots}
 use Rattle.records.specs.Widths.{known, checkWidth, checkWords, checkRule}
 use Rattle.records.specs.Checks.{Told, success, refusal, unless, orElse, lowest, shaped, checkShape, unsoundAt, checkRecords, slotChecks}
 use Rattle.records.specs.Laws.{cause-not-zero}
-use Rattle.records.specs.Writes.{fitsWrite}
 use Rattle.records.specs.EntriesLaws.{shaped-slots}
-use Rattle.records.specs.Editions.{Given, lentRule, knownEdition, checkSound, checkEdition, checkGiven}
+use Rattle.records.specs.Editions.{Given, lentRule, ranked, knownEdition, checkSound, checkEdition, checkGiven}
 use Rattle.records.specs.declared.Cause.{Cause}
 use Rattle.records.specs.declared.Cause.the-variants.{Shape, Record, Rule as RuleCause, Write as WriteCause, Edition as EditionCause}
 use Rattle.records.specs.declared.Check.{Check}
 use Rattle.records.specs.declared.Check.the-variants.{Pass, Fail}
-use Rattle.carrying.specs.Carrying.{progressChecks, putChecks, writeChecks, stepAnswer, stepCall}
+use Rattle.carrying.specs.Carrying.{progressChecks, putChecks, fitsCarried, writeChecks, stepAnswer, stepCall}
 
 -- the spot is below n, of a check that fails and of a refusal that is told
 abbrev Below : ℕ → Check → Type 0
@@ -75,9 +74,9 @@ step-below w t plan given done total n large few =
     write : Below n (writeChecks w t given (getD plan done 0) done)
     write =
         or-else-below n (putChecks w given (writeOf (getD plan done 0)))
-        (cond (fitsWrite w t (writeOf (getD plan done 0))) Pass (Fail WriteCause done))
+        (cond (fitsCarried w t (ranked w given) (writeOf (getD plan done 0))) Pass (Fail WriteCause done))
         (put (writeOf (getD plan done 0)))
-        (λ s. cond-below n (fitsWrite w t (writeOf (getD plan done 0))) WriteCause done few)
+        (λ s. cond-below n (fitsCarried w t (ranked w given) (writeOf (getD plan done 0))) WriteCause done few)
 
     finished : (b : Bool) → ToldBelow n (cond b (success []) (unless (writeChecks w t given (getD plan done 0) done) (success ((done + 1) ∷ []))))
     finished true = λ f. absurd (true≢false f)

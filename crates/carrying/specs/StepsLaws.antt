@@ -1,26 +1,30 @@
 -- End theorems on a step: the tests of one write as the code makes them, and the ways in which a step ends.
 -- A step that is refused or finished leaves the table and the writes done as they were.
 use mathlib.Core.Path.{_≡_, refl, sym, ap, ap₂, subst, _∙_}
-use mathlib.Core.Bool.{Bool, true, false, not, cond, _&&_, true≢false}
+use mathlib.Core.Bool.{Bool, true, false, not, cond, _&&_, _||_, and-true, or-true, or-false, true≢false}
 use mathlib.Core.Logic.{_≢_, _⊎_}
 use mathlib.Core.Logic._⊎_.{inl, inr}
 use mathlib.Core.List.{List, [], _∷_}
-use Prim.Native.Nat.{ℕ, _+_, _≤_, _<_}
+use Prim.Native.Nat.{ℕ, _+_, _*_, _≤_, _<_}
 use lib.Dec.{eqb, ltb, leb}
-use lib.ListN.{length, getD}
+use lib.ListN.{length, getD, set}
+use lib.Seq.{getD-set-same, getD-set-other}
 use native.Mathlib.Omega.{arith}
-use borrow.Author.Tests.{eq-eqb, ne-eqb, leb-true}
-use Rattle.search.specs.SearchLaws.{decided, and-left, and-right}
+use borrow.Author.Tests.{eq-eqb, ne-eqb, leb-true, ltb-true}
+use Rattle.search.specs.SearchLaws.{decided, all-cong, and-left, and-right}
 use Rattle.layout.specs.Write.{Write, copy, put, clear}
 use Rattle.plan_words.specs.PlanWords.{writeOf, SlotsBelow}
-use Rattle.records.specs.Record.{slotWords, empty, occupied, recordWords}
-use Rattle.records.specs.Order.{slots}
+use Rattle.records.specs.Record.{word, slotWords, rank, empty, occupied, soundRule, recordWords, recordOf, ruleOf}
+use Rattle.records.specs.Order.{slots, samePattern, equalRule}
 use Rattle.records.specs.Checks.{Told, success, refusal, unless, passes, slotChecks}
-use Rattle.records.specs.Laws.{failed, passed, or-else-pass, pass-law, cause-not-zero, cause-number-once}
+use Rattle.records.specs.Laws.{failed, passed, or-else-pass, pass-law, sound-law, cause-not-zero, cause-number-once}
 use Rattle.records.specs.Widths.{Width, checkRule, leaves}
-use Rattle.records.specs.WidthsLaws.{rule-law}
-use Rattle.records.specs.Writes.{standsElsewhere, freeAt, fitsWrite, fitsWord, applyWrite, applyWord}
-use Rattle.records.specs.Editions.{Given, lentRule, ranked}
+use Rattle.records.specs.WidthsLaws.{rule-law, lent-words}
+use Rattle.records.specs.RulesLaws.{rule-action}
+use Rattle.records.specs.EntriesLaws.{rule-occupied}
+use Rattle.records.specs.Writes.{standsElsewhere, freeAt, fitsWrite, applyWrite, applyWord}
+use Rattle.records.specs.Editions.{Given, lentRule, ranked, lentRank, checkGiven}
+use Rattle.records.specs.EditionsLaws.{given-law, rank-sound, ranked-action, ranked-record}
 use Rattle.records.specs.declared.Rule.{Rule}
 use Rattle.records.specs.declared.Cause.{Cause}
 use Rattle.records.specs.declared.Cause.the-variants.{Write as WriteCause}
@@ -29,7 +33,7 @@ use Rattle.records.specs.declared.Check.the-variants.{Pass, Fail}
 use Rattle.records.specs.WritesLaws.{fits-below}
 use Rattle.carrying.specs.declared.StepAnswer.{StepAnswer}
 use Rattle.carrying.specs.declared.StepAnswer.the-variants.{Wrote, Finished, Refused}
-use Rattle.carrying.specs.Carrying.{stepTold, progressChecks, putChecks, writeChecks, stepAnswer, stepWrites, stepTable, stepDone}
+use Rattle.carrying.specs.Carrying.{stepTold, progressChecks, putChecks, overEqual, fitsCarried, writeChecks, stepAnswer, stepWrites, stepTable, stepDone}
 use Rattle.carrying.specs.Carrying.{stepCall, stepCallTable, stepCallDone}
 use Rattle.carrying.specs.Steps.{StepEnds}
 
@@ -67,29 +71,85 @@ pub copy-stopped : (w : ℕ) (t : List ℕ) (from to : ℕ) {x : Bool} → x ≡
 copy-stopped w t from to e h =
     ap (λ (b : Bool). b && fitsWrite w t (put to)) (sym (ap (λ (b : Bool). not (eqb from to) && b) (sym e) ∙ h)) ∙ sym (copy-tests w t from to)
 
--- the write of a word, by the value that the code has taken it apart to
-module _ (w : ℕ) (t : List ℕ) (n : ℕ) {x : Write} (e : x ≡ writeOf n) where
-  pub write-fitting : fitsWrite w t x ≡ fitsWord w t n
-  write-fitting = ap (fitsWrite w t) e
+-- a write that fits as document 01 has it fits when it is carried out, and the slots of one that does exist
+module _ (w : ℕ) (t : List ℕ) (rule : Rule) where
+  pub fits-carried : (x : Write) → fitsWrite w t x ≡ true → fitsCarried w t rule x ≡ true
+  fits-carried (copy from to) f = f
+  fits-carried (put to) f = ap (λ (b : Bool). b || overEqual w t rule to) f
+  fits-carried (clear to) f = f
 
-  pub write-made : (rule : Rule) → applyWrite w t rule x ≡ applyWord w t rule n
-  write-made rule = ap (applyWrite w t rule) e
+  pub carried-below : (x : Write) → fitsCarried w t rule x ≡ true → SlotsBelow (slots w t) x
+  unfolding overEqual
+  carried-below (copy from to) f = fits-below w t (copy from to) f
+  carried-below (put to) f = pick (decided (fitsWrite w t (put to)))
+    where
+      pick : (fitsWrite w t (put to) ≡ true) ⊎ (fitsWrite w t (put to) ≡ false) → to < slots w t
+      pick (inl g) = fits-below w t (put to) g
+      pick (inr g) =
+          let over : overEqual w t rule to ≡ true = sym (ap (λ (b : Bool). b || overEqual w t rule to) g) ∙ f in
+          ltb-true to (slots w t) (and-left (ltb to (slots w t)) (equalRule w (slotWords w t to) (word (recordOf w rule))) over)
+  carried-below (clear to) f = fits-below w t (clear to) f
+
+  -- a put-in's two tests, in the code's order
+  pub put-over : (to : ℕ) {x : Bool} → x ≡ overEqual w t rule to → x ≡ true → true ≡ fitsCarried w t rule (put to)
+  put-over to e f = sym (ap (λ (b : Bool). fitsWrite w t (put to) || b) (sym e ∙ f) ∙ or-true (fitsWrite w t (put to)))
+
+  pub put-free : (to : ℕ) {x y : Bool} → x ≡ overEqual w t rule to → x ≡ false → y ≡ fitsWrite w t (put to) → y ≡ fitsCarried w t rule (put to)
+  put-free to e f g = g ∙ sym (ap (λ (b : Bool). fitsWrite w t (put to) || b) (sym e ∙ f) ∙ or-false (fitsWrite w t (put to)))
+
+-- a rule equal to the one given, as the code compares them: the rule is lent with its priority, and its rank is worked out
+pub given-equal : (w e : ℕ) (lent : List ℕ) (x : ℕ → ℕ) → length lent ≡ recordWords w → checkGiven w (lentRule w e lent) ≡ Pass
+    → equalRule w x (word (recordOf w (ranked w (lentRule w e lent))))
+    ≡ (samePattern w x (slotWords w lent 0) && eqb (rank w x) (lentRank w e lent)) && occupied w x
+unfolding equalRule samePattern
+given-equal w e lent x size good =
+    ap₂ _&&_ (ap₂ _&&_ (all-cong (2 * w) (λ j h. ap (eqb (x j)) (pattern j h))) (ap (eqb (rank w x)) ranks))
+    (ap (λ (b : Bool). occupied w x && b) filled ∙ and-true (occupied w x))
+  where
+    rule : Rule
+    rule = ranked w (lentRule w e lent)
+
+    sound : soundRule w (ruleOf w (word lent)) ≡ true
+    sound = given-law w (lentRule w e lent) .0 good .0
+
+    is : set lent (2 * w + 1) (lentRank w e lent) ≡ recordOf w rule
+    is = ranked-record w e lent size sound
+
+    pattern : (j : ℕ) → j < 2 * w → word (recordOf w rule) j ≡ slotWords w lent 0 j
+    pattern j h =
+        ap (λ (l : List ℕ). getD l j 0) (sym is)
+        ∙ (getD-set-other lent (2 * w + 1) j (lentRank w e lent) 0 (λ f. omega arith) ∙ ap (λ (y : ℕ → ℕ). y j) (sym (lent-words w lent)))
+
+    ranks : rank w (word (recordOf w rule)) ≡ lentRank w e lent
+    ranks = ap (λ (l : List ℕ). rank w (word l)) (sym is) ∙ getD-set-same lent (2 * w + 1) (lentRank w e lent) 0 (omega (arith, size))
+
+    filled : occupied w (word (recordOf w rule)) ≡ true
+    filled =
+        rule-occupied w rule (sound-law w _ _ _ _ .0 (rank-sound w (lentRule w e lent) sound) .0) (omega (arith, rule-action w (word lent), ranked-action w (lentRule w e lent)))
+
+-- the write of a word, by the value that the code has taken it apart to
+module _ (w : ℕ) (t : List ℕ) (n : ℕ) {x : Write} (e : x ≡ writeOf n) (rule : Rule) where
+  pub write-fitting : fitsCarried w t rule x ≡ fitsCarried w t rule (writeOf n)
+  write-fitting = ap (fitsCarried w t rule) e
+
+  pub write-made : applyWrite w t rule x ≡ applyWord w t rule n
+  write-made = ap (applyWrite w t rule) e
 
   -- the slots of a write that fits exist
-  pub write-below : fitsWord w t n ≡ true → SlotsBelow (slots w t) x
-  write-below f = subst (SlotsBelow (slots w t)) (sym e) (fits-below w t (writeOf n) f)
+  pub write-below : fitsCarried w t rule (writeOf n) ≡ true → SlotsBelow (slots w t) x
+  write-below f = subst (SlotsBelow (slots w t)) (sym e) (carried-below w t rule (writeOf n) f)
 
 -- how the checks of the next write end
 module _ (w : ℕ) (t : List ℕ) (n : ℕ) (given : Given) (done : ℕ) {x : Check} (e : x ≡ putChecks w given (writeOf n)) where
   pub write-declined : {cause : Cause} {spot : ℕ} → x ≡ Fail cause spot → Fail cause spot ≡ writeChecks w t given n done
   unfolding writeChecks
-  write-declined h = failed (cond (fitsWord w t n) Pass (Fail WriteCause done)) e h
+  write-declined h = failed (cond (fitsCarried w t (ranked w given) (writeOf n)) Pass (Fail WriteCause done)) e h
 
-  pub write-fits : {f : Bool} → x ≡ Pass → f ≡ fitsWord w t n → f ≡ true → Pass ≡ writeChecks w t given n done
+  pub write-fits : {f : Bool} → x ≡ Pass → f ≡ fitsCarried w t (ranked w given) (writeOf n) → f ≡ true → Pass ≡ writeChecks w t given n done
   unfolding writeChecks
   write-fits h g i = passed e h (rw (← g, i))
 
-  pub write-unfit : {f : Bool} → x ≡ Pass → f ≡ fitsWord w t n → f ≡ false → Fail WriteCause done ≡ writeChecks w t given n done
+  pub write-unfit : {f : Bool} → x ≡ Pass → f ≡ fitsCarried w t (ranked w given) (writeOf n) → f ≡ false → Fail WriteCause done ≡ writeChecks w t given n done
   unfolding writeChecks
   write-unfit h g i = passed e h (rw (← g, i))
 
@@ -155,11 +215,11 @@ answer-done w t plan given done total e f = ap (λ (told : Told). doneTold told 
 
 -- a write that passes its checks fits, and a rule that it puts in passes 5 and 18
 pub checked-write : (w : ℕ) (t : List ℕ) (given : Given) (n done : ℕ) → writeChecks w t given n done ≡ Pass
-    → (putChecks w given (writeOf n) ≡ Pass) × (fitsWord w t n ≡ true)
+    → (putChecks w given (writeOf n) ≡ Pass) × (fitsCarried w t (ranked w given) (writeOf n) ≡ true)
 unfolding writeChecks
 checked-write w t given n done e =
-    let both = or-else-pass (putChecks w given (writeOf n)) (cond (fitsWord w t n) Pass (Fail WriteCause done)) .0 e in
-    (both .0, pass-law WriteCause done (fitsWord w t n) .0 (both .1))
+    let both = or-else-pass (putChecks w given (writeOf n)) (cond (fitsCarried w t (ranked w given) (writeOf n)) Pass (Fail WriteCause done)) .0 e in
+    (both .0, pass-law WriteCause done (fitsCarried w t (ranked w given) (writeOf n)) .0 (both .1))
 
 -- a progress that passes its check: done ≤ in all ≤ the plan's words
 pub progress-within : (w : ℕ) (t : List ℕ) (words done total : ℕ) → progressChecks w t words done total ≡ Pass → (done ≤ total) × (total ≤ words)

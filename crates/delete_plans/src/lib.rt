@@ -1,7 +1,7 @@
 // Planning a delete: one write that empties the rule's slot.
 // The table is never changed, and a call that declines leaves the plan buffer as it was.
 use buffers::PlanAnswer;
-use buffers::PlanInfo;
+use buffers::answer_word;
 use plan_words::PlanWrite;
 use plan_words::word_of;
 use records::Cause;
@@ -75,12 +75,8 @@ fn delete_at(table: &[u64], id: u32, plan: &mut [u32], mode: Mode) -> PlanAnswer
     if let Check::Fail(cause, spot) = check {
         return PlanAnswer::Refused(cause, spot);
     }
-    if plan.len() < 1 {
-        return PlanAnswer::Refused(Cause::Short, 1);
-    }
     let slot = slot_of_id(table, id as u64, mode.width) as u32;
-    plan[0] = word_of(PlanWrite::Clear(slot));
-    PlanAnswer::Planned(PlanInfo { count: 1 })
+    answer_word(word_of(PlanWrite::Clear(slot)), plan)
 }
 
 // The plan of a delete: one emptying word, or a refusal that leaves the buffer as it was.

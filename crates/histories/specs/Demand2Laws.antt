@@ -1,18 +1,18 @@
 -- End theorems: demand 2 within a plan, for every accepted insert and delete.
 -- A plan whose writes fit in their turn, keep the replies until the last and leave the changed rules keeps it.
-use mathlib.Core.Path.{_≡_, refl, sym, ap, _∙_, subst}
-use mathlib.Core.Bool.{true, false, true≢false}
-use mathlib.Core.Logic.{_↔_, _⊎_, ⊎-elim, _≢_}
+use mathlib.Core.Path.{_≡_, refl, sym, ap, _∙_, subst, subst₂}
+use mathlib.Core.Bool.{Bool, true, false, _||_, or-true}
+use mathlib.Core.Logic.{_↔_, _⊎_, ⊎-elim}
 use mathlib.Core.Logic._⊎_.{inl, inr}
 use mathlib.Core.List.{List, [], _∷_, _++_}
 use Prim.Native.Nat.{ℕ, zero, suc, _≤_, _<_}
 use native.Mathlib.Decide.{decLt}
 use native.Mathlib.Omega.{arith}
-use lib.Dec.{eqb}
+use lib.Dec.{eqb, ltb}
 use lib.ListN.{length, getD, take, drop}
 use lib.Seq.{take-all}
-use borrow.Author.Tests.{eqb-true}
-use Rattle.search.specs.SearchLaws.{and-left, and-right}
+use borrow.Author.Tests.{eqb-true, lt-ltb}
+use Rattle.search.specs.SearchLaws.{and-both, and-left, and-right}
 use Rattle.ternary.specs.Pattern.{Words}
 use Rattle.layout.specs.Held.{Held, emptied}
 use Rattle.layout.specs.Valid.{Between}
@@ -21,16 +21,17 @@ use Rattle.layout.specs.HeldLaws.{held-removed}
 use Rattle.plan_words.specs.PlanWords.{writeWord, writeOf}
 use Rattle.plan_words.specs.PlanWordsLaws.{write-of-word}
 use Rattle.records.specs.Record.{word, slotWords, ident, occupied, recordOf}
+use Rattle.records.specs.Order.{slots, equalRule}
 use Rattle.records.specs.Checks.{success, checkTwice, checkOrder, slotChecks}
-use Rattle.records.specs.Laws.{slot-checks-law, table-checks-law, same-id-law}
+use Rattle.records.specs.Laws.{slot-checks-law, table-checks-law}
 use Rattle.records.specs.Entries.{vacant, entries, entryOccupied, entrySame, entryMisordered}
-use Rattle.records.specs.Writes.{fitsWord, applyWords}
+use Rattle.records.specs.Writes.{fitsWrite, applyWords}
 use Rattle.records.specs.Editions.{Given, ranked, checkGiven}
 use Rattle.records.specs.EditionsLaws.{given-law, ranked-action}
 use Rattle.records.specs.declared.Rule.{Rule}
 use Rattle.records.specs.declared.Check.the-variants.{Pass}
-use Rattle.records.specs.RulesLaws.{record-ident}
-use Rattle.records.specs.EntriesLaws.{entries-length, entry-same, ident-cong, occupied-at, entry-laws, unique-entries, shaped-slots, refuted}
+use Rattle.records.specs.EqualLaws.{equal-law}
+use Rattle.records.specs.EntriesLaws.{entries-length, entry-laws, unique-entries, shaped-slots}
 use Rattle.records.specs.WritesLaws.{apply-entries}
 use Rattle.records.specs.ClassWordsLaws.{class-words-law}
 use Rattle.buffers.specs.BuffersLaws.{buffer-accepted}
@@ -38,21 +39,25 @@ use Rattle.lookups.specs.Lookup.{reply}
 use Rattle.neighbours.specs.Neighbours.{insertChecks}
 use Rattle.delete_plans.specs.Deletes.{hasId, slotOfId, deleteChecks, deleteWords, deleteAnswer, deletePlan, DeletePlanned}
 use Rattle.delete_plans.specs.DeletesLaws.{delete-planned}
-use Rattle.insert_plans.specs.Inserts.{insertWords, insertAnswer, insertPlan}
-use Rattle.insert_plans.specs.Insertable.{InsertableGiven}
+use Rattle.insert_plans.specs.Inserts.{insertWords, replacementWords, plannedWords, insertAnswer, insertPlan}
+use Rattle.insert_plans.specs.Insertable.{InsertableGiven, ReplacingGiven}
 use Rattle.insert_plans.specs.Demand3.{ShortestPlan}
-use Rattle.insert_plans.specs.InsertableLaws.{insertable-law}
+use Rattle.insert_plans.specs.InsertableLaws.{insertable-law, insertable-fresh}
+use Rattle.insert_plans.specs.InsertsLaws.{planned-fresh, planned-replaced}
 use Rattle.insert_plans.specs.Demand3Laws.{shortest-words}
-use Rattle.carrying.specs.Carrying.{putChecks}
+use Rattle.carrying.specs.Carrying.{putChecks, overEqual, fitsCarried}
 use Rattle.carrying.specs.Calls.{State, afterCalls, callAnswer, Lent}
-use Rattle.carrying.specs.StepsLaws.{progress-within, accepted-progress}
+use Rattle.carrying.specs.StepsLaws.{fits-carried, progress-within, accepted-progress}
 use Rattle.carrying.specs.CallsLaws.{lent-part, calls-lent, answer-lent}
 use Rattle.histories.specs.RuleSet.{Member, without, setReply}
 use Rattle.histories.specs.Holding.{Replies, Holding}
 use Rattle.histories.specs.RepliesLaws.{insert-keeps-reply}
 use Rattle.histories.specs.SoundnessLaws.{insert-between-checks, insert-after-checks, delete-after-checks}
+use Rattle.histories.specs.SoundnessLaws.{replacement-word, replacement-held, replacement-checks}
 use Rattle.histories.specs.RuleSetLaws.{without-law}
-use Rattle.histories.specs.HoldingLaws.{looked-up, holding-lookup}
+use Rattle.histories.specs.HoldingLaws.{looked-up, holding-lookup, held-others}
+use Rattle.histories.specs.Inserted.{rulesInserted}
+use Rattle.histories.specs.InsertedLaws.{inserted-fresh, inserted-replaced}
 use Rattle.histories.specs.InTurnLaws.{InTurn, calls-state, calls-write, calls-rest, calls-finished}
 use Rattle.histories.specs.Demand2.{Demand2}
 
@@ -119,7 +124,8 @@ module _ (w : ℕ) (t : List ℕ) (given : Given) (small : given .rule .action <
   insert-turn plan rest e = record {
     rest = rest;
     front = e;
-    fits = ⊎-elim (λ c. c .fits) (λ c. c .fits) (class-words-law w t rule words .0 (planned .class));
+    fits = λ k h. fits-carried w (applyWords w t rule (take k words)) rule (writeOf (getD words k 0))
+        (⊎-elim (λ c. c .fits k h) (λ c. c .fits k h) (class-words-law w t rule words .0 (planned .class)));
     put = λ k h. put-passes w given (given-law w given .1 (premises .sound, premises .edition)) (writeOf (getD words k 0));
     checks = checked;
   }
@@ -152,16 +158,113 @@ module _ (w : ℕ) (t : List ℕ) (given : Given) (small : given .rule .action <
       demand-2 w t given words plan (insert-turn plan rest e) (λ k h key. insert-keeps-reply w t given small premises key k h)
       (λ rules. rule ∷ rules) insert-leaves
 
--- demand 2 of an insert: the rule is added, with its rank
+-- the one write of a replacement
+module _ (w : ℕ) (t : List ℕ) (given : Given) (small : given .rule .action < 4294967296) (s : ℕ) (premises : ReplacingGiven w t given s) where
+  abbrev sent : Rule
+  sent = ranked w given
+
+  action32 : sent .action < 4294967296
+  action32 = omega (arith, small, ranked-action w given)
+
+  puts : writeOf (writeWord (put s)) ≡ put s
+  puts = replacement-word w t sent action32 s (premises .replacing)
+
+  old-checks : (slotChecks w t ≡ Pass) × (checkTwice w t ≡ Pass) × (checkOrder w t ≡ Pass)
+  old-checks = table-checks-law w t .0 (premises .replacing .table)
+
+  replacement-turn : (plan rest : List ℕ) → plan ≡ replacementWords s ++ rest → InTurn w t given (replacementWords s) plan
+  unfolding overEqual
+  replacement-turn plan rest e = record { rest = rest; front = e; fits = fits; put = looks; checks = checked }
+    where
+      over : overEqual w t sent s ≡ true
+      over =
+          let equal = equal-law w (slotWords w t s) (word (recordOf w sent)) .1 (premises .replacing .equal) in
+          and-both (ltb s (slots w t)) (equalRule w (slotWords w t s) (word (recordOf w sent))) (lt-ltb s (slots w t) (premises .replacing .inside)) equal
+
+      fits : (k : ℕ) → k < 1 → fitsCarried w (applyWords w t sent (take k (replacementWords s))) sent (writeOf (getD (replacementWords s) k 0)) ≡ true
+      fits zero h = ap (fitsCarried w t sent) puts ∙ (ap (λ (b : Bool). fitsWrite w t (put s) || b) over ∙ or-true (fitsWrite w t (put s)))
+      fits (suc k) h = absurd (omega arith)
+
+      looks : (k : ℕ) → k < 1 → putChecks w given (writeOf (getD (replacementWords s) k 0)) ≡ Pass
+      looks zero h = put-passes w given (given-law w given .1 (premises .sound, premises .edition)) (writeOf (writeWord (put s)))
+      looks (suc k) h = absurd (omega arith)
+
+      checked : (k : ℕ) → k ≤ 1 → slotChecks w (applyWords w t sent (take k (replacementWords s))) ≡ Pass
+      checked zero h = old-checks .0
+      checked (suc zero) h = table-checks-law w _ .0 (replacement-checks w t sent action32 s (premises .replacing)) .0
+      checked (suc (suc k)) h = absurd (omega arith)
+
+  abbrev replaced-id : ℕ
+  replaced-id = ident w (slotWords w t s)
+
+  replacement-leaves : (rules : List Rule) → Holding w rules t → Holding w (sent ∷ without replaced-id rules) (applyWords w t sent (replacementWords s))
+  replacement-leaves rules h = record {
+    checks = replacement-checks w t sent action32 s (premises .replacing);
+    held = λ x. let held = replacement-held w t sent action32 s (premises .replacing) x in (λ m. forth x (held .0 m), λ m. held .1 (back x m));
+    actions = few;
+  }
+    where
+      others : (x : List ℕ) → (Held (vacant w) (entryOccupied w) (entries w t) x × (entrySame w x (getD (entries w t) s (vacant w)) ≡ false))
+          ↔ ((r : Rule) × Member r (without replaced-id rules) × (recordOf w r ≡ x))
+      others = held-others w rules t h s replaced-id (premises .replacing .inside) (premises .replacing .equal .first) refl
+
+      forth : (x : List ℕ) → (Held (vacant w) (entryOccupied w) (entries w t) x × (entrySame w x (getD (entries w t) s (vacant w)) ≡ false))
+          ⊎ ((entryOccupied w (recordOf w sent) ≡ true) × (recordOf w sent ≡ x)) → (r : Rule) × Member r (sent ∷ without replaced-id rules) × (recordOf w r ≡ x)
+      forth x (inl m) = let o = others x .0 m in (o .0, inr (o .1), o .2)
+      forth x (inr m) = (sent, inl refl, m .1)
+
+      back : (x : List ℕ) → ((r : Rule) × Member r (sent ∷ without replaced-id rules) × (recordOf w r ≡ x))
+          → (Held (vacant w) (entryOccupied w) (entries w t) x × (entrySame w x (getD (entries w t) s (vacant w)) ≡ false))
+          ⊎ ((entryOccupied w (recordOf w sent) ≡ true) × (recordOf w sent ≡ x))
+      back x (r, inl f, e) = inr (premises .replacing .equal .second, ap (recordOf w) (sym f) ∙ e)
+      back x (r, inr m, e) = inl (others x .1 (r, m, e))
+
+      few : (r : Rule) → Member r (sent ∷ without replaced-id rules) → r .action < 4294967296
+      few r (inl e) = let f : r .action ≡ sent .action = ap (λ (q : Rule). q .action) e in omega (arith, action32)
+      few r (inr m) = h .actions r (without-law replaced-id rules r .0 m .0)
+
+  replacement-carries : (plan rest : List ℕ) → plan ≡ replacementWords s ++ rest
+      → Demand2 w t plan given (replacementWords s) 1 (λ rules. sent ∷ without replaced-id rules)
+  replacement-carries plan rest e =
+      demand-2 w t given (replacementWords s) plan (replacement-turn plan rest e) first (λ rules. sent ∷ without replaced-id rules) replacement-leaves
+    where
+      first : (k : ℕ) → k < 1 → (key : Words) → reply w (applyWords w t sent (take k (replacementWords s))) key ≡ reply w t key
+      first zero h key = refl
+      first (suc k) h key = absurd (omega arith)
+
+-- demand 2 of an insert: the rule is added, with its rank, and the one that it replaces taken away
 pub demand-2-insert : (w : ℕ) (t : List ℕ) (given : Given) (plan : List ℕ) (count : ℕ) → given .rule .action < 4294967296
     → insertAnswer w t given (length plan) ≡ success (count ∷ [])
-    → Demand2 w t (insertPlan w t given plan) given (insertWords w t (ranked w given)) count (λ rules. ranked w given ∷ rules)
+    → Demand2 w t (insertPlan w t given plan) given (plannedWords w t (ranked w given)) count (rulesInserted w t (ranked w given))
 unfolding words
 demand-2-insert w t given plan count small e =
-    let rule = ranked w given in
-    let a = buffer-accepted (insertChecks w t given) (insertWords w t rule) plan count e in
-    subst (λ (n : ℕ). Demand2 w t (insertPlan w t given plan) given (insertWords w t rule) n (λ rules. rule ∷ rules)) (sym (a .1))
-    (insert-carries w t given small (insertable-law w t given .0 (a .0)) (insertPlan w t given plan) (drop (length (insertWords w t rule)) plan) (a .2))
+    subst (λ (n : ℕ). Demand2 w t (insertPlan w t given plan) given (plannedWords w t rule) n (rulesInserted w t rule)) (sym (accepted .1))
+    (⊎-elim fresh replaced (insertable-law w t given .0 (accepted .0)))
+  where
+    rule : Rule
+    rule = ranked w given
+
+    accepted : (insertChecks w t given ≡ Pass) × (count ≡ length (plannedWords w t rule))
+        × (insertPlan w t given plan ≡ plannedWords w t rule ++ drop (length (plannedWords w t rule)) plan)
+    accepted = buffer-accepted (insertChecks w t given) (plannedWords w t rule) plan count e
+
+    Promised : List ℕ → (List Rule → List Rule) → Type 0
+    Promised l change = Demand2 w t (insertPlan w t given plan) given l (length l) change
+
+    front : {l : List ℕ} → plannedWords w t rule ≡ l → insertPlan w t given plan ≡ l ++ drop (length l) plan
+    front is = accepted .2 ∙ ap (λ (l : List ℕ). l ++ drop (length l) plan) is
+
+    fresh : InsertableGiven w t given → Promised (plannedWords w t rule) (rulesInserted w t rule)
+    fresh p =
+        let is = planned-fresh w t rule (insertable-fresh w t rule (p .insertable .new) (p .insertable .untied)) in
+        subst₂ Promised (sym is) (inserted-fresh w t rule (p .insertable))
+        (insert-carries w t given small p (insertPlan w t given plan) (drop (length (insertWords w t rule)) plan) (front is))
+
+    replaced : ((s : ℕ) × ReplacingGiven w t given s) → Promised (plannedWords w t rule) (rulesInserted w t rule)
+    replaced (s, p) =
+        let is = planned-replaced w t rule s (p .replacing) in
+        subst₂ Promised (sym is) (inserted-replaced w t rule s (p .replacing))
+        (replacement-carries w t given small s p (insertPlan w t given plan) (drop 1 plan) (front is))
 
 -- the one write of an accepted delete
 module _ (w : ℕ) (t : List ℕ) (id : ℕ) (checks : deleteChecks w t id ≡ Pass) (given : Given) where
@@ -177,8 +280,9 @@ module _ (w : ℕ) (t : List ℕ) (id : ℕ) (checks : deleteChecks w t id ≡ P
   delete-turn : (plan rest : List ℕ) → plan ≡ deleteWords w t id ++ rest → InTurn w t given (deleteWords w t id) plan
   delete-turn plan rest e = record { rest = rest; front = e; fits = fits; put = looks; checks = checked }
     where
-      fits : (k : ℕ) → k < 1 → fitsWord w (applyWords w t (ranked w given) (take k (deleteWords w t id))) (getD (deleteWords w t id) k 0) ≡ true
-      fits zero h = deletion .fits
+      fits : (k : ℕ) → k < 1
+          → fitsCarried w (applyWords w t (ranked w given) (take k (deleteWords w t id))) (ranked w given) (writeOf (getD (deleteWords w t id) k 0)) ≡ true
+      fits zero h = fits-carried w t (ranked w given) (writeOf (writeWord (clear (slotOfId w t id)))) (deletion .fits)
       fits (suc k) h = absurd (omega arith)
 
       looks : (k : ℕ) → k < 1 → putChecks w given (writeOf (getD (deleteWords w t id) k 0)) ≡ Pass
@@ -200,12 +304,6 @@ module _ (w : ℕ) (t : List ℕ) (id : ℕ) (checks : deleteChecks w t id ≡ P
   abbrev entry : List ℕ
   entry = getD (entries w t) (slotOfId w t id) (vacant w)
 
-  entry-id : ident w (word entry) ≡ id
-  entry-id = ident-cong w (entry-same w t (slotOfId w t id) (deletion .exists)) ∙ has .1
-
-  entry-occupied : entryOccupied w entry ≡ true
-  entry-occupied = occupied-at w t (slotOfId w t id) (deletion .exists) ∙ has .0
-
   removed : (x : List ℕ) → Held (vacant w) (entryOccupied w) (entries w (applyWords w t (ranked w given) (deleteWords w t id))) x
       ↔ (Held (vacant w) (entryOccupied w) (entries w t) x × (entrySame w x entry ≡ false))
   removed x =
@@ -217,34 +315,13 @@ module _ (w : ℕ) (t : List ℕ) (id : ℕ) (checks : deleteChecks w t id ≡ P
       (λ k l d. unique-entries w t .1 (before .1) k (slotOfId w t id) l low d) x)
 
   delete-leaves : (rules : List Rule) → Holding w rules t → Holding w (without id rules) (applyWords w t (ranked w given) (deleteWords w t id))
-  delete-leaves rules h = record {
-    checks = delete-after-checks w t id checks (ranked w given);
-    held = λ x. (λ m. let o = removed x .0 m in forth x (o .0) (o .1) (h .held x .0 (o .0)), λ m. removed x .1 (back x m));
-    actions = λ r m. h .actions r (without-law id rules r .0 m .0);
-  }
-    where
-      forth : (x : List ℕ) → Held (vacant w) (entryOccupied w) (entries w t) x → entrySame w x entry ≡ false
-          → ((r : Rule) × Member r rules × (recordOf w r ≡ x)) → (r : Rule) × Member r (without id rules) × (recordOf w r ≡ x)
-      forth x m apart (r, i, e) = (r, without-law id rules r .1 (i, other), e)
-        where
-          other : r .id ≢ id
-          other f =
-              let same : ident w (word x) ≡ ident w (word entry) =
-              ap (λ (y : List ℕ). ident w (word y)) (sym e) ∙ (record-ident w r (h .actions r i) ∙ (f ∙ sym entry-id)) in
-              true≢false (sym (same-id-law w (word x) (word entry) .1 (m .0, entry-occupied, same)) ∙ apart)
-
-      back : (x : List ℕ) → ((r : Rule) × Member r (without id rules) × (recordOf w r ≡ x))
-          → Held (vacant w) (entryOccupied w) (entries w t) x × (entrySame w x entry ≡ false)
-      back x (r, i, e) = (h .held x .1 (r, m .0, e), refuted apart)
-        where
-          m : Member r rules × (r .id ≢ id)
-          m = without-law id rules r .0 i
-
-          apart : entrySame w x entry ≡ true → ⊥
-          apart f =
-              m .1
-              (sym (record-ident w r (h .actions r (m .0)))
-              ∙ (ap (λ (y : List ℕ). ident w (word y)) e ∙ (same-id-law w (word x) (word entry) .0 f .2 ∙ entry-id)))
+  delete-leaves rules h =
+      let others = held-others w rules t h (slotOfId w t id) id (deletion .exists) (has .0) (has .1) in
+      record {
+        checks = delete-after-checks w t id checks (ranked w given);
+        held = λ x. (λ m. others x .0 (removed x .0 m), λ m. removed x .1 (others x .1 m));
+        actions = λ r m. h .actions r (without-law id rules r .0 m .0);
+      }
 
   delete-carries : (plan rest : List ℕ) → plan ≡ deleteWords w t id ++ rest → Demand2 w t plan given (deleteWords w t id) 1 (without id)
   delete-carries plan rest e = demand-2 w t given (deleteWords w t id) plan (delete-turn plan rest e) first (without id) delete-leaves
@@ -303,12 +380,37 @@ pub carried-whole : {w : ℕ} {t plan : List ℕ} {given : Given} {words : List 
 carried-whole {w} {t} {plan} {given} {words} {count} d =
     d .made count (omega arith) ∙ ap (applyWords w t (ranked w given)) (take-all count words (omega (arith, d .number)))
 
--- until the last write of an insert the table holds the old rules, in order, at most one of them twice
+-- until the last write of an insert the table holds the old rules, in order, at most one of them twice; until that of a replacement it is as it was
 pub insert-between : (w : ℕ) (t : List ℕ) (given : Given) (plan : List ℕ) (count : ℕ) → given .rule .action < 4294967296
     → insertAnswer w t given (length plan) ≡ success (count ∷ []) → (k : ℕ) → k < count
     → Between (vacant w) (entryOccupied w) (entrySame w) (entryMisordered w) (entries w t) (entries w (afterCalls w t (insertPlan w t given plan) given count k .table))
-insert-between w t given plan count small e k h =
-    let d = demand-2-insert w t given plan count small e in
-    let a = buffer-accepted (insertChecks w t given) (insertWords w t (ranked w given)) plan count e in
-    subst (λ (u : List ℕ). Between (vacant w) (entryOccupied w) (entrySame w) (entryMisordered w) (entries w t) (entries w u)) (sym (d .made k (omega arith)))
-    (shortest-words w t given small (insertable-law w t given .0 (a .0)) .between k (omega (arith, d .number)))
+    ⊎ (afterCalls w t (insertPlan w t given plan) given count k .table ≡ t)
+insert-between w t given plan count small e k h = ⊎-elim fresh replaced (insertable-law w t given .0 (accepted .0))
+  where
+    rule : Rule
+    rule = ranked w given
+
+    accepted : (insertChecks w t given ≡ Pass) × (count ≡ length (plannedWords w t rule))
+        × (insertPlan w t given plan ≡ plannedWords w t rule ++ drop (length (plannedWords w t rule)) plan)
+    accepted = buffer-accepted (insertChecks w t given) (plannedWords w t rule) plan count e
+
+    after : List ℕ
+    after = afterCalls w t (insertPlan w t given plan) given count k .table
+
+    made : after ≡ applyWords w t rule (take k (plannedWords w t rule))
+    made = demand-2-insert w t given plan count small e .made k (omega arith)
+
+    fresh : InsertableGiven w t given
+        → Between (vacant w) (entryOccupied w) (entrySame w) (entryMisordered w) (entries w t) (entries w after) ⊎ (after ≡ t)
+    fresh p =
+        let is = planned-fresh w t rule (insertable-fresh w t rule (p .insertable .new) (p .insertable .untied)) in
+        let there = made ∙ ap (λ (l : List ℕ). applyWords w t rule (take k l)) is in
+        inl (subst (λ (u : List ℕ). Between (vacant w) (entryOccupied w) (entrySame w) (entryMisordered w) (entries w t) (entries w u)) (sym there)
+        (shortest-words w t given small p .between k (omega (arith, h, accepted .1, ap length is))))
+
+    replaced : ((s : ℕ) × ReplacingGiven w t given s)
+        → Between (vacant w) (entryOccupied w) (entrySame w) (entryMisordered w) (entries w t) (entries w after) ⊎ (after ≡ t)
+    replaced (s, p) =
+        let is = planned-replaced w t rule s (p .replacing) in
+        let none : k ≡ 0 = omega (arith, h, accepted .1, ap length is) in
+        inr (made ∙ ap (λ (n : ℕ). applyWords w t rule (take n (plannedWords w t rule))) none)

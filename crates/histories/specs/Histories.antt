@@ -9,7 +9,8 @@ use Rattle.records.specs.Editions.{Given, ranked}
 use Rattle.delete_plans.specs.Deletes.{deleteAnswer, deletePlan}
 use Rattle.insert_plans.specs.Inserts.{insertAnswer, insertPlan}
 use Rattle.carrying.specs.Calls.{afterCalls, callAnswer, Lent}
-use Rattle.histories.specs.RuleSet.{Change, insert, delete}
+use Rattle.histories.specs.RuleSet.{Change, delete}
+use Rattle.histories.specs.Inserted.{insertChanges}
 
 -- a table of so many empty slots: all its words are zero
 abbrev pub emptyTable : ℕ → ℕ → List ℕ
@@ -17,14 +18,14 @@ emptyTable w n = replicate (n * recordWords w) 0
 
 -- The tables that are reached by a history of changes, the latest first: an empty table by none; by an insert or a delete more, if the
 -- planning call accepts it and the step is called, with that plan and that count, until it answers "finished". Each insert names an edition of its
--- own, the same for its plan and the carrying out, and counts with the rank that it gives; a delete is carried out with any rule and edition. Of the
--- plan buffer the caller lends what it will, from the words counted on.
+-- own, the same for its plan and the carrying out, and counts with the rank that it gives; the rule that it replaces counts as deleted. A delete is carried
+-- out with any rule and edition. Of the plan buffer the caller lends what it will, from the words counted on.
 pub data Reached (w : ℕ) : List Change → List ℕ → Type 0 where
   start : (n : ℕ) → 1 ≤ n → n ≤ 1024 → Reached w [] (emptyTable w n)
   inserted : (history : List Change) (t : List ℕ) → Reached w history t
       → (given : Given) → given .rule .action < 4294967296 → (plan : List ℕ) (count : ℕ) → insertAnswer w t given (length plan) ≡ success (count ∷ [])
       → (lent : List ℕ) → Lent (insertPlan w t given plan) count lent → (calls : ℕ) → callAnswer w t lent given count calls ≡ success []
-      → Reached w (insert (ranked w given) ∷ history) (afterCalls w t lent given count calls .table)
+      → Reached w (insertChanges w t (ranked w given) history) (afterCalls w t lent given count calls .table)
   deleted : (history : List Change) (t : List ℕ) → Reached w history t
       → (id : ℕ) (plan : List ℕ) (count : ℕ) → deleteAnswer w t id (length plan) ≡ success (count ∷ [])
       → (given : Given) (lent : List ℕ) → Lent (deletePlan w t id plan) count lent → (calls : ℕ) → callAnswer w t lent given count calls ≡ success []

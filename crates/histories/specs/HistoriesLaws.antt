@@ -21,7 +21,9 @@ use Rattle.delete_plans.specs.Deletes.{deleteAnswer, deletePlan}
 use Rattle.insert_plans.specs.Inserts.{insertAnswer, insertPlan}
 use Rattle.carrying.specs.Calls.{State, afterCalls, callAnswer}
 use Rattle.carrying.specs.CallsLaws.{lent-whole}
-use Rattle.histories.specs.RuleSet.{Change, insert, delete, ruleSet, setReply}
+use Rattle.histories.specs.RuleSet.{Change, delete, ruleSet, setReply}
+use Rattle.histories.specs.Inserted.{insertChanges}
+use Rattle.histories.specs.InsertedLaws.{changes-rules}
 use Rattle.records.specs.RulesLaws.{zero-word}
 use Rattle.histories.specs.Holding.{Replies, Holding}
 use Rattle.histories.specs.Demand2.{Demand2}
@@ -89,7 +91,8 @@ carried {w} {change = change} d rules h calls e =
 pub reached-holding : {w : ℕ} {history : List Change} {t : List ℕ} → Reached w history t → Holding w (ruleSet history) t
 reached-holding {w} (Reached.start n some few) = empty-holding w n some few
 reached-holding {w} (Reached.inserted history t before given small plan count accepted lent is calls finished) =
-    carried (demand-2-lent (demand-2-insert w t given plan count small accepted) lent is) (ruleSet history) (reached-holding before) calls finished
+    subst (λ (rules : List Rule). Holding w rules (afterCalls w t lent given count calls .table)) (sym (changes-rules w t (ranked w given) history))
+    (carried (demand-2-lent (demand-2-insert w t given plan count small accepted) lent is) (ruleSet history) (reached-holding before) calls finished)
 reached-holding {w} (Reached.deleted history t before id plan count accepted given lent is calls finished) =
     carried (demand-2-lent (demand-2-delete w t id plan count given accepted) lent is) (ruleSet history) (reached-holding before) calls finished
 
@@ -105,7 +108,7 @@ reached-lookup {w} {history} {t} reached = holding-lookup w (ruleSet history) t 
 -- an accepted insert or delete is carried out in full by as many calls as its plan counts, so that a history can always go on
 pub reached-insert : {w : ℕ} {history : List Change} {t : List ℕ} → Reached w history t → (given : Given) → given .rule .action < 4294967296
     → (plan : List ℕ) (count : ℕ) → insertAnswer w t given (length plan) ≡ success (count ∷ [])
-    → Reached w (insert (ranked w given) ∷ history) (afterCalls w t (insertPlan w t given plan) given count count .table)
+    → Reached w (insertChanges w t (ranked w given) history) (afterCalls w t (insertPlan w t given plan) given count count .table)
 reached-insert {w} {history} {t} reached given small plan count accepted =
     let d = demand-2-insert w t given plan count small accepted in
     let buffer = insertPlan w t given plan in

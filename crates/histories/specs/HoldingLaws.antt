@@ -1,7 +1,7 @@
 -- End theorems on tables and the rules they hold: a lookup's reply is that of the highest-ranked match among them.
 use mathlib.Core.Path.{_≡_, refl, sym, ap, _∙_, ap₂}
 use mathlib.Core.Bool.{Bool, true, false, cond, and-false, true≢false}
-use mathlib.Core.Logic.{_⊎_}
+use mathlib.Core.Logic.{_↔_, _⊎_}
 use mathlib.Core.Logic._⊎_.{inl, inr}
 use mathlib.Core.Option.{Option, none, some}
 use mathlib.Core.List.{List, [], _∷_}
@@ -18,7 +18,7 @@ use Rattle.layout.specs.Held.{Held}
 use Rattle.layout.specs.Replies.{Answers}
 use Rattle.layout.specs.HeldLaws.{unique-coherent}
 use Rattle.layout.specs.RepliesLaws.{answers-reply}
-use Rattle.records.specs.Record.{word, value, mask, ident, rank, recordOf}
+use Rattle.records.specs.Record.{word, slotWords, value, mask, ident, rank, occupied, recordOf}
 use Rattle.records.specs.Order.{slots}
 use Rattle.records.specs.Checks.{checkTwice, checkOrder, slotChecks, firstMatch}
 use Rattle.records.specs.Laws.{table-checks-law, misordered-law, same-id-law}
@@ -26,12 +26,12 @@ use Rattle.records.specs.Entries.{vacant, entries, entryOccupied, entrySame, en
 use Rattle.records.specs.declared.Rule.{Rule}
 use Rattle.records.specs.declared.Check.the-variants.{Pass}
 use Rattle.records.specs.RulesLaws.{record-value, record-mask, record-rank, record-ident, record-action}
-use Rattle.records.specs.EntriesLaws.{entry-laws, order-entries, unique-entries}
+use Rattle.records.specs.EntriesLaws.{entry-laws, entry-same, ident-cong, occupied-at, order-entries, unique-entries, refuted}
 use Rattle.lookups.specs.Lookup.{lookupAnswer, matchTold, lookupTold, hitAt, reply}
 use Rattle.lookups.specs.declared.LookupAnswer.the-variants.{Found, Miss}
-use Rattle.histories.specs.RuleSet.{ruleMatches, highestMatch, setReply, Member, IsHighest, ruleReply}
+use Rattle.histories.specs.RuleSet.{ruleMatches, highestMatch, setReply, Member, without, IsHighest, ruleReply}
 use Rattle.histories.specs.RepliesLaws.{entryMatches, entryTold, entries-conflict, optionTold, reply-entries}
-use Rattle.histories.specs.RuleSetLaws.{highest-law}
+use Rattle.histories.specs.RuleSetLaws.{highest-law, without-law}
 use Rattle.histories.specs.Holding.{Holding, Replies}
 
 -- a table that passes checks 1 and 2 is looked up
@@ -150,3 +150,42 @@ module _ (w : ℕ) (rules : List Rule) (t : List ℕ) (h : Holding w rules t) (k
           order (yes x) y = absurd (apart (recordOf w r) (recordOf w s) m n d x f g o q mr ms (omega (arith, ranks)))
           order (no x) (yes y) = absurd (apart (recordOf w s) (recordOf w r) n m l y g f q o ms mr (omega (arith, ranks)))
           order (no x) (no y) = let same : m ≡ n = omega arith in sym f ∙ (ap (λ (j : ℕ). getD (entries w t) j (vacant w)) same ∙ g)
+
+-- The rules held without the one in slot s: those that a delete of its id leaves.
+module _ (w : ℕ) (rules : List Rule) (t : List ℕ) (h : Holding w rules t) (s id : ℕ) (inside : s < slots w t)
+    (filled : occupied w (slotWords w t s) ≡ true) (named : ident w (slotWords w t s) ≡ id) where
+  abbrev entry : List ℕ
+  entry = getD (entries w t) s (vacant w)
+
+  entry-id : ident w (word entry) ≡ id
+  entry-id = ident-cong w (entry-same w t s inside) ∙ named
+
+  entry-occupied : entryOccupied w entry ≡ true
+  entry-occupied = occupied-at w t s inside ∙ filled
+
+  pub held-others : (x : List ℕ) → (Held (vacant w) (entryOccupied w) (entries w t) x × (entrySame w x entry ≡ false))
+      ↔ ((r : Rule) × Member r (without id rules) × (recordOf w r ≡ x))
+  held-others x = (λ o. forth (o .0) (o .1) (h .held x .0 (o .0)), back)
+    where
+      forth : Held (vacant w) (entryOccupied w) (entries w t) x → entrySame w x entry ≡ false
+          → ((r : Rule) × Member r rules × (recordOf w r ≡ x)) → (r : Rule) × Member r (without id rules) × (recordOf w r ≡ x)
+      forth m apart (r, i, e) = (r, without-law id rules r .1 (i, other), e)
+        where
+          other : r .id ≡ id → ⊥
+          other f =
+              let same : ident w (word x) ≡ ident w (word entry) =
+              ap (λ (y : List ℕ). ident w (word y)) (sym e) ∙ (record-ident w r (h .actions r i) ∙ (f ∙ sym entry-id)) in
+              true≢false (sym (same-id-law w (word x) (word entry) .1 (m .0, entry-occupied, same)) ∙ apart)
+
+      back : ((r : Rule) × Member r (without id rules) × (recordOf w r ≡ x))
+          → Held (vacant w) (entryOccupied w) (entries w t) x × (entrySame w x entry ≡ false)
+      back (r, i, e) = (h .held x .1 (r, m .0, e), refuted apart)
+        where
+          m : Member r rules × (r .id ≡ id → ⊥)
+          m = without-law id rules r .0 i
+
+          apart : entrySame w x entry ≡ true → ⊥
+          apart f =
+              m .1
+              (sym (record-ident w r (h .actions r (m .0)))
+              ∙ (ap (λ (y : List ℕ). ident w (word y)) e ∙ (same-id-law w (word x) (word entry) .0 f .2 ∙ entry-id)))

@@ -12,11 +12,11 @@ use lib.Seq.{take-all}
 use borrow.Author.Tests.{le-leb}
 use Rattle.plan_words.specs.PlanWords.{writeOf}
 use Rattle.records.specs.Checks.{success, slotChecks}
-use Rattle.records.specs.Writes.{fitsWord, applyWord, applyWords}
+use Rattle.records.specs.Writes.{applyWord, applyWords}
 use Rattle.records.specs.Editions.{Given, ranked}
 use Rattle.records.specs.declared.Check.the-variants.{Pass}
 use Rattle.records.specs.WritesLaws.{apply-words-next}
-use Rattle.carrying.specs.Carrying.{progressChecks, putChecks, writeChecks, stepAnswer, stepTable, stepDone}
+use Rattle.carrying.specs.Carrying.{progressChecks, putChecks, fitsCarried, writeChecks, stepAnswer, stepTable, stepDone}
 use Rattle.carrying.specs.Calls.{afterCalls, callAnswer}
 use Rattle.carrying.specs.Steps.{StepEnds}
 use Rattle.carrying.specs.StepsLaws.{step-wrote, step-finished}
@@ -25,7 +25,7 @@ use Rattle.carrying.specs.StepsLaws.{step-wrote, step-finished}
 pub record InTurn (w : ℕ) (t : List ℕ) (given : Given) (words plan : List ℕ) : Type 0 where
   pub rest : List ℕ
   pub front : plan ≡ words ++ rest
-  pub fits : (k : ℕ) → k < length words → fitsWord w (applyWords w t (ranked w given) (take k words)) (getD words k 0) ≡ true
+  pub fits : (k : ℕ) → k < length words → fitsCarried w (applyWords w t (ranked w given) (take k words)) (ranked w given) (writeOf (getD words k 0)) ≡ true
   pub put : (k : ℕ) → k < length words → putChecks w given (writeOf (getD words k 0)) ≡ Pass
   pub checks : (k : ℕ) → k ≤ length words → slotChecks w (applyWords w t (ranked w given) (take k words)) ≡ Pass
 

@@ -1,5 +1,5 @@
 -- Laws on soundness: tables in the middle of an insert's plan pass checks 1 and 2, so that lookup answers on each of them, and the last one passes
--- 1 to 4. A delete leaves a table that passes 1 to 4 too.
+-- 1 to 4. A delete and a replacement leave a table that passes 1 to 4 too.
 use mathlib.Core.Path.{_≡_, refl, sym, ap, _∙_}
 use mathlib.Core.Bool.{true, false, not, true≢false}
 use mathlib.Core.Logic.{_↔_, _⊎_, ⊎-elim}
@@ -7,32 +7,37 @@ use mathlib.Core.Logic._⊎_.{inl, inr}
 use mathlib.Core.List.{List}
 use Prim.Native.Nat.{ℕ, _<_, _≤_}
 use native.Mathlib.Omega.{arith}
-use lib.ListN.{length, getD, take}
+use lib.ListN.{length, getD, set, take}
 use lib.Seq.{getD-take, take-all}
 use borrow.Table.Elements.{length-take-le}
 use Rattle.search.specs.SearchLaws.{decided}
 use Rattle.layout.specs.Held.{Held, emptied}
-use Rattle.layout.specs.Write.{clear}
-use Rattle.layout.specs.OrderLaws.{in-order-emptied}
-use Rattle.layout.specs.HeldLaws.{unique-emptied, held-removed}
-use Rattle.records.specs.Record.{word, slotWords, empty, sound}
+use Rattle.layout.specs.Write.{put, clear}
+use Rattle.layout.specs.OrderLaws.{down, in-order-put, in-order-emptied}
+use Rattle.layout.specs.HeldLaws.{unique-written, unique-emptied, held-replaced, held-removed}
+use Rattle.plan_words.specs.PlanWords.{writeWord, writeOf}
+use Rattle.plan_words.specs.PlanWordsLaws.{write-of-word}
+use Rattle.records.specs.Record.{word, slotWords, empty, sound, recordOf, putSlot}
 use Rattle.records.specs.Order.{slots}
 use Rattle.records.specs.Checks.{checkShape, checkRecords, checkTwice, checkOrder, slotChecks, tableChecks}
 use Rattle.records.specs.Laws.{slot-checks-law, table-checks-law, shape-same, records-law}
-use Rattle.records.specs.Entries.{vacant, entries, entryOccupied}
-use Rattle.records.specs.Writes.{applyWords}
+use Rattle.records.specs.Entries.{vacant, entries, entryOccupied, entrySame, entryMisordered}
+use Rattle.records.specs.Writes.{applyWrite, applyWords}
 use Rattle.records.specs.Editions.{Given, ranked}
 use Rattle.records.specs.EditionsLaws.{ranked-action}
 use Rattle.records.specs.declared.Rule.{Rule}
 use Rattle.records.specs.declared.Check.the-variants.{Pass}
 use Rattle.records.specs.RulesLaws.{record-sound}
-use Rattle.records.specs.EntriesLaws.{sound-same, EntriesUnique, entries-length, entry-same, entry-laws, occupied-at, order-entries, unique-entries}
+use Rattle.records.specs.EntriesLaws.{sound-same, EntriesUnique, entries-length, entry-same, entry-laws, misordered-cong, occupied-at, order-entries, unique-entries}
+use Rattle.records.specs.EntriesLaws.{shaped-slots}
+use Rattle.records.specs.EqualLaws.{equal-ordered}
+use Rattle.records.specs.InsertsLaws.{new-id-entries}
 use Rattle.records.specs.WritesLaws.{WordsBelow, apply-length, apply-entries, apply-words-length, turn-below}
 use Rattle.records.specs.ClassWordsLaws.{class-words-law}
 use Rattle.delete_plans.specs.Deletes.{slotOfId, deleteChecks, deleteWords, DeletePlanned}
 use Rattle.delete_plans.specs.DeletesLaws.{delete-planned}
-use Rattle.insert_plans.specs.Insertable.{InsertableGiven}
-use Rattle.insert_plans.specs.Inserts.{insertWords, insertAnswer, insertPlan}
+use Rattle.insert_plans.specs.Insertable.{InsertableGiven, Replacing}
+use Rattle.insert_plans.specs.Inserts.{insertWords, replacementWords, insertAnswer, insertPlan}
 use Rattle.insert_plans.specs.Demand3.{ShortestPlan}
 use Rattle.insert_plans.specs.Demand3Laws.{shortest-words}
 
@@ -157,3 +162,66 @@ delete-after-checks w t id checks rule =
     held-sound x m =
         records-entries w t .0 (first .1) x
         (held-removed (entry-laws w) (entries w t) s low (λ k l d. unique k s l low d) x .0 (rw emptied-entries at m) .0)
+
+-- the one write of a replacement
+module _ (w : ℕ) (t : List ℕ) (rule : Rule) (small : rule .action < 4294967296) (s : ℕ) (premises : Replacing w t rule s) where
+  checks : (slotChecks w t ≡ Pass) × (checkTwice w t ≡ Pass) × (checkOrder w t ≡ Pass)
+  checks = table-checks-law w t .0 (premises .table)
+
+  first : (checkShape w t ≡ Pass) × (checkRecords w t ≡ Pass)
+  first = slot-checks-law w t .0 (checks .0)
+
+  low : s < length (entries w t)
+  low = omega (arith, premises .inside, entries-length w t)
+
+  unique : EntriesUnique w (entries w t)
+  unique = unique-entries w t .1 (checks .1)
+
+  abbrev after-replacement : List ℕ
+  after-replacement = applyWords w t rule (replacementWords s)
+
+  -- the word is the put-in's
+  pub replacement-word : writeOf (writeWord (put s)) ≡ put s
+  replacement-word = write-of-word (put s) (omega (arith, premises .inside, shaped-slots w t (first .0) .1))
+
+  pub replacement-table : after-replacement ≡ putSlot w t s (recordOf w rule)
+  replacement-table = ap (applyWrite w t rule) replacement-word
+
+  pub replacement-entries : entries w after-replacement ≡ set (entries w t) s (recordOf w rule)
+  replacement-entries = ap (entries w) replacement-table ∙ apply-entries w t rule (put s) (premises .inside)
+
+  -- the new rule stands for the one in the slot, and each other rule stands as it did
+  pub replacement-held : (x : List ℕ) → Held (vacant w) (entryOccupied w) (entries w after-replacement) x
+      ↔ ((Held (vacant w) (entryOccupied w) (entries w t) x × (entrySame w x (getD (entries w t) s (vacant w)) ≡ false))
+      ⊎ ((entryOccupied w (recordOf w rule) ≡ true) × (recordOf w rule ≡ x)))
+  replacement-held x = rw replacement-entries (held-replaced (entry-laws w) (entries w t) s (recordOf w rule) low (λ k l d. unique k s l low d) x)
+
+  ordered : (k : ℕ) → k < length (entries w t)
+      → (k < s → entryMisordered w (getD (entries w t) k (vacant w)) (recordOf w rule) ≡ false)
+      × (s < k → entryMisordered w (recordOf w rule) (getD (entries w t) k (vacant w)) ≡ false)
+  ordered k l =
+      let h : k < slots w t = omega (arith, l, entries-length w t) in
+      let right = equal-ordered w t (checks .1) (checks .2) (word (recordOf w rule)) (premises .new) s (premises .inside) (premises .equal) k h in (
+        λ b. misordered-cong w (entry-same w t k h) (λ j i. refl) ∙ right .0 b,
+        λ b. misordered-cong w (λ j i. refl) (entry-same w t k h) ∙ right .1 b,
+      )
+
+  -- after it the table passes checks 1 to 4
+  pub replacement-checks : tableChecks w after-replacement ≡ Pass
+  replacement-checks =
+      table-checks-law w after-replacement .1 (
+        slot-checks-law w after-replacement .1 (shape, records-entries w after-replacement .1 held-sound),
+        unique-entries w after-replacement .0
+            (rw replacement-entries (unique-written (entry-laws w) (entries w t) s (recordOf w rule) low (new-id-entries w t rule .1 (premises .new)) unique)),
+        order-entries w after-replacement .0
+            (rw replacement-entries (in-order-put (down (vacant w) (entryMisordered w)) (entries w t) s (recordOf w rule) low (order-entries w t .1 (checks .2))
+            (λ k l b. ordered k l .0 b) (λ k l b. ordered k l .1 b))),
+      )
+    where
+      shape : checkShape w after-replacement ≡ Pass
+      shape = shape-same w t after-replacement (ap length replacement-table ∙ apply-length w t rule (put s) (premises .inside)) ∙ first .0
+
+      held-sound : (x : List ℕ) → Held (vacant w) (entryOccupied w) (entries w after-replacement) x → sound w (word x) ≡ true
+      held-sound x m =
+          ⊎-elim (λ old. records-entries w t .0 (first .1) x (old .0))
+          (λ new. ap (λ (y : List ℕ). sound w (word y)) (sym (new .1)) ∙ (record-sound w rule small ∙ premises .sound)) (replacement-held x .0 m)

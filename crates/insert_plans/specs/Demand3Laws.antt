@@ -1,14 +1,14 @@
 -- End theorems: demand 3, for every sound table with an empty slot and every sound rule of new id that ties with none and is not crossed.
-use mathlib.Core.Path.{_≡_, refl, sym, subst, subst₂}
-use mathlib.Core.List.{List}
+use mathlib.Core.Path.{_≡_, refl, sym, ap, _∙_, subst, subst₂}
+use mathlib.Core.List.{List, [], _∷_, _++_}
 use Prim.Native.Nat.{ℕ, suc, _≤_, _<_}
 use native.Mathlib.Omega.{arith}
-use lib.ListN.{length}
+use lib.ListN.{length, drop}
 use Rattle.layout.specs.Insert.{LeastPlan}
 use Rattle.plan_words.specs.PlanWords.{emptying}
 use Rattle.records.specs.Record.{recordOf}
 use Rattle.records.specs.Order.{slots}
-use Rattle.records.specs.Checks.{Told}
+use Rattle.records.specs.Checks.{Told, success}
 use Rattle.records.specs.Entries.{vacant, entries, entryOccupied, entrySame, entryMisordered}
 use Rattle.records.specs.Inserts.{insertChoiceOf}
 use Rattle.records.specs.Editions.{Given, under13, ranked}
@@ -21,9 +21,9 @@ use Rattle.buffers.specs.BuffersLaws.{buffer-written}
 use Rattle.table_checks.specs.SlotsLaws.{table-few}
 use Rattle.neighbours.specs.Neighbours.{insertChecks}
 use Rattle.insert_plans.specs.Insertable.{InsertableGiven}
-use Rattle.insert_plans.specs.Inserts.{insertWords, insertAnswer, insertPlan}
-use Rattle.insert_plans.specs.InsertableLaws.{insertable-law}
-use Rattle.insert_plans.specs.InsertsLaws.{insert-least}
+use Rattle.insert_plans.specs.Inserts.{insertWords, plannedWords, insertAnswer, insertPlan}
+use Rattle.insert_plans.specs.InsertableLaws.{insertable-passes, insertable-fresh}
+use Rattle.insert_plans.specs.InsertsLaws.{insert-least, planned-fresh}
 use Rattle.insert_plans.specs.Demand3.{ShortestPlan, Demand3}
 
 -- for every sound table with an empty slot, and every sound rule of new id that ties with none and is not crossed, given with an edition that there is
@@ -35,7 +35,11 @@ demand-3 w t given small premises plan = record { needed = count; few = omega (a
     rule = ranked w given
 
     e : insertChecks w t given ≡ Pass
-    e = insertable-law w t given .1 premises
+    e = insertable-passes w t given premises
+
+    -- it replaces no rule
+    fresh : plannedWords w t rule ≡ insertWords w t rule
+    fresh = planned-fresh w t rule (insertable-fresh w t rule (premises .insertable .new) (premises .insertable .untied))
 
     best : LeastPlan (vacant w) (entryOccupied w) (entrySame w) (entryMisordered w) (entries w t) (recordOf w rule) (insertChoiceOf w t rule)
     best = insert-least w t rule (premises .insertable) (omega (arith, small, ranked-action w given))
@@ -51,10 +55,10 @@ demand-3 w t given small premises plan = record { needed = count; few = omega (a
 
     planned : length (insertWords w t rule) ≤ length plan → ShortestPlan w t rule (insertAnswer w t given (length plan)) plan (insertPlan w t given plan)
     planned h =
-        let r = buffer-written (insertWords w t rule) plan refl e h in
+        let r = buffer-written (plannedWords w t rule) plan refl e (omega (arith, h, ap length fresh)) in
         record {
-          answer = sym (r .0);
-          buffer = sym (r .1);
+          answer = sym (r .0) ∙ ap (λ (l : List ℕ). success (length l ∷ [])) fresh;
+          buffer = sym (r .1) ∙ ap (λ (l : List ℕ). l ++ drop (length l) plan) fresh;
           class = plan-words-class w t rule low (insertChoiceOf w t rule) valid;
           between = plan-words-between w t rule low (insertChoiceOf w t rule) valid;
           placed = plan-words-placed w t rule low (insertChoiceOf w t rule) valid;

@@ -1,4 +1,4 @@
--- The premises of demand 3 in plain terms, and what it means that an insert is crossed at a slot.
+-- The premises of demand 3 in plain terms, those of a replacement, and what it means that an insert is crossed at a slot.
 use mathlib.Core.Path.{_≡_}
 use mathlib.Core.Bool.{true, false}
 use mathlib.Core.List.{List}
@@ -6,7 +6,7 @@ use Prim.Native.Nat.{ℕ, _<_}
 use Rattle.ternary.specs.Pattern.{Words}
 use lib.ListN.{length}
 use Rattle.records.specs.Record.{word, recordWords, slotWords, empty, soundRule, soundRanked, recordOf}
-use Rattle.records.specs.Order.{slots, precedes}
+use Rattle.records.specs.Order.{slots, precedes, EqualRules}
 use Rattle.records.specs.Checks.{tableChecks}
 use Rattle.records.specs.Widths.{Width}
 use Rattle.records.specs.Editions.{Given, lentRule, ranked, Edition}
@@ -40,6 +40,21 @@ pub record InsertableCall (w e : ℕ) (t rule : List ℕ) : Type 0 where
   pub width : Width w
   pub words : length rule ≡ recordWords w
   pub given : InsertableGiven w t (lentRule w e rule)
+
+-- Document 02, 2026-03: the rule, with its rank, replaces the one in slot s: the table passes checks 1 to 4, the rule is sound, its id is new, and the
+-- slot holds a rule of the same value, mask and rank.
+pub record Replacing (w : ℕ) (t : List ℕ) (rule : Rule) (s : ℕ) : Type 0 where
+  pub table : tableChecks w t ≡ Pass
+  pub sound : soundRanked w rule ≡ true
+  pub new : IdNew w t rule
+  pub inside : s < slots w t
+  pub equal : EqualRules w (slotWords w t s) (word (recordOf w rule))
+
+-- the same of a rule as it is given
+pub record ReplacingGiven (w : ℕ) (t : List ℕ) (given : Given) (s : ℕ) : Type 0 where
+  pub sound : soundRule w (given .rule) ≡ true
+  pub edition : Edition (given .edition)
+  pub replacing : Replacing w t (ranked w given) s
 
 -- document 01: a is A, the highest slot holding a rule that precedes the new one, and in some slot before it a rule depends on the new one
 pub record CrossedAt (w : ℕ) (t : List ℕ) (new : Words) (a : ℕ) : Type 0 where

@@ -1,28 +1,34 @@
--- End theorems on the checks of an insert: they pass exactly when it is insertable, and what 10 says when it fails.
-use mathlib.Core.Path.{_≡_, sym, ap, _∙_, subst}
-use mathlib.Core.Bool.{true, true≢false}
-use mathlib.Core.Logic.{_↔_}
+-- End theorems on the checks of an insert: they pass exactly when it is insertable or replaces a rule, and what 10 says when it fails.
+use mathlib.Core.Path.{_≡_, refl, sym, ap, _∙_, subst}
+use mathlib.Core.Bool.{true, false, cond, true≢false}
+use mathlib.Core.Logic.{_↔_, _⊎_, ⊎-elim}
+use mathlib.Core.Logic._⊎_.{inl, inr}
 use mathlib.Core.List.{List}
 use Prim.Native.Nat.{ℕ, suc, _+_, _-_, _≤_, _<_}
 use native.Mathlib.Decide.{decLt}
 use native.Mathlib.Omega.{arith}
-use borrow.Author.Tests.{ltb-false}
+use borrow.Author.Tests.{lt-ltb, ltb-false}
 use Rattle.search.specs.Search.{any, Least, AfterLast}
-use Rattle.search.specs.SearchLaws.{any-yes, least-law, after-last-law, after-last-unique}
+use Rattle.search.specs.SearchLaws.{decided, any-yes, least-law, least-at, after-last-law, after-last-unique}
 use Rattle.ternary.specs.Pattern.{Words}
 use Rattle.records.specs.Record.{word, slotWords, empty, recordOf}
-use Rattle.records.specs.Order.{slots, sameId, tied, precedes}
+use Rattle.records.specs.Order.{slots, sameId, tied, precedes, equalRule, EqualRules}
 use Rattle.records.specs.Checks.{orElse, tableChecks}
-use Rattle.records.specs.Laws.{or-else-pass, lowest-pass, pass-law, cond-pass, precedes-law}
+use Rattle.records.specs.Laws.{or-else-pass, lowest-pass, pass-law, cond-pass, precedes-law, table-checks-law}
+use Rattle.records.specs.Inserts.{IdNew, Untied}
+use Rattle.records.specs.EntriesLaws.{refuted}
+use Rattle.records.specs.EqualLaws.{equal-law, equal-untied, equal-after, equal-before, equal-once}
 use Rattle.records.specs.WidthsLaws.{lent-words}
 use Rattle.records.specs.Editions.{Given, ranked, checkGiven}
 use Rattle.records.specs.EditionsLaws.{given-law, rank-sound}
 use Rattle.records.specs.declared.Rule.{Rule}
 use Rattle.records.specs.declared.Cause.the-variants.{Known, Tie, Full, Crossed}
+use Rattle.records.specs.declared.Check.{Check}
 use Rattle.records.specs.declared.Check.the-variants.{Pass, Fail}
-use Rattle.neighbours.specs.Neighbours.{checkKnown, checkTie, checkFull, checkCrossed, afterA, slotB, newChecks, ruleWords, insertChecks}
-use Rattle.neighbours.specs.NeighboursLaws.{room-at, crossed-yes, crossed-no}
-use Rattle.insert_plans.specs.Insertable.{CrossedAt, Insertable, InsertableGiven, Uncrossed}
+use Rattle.neighbours.specs.Neighbours.{checkKnown, checkTie, checkFull, checkCrossed, afterA, slotB, replacedSlot, replaces, newChecks, placeChecks}
+use Rattle.neighbours.specs.Neighbours.{ruleWords, ruleChecks, insertChecks}
+use Rattle.neighbours.specs.NeighboursLaws.{room-at, crossed-yes, crossed-no, replaced-equal, none-replaced, untied-none}
+use Rattle.insert_plans.specs.Insertable.{CrossedAt, Insertable, InsertableGiven, Replacing, ReplacingGiven, Uncrossed}
 
 -- a rule has its record's words
 pub rule-words : (w : ℕ) (rule : Rule) → ruleWords w rule ≡ word (recordOf w rule)
@@ -80,48 +86,159 @@ crossed-pass w t new = (
         (a .hit (afterA w t new - 1) (omega arith)) (b .hit (omega (arith, a .high))) in
         absurd (omega arith)
 
--- checks 1 to 10 of an insert, and 18, pass exactly when demand 3's premises hold
-pub insertable-law : (w : ℕ) (t : List ℕ) (given : Given) → (insertChecks w t given ≡ Pass) ↔ InsertableGiven w t given
-unfolding insertChecks newChecks checkKnown checkTie checkFull
-insertable-law w t given =
-    let rule = ranked w given in
-    let new = ruleWords w rule in
-    let same = rule-words w rule in
-    let a = or-else-pass (tableChecks w t) (orElse (checkGiven w given) (newChecks w t new)) in
-    let b = or-else-pass (checkGiven w given) (newChecks w t new) in
-    let g = given-law w given in
-    let c = or-else-pass (checkKnown w t new) (orElse (checkTie w t new) (orElse (checkFull w t) (checkCrossed w t new))) in
-    let d = or-else-pass (checkTie w t new) (orElse (checkFull w t) (checkCrossed w t new)) in
-    let f = or-else-pass (checkFull w t) (checkCrossed w t new) in (
-      λ e. let rest = b .0 (a .0 e .1) in
-          let known = c .0 (rest .1) in
-          let tie = d .0 (known .1) in
-          let full = f .0 (tie .1) in
-          let good = g .0 (rest .0) in
-          record {
-            sound = good .0;
-            edition = good .1;
-            insertable = record {
-              table = a .0 e .0;
-              sound = rank-sound w given (good .0);
-              new = λ i l. ap (λ (x : Words). sameId w (slotWords w t i) x) (sym same)
-                  ∙ lowest-pass Known (λ (i : ℕ). sameId w (slotWords w t i) new) (slots w t) .0 (known .0) i l;
-              untied = λ i l. ap (λ (x : Words). tied w (slotWords w t i) x) (sym same)
-                  ∙ lowest-pass Tie (λ (i : ℕ). tied w (slotWords w t i) new) (slots w t) .0 (tie .0) i l;
-              room = any-yes (λ (i : ℕ). empty w (slotWords w t i)) (slots w t) (pass-law Full 0 (any (λ (i : ℕ). empty w (slotWords w t i)) (slots w t)) .0 (full .0));
-              uncrossed = subst (λ (x : Words). Uncrossed w t x) same (crossed-pass w t new .0 (full .1));
-            };
-          },
-      λ q. let p = q .insertable in
-          let known = lowest-pass Known (λ (i : ℕ). sameId w (slotWords w t i) new) (slots w t) .1
-          (λ i h. ap (λ (x : Words). sameId w (slotWords w t i) x) same ∙ p .new i h) in
-          let tie = lowest-pass Tie (λ (i : ℕ). tied w (slotWords w t i) new) (slots w t) .1
-          (λ i h. ap (λ (x : Words). tied w (slotWords w t i) x) same ∙ p .untied i h) in
-          let room = p .room in
-          let full = sym (room-at w t (room .0) (room .1) (room .2)) in
-          let crossed = crossed-pass w t new .1 (subst (λ (x : Words). Uncrossed w t x) (sym same) (p .uncrossed)) in
-          a .1 (p .table, b .1 (g .1 (q .sound, q .edition), c .1 (known, d .1 (tie, f .1 (full, crossed))))),
+-- no rule is replaced where none is equal, as where the rule ties with none
+pub replaces-none : (w : ℕ) (t : List ℕ) (rule : Rule) → ((i : ℕ) → i < slots w t → EqualRules w (slotWords w t i) (word (recordOf w rule)) → ⊥)
+    → replaces w t (ruleWords w rule) ≡ false
+replaces-none w t rule none = ap (replaces w t) (rule-words w rule) ∙ none-replaced w t (word (recordOf w rule)) none
+
+pub insertable-fresh : (w : ℕ) (t : List ℕ) (rule : Rule) → IdNew w t rule → Untied w t rule → replaces w t (ruleWords w rule) ≡ false
+insertable-fresh w t rule new untied = ap (replaces w t) (rule-words w rule) ∙ untied-none w t (word (recordOf w rule)) new untied
+
+-- of a rule that replaces the one in slot s that slot is found
+pub replacing-slot : (w : ℕ) (t : List ℕ) (rule : Rule) (s : ℕ) → Replacing w t rule s
+    → (replacedSlot w t (ruleWords w rule) ≡ s) × (replaces w t (ruleWords w rule) ≡ true)
+unfolding replaces replacedSlot
+replacing-slot w t rule s r =
+    let checks = table-checks-law w t .0 (r .table) in
+    let own = word (recordOf w rule) in
+    let same : (i : ℕ) → equalRule w (slotWords w t i) (ruleWords w rule) ≡ equalRule w (slotWords w t i) own =
+    λ i. ap (equalRule w (slotWords w t i)) (rule-words w rule) in
+    let once = equal-once w t (checks .1) (checks .2) own (r .new) s (r .inside) (r .equal) in
+    let at = least-at (λ (i : ℕ). equalRule w (slotWords w t i) (ruleWords w rule)) (slots w t) s (r .inside)
+    (λ j l. refuted (λ e. omega (arith, once j (omega (arith, r .inside)) (equal-law w (slotWords w t j) own .0 (sym (same j) ∙ e)))))
+    (same s ∙ equal-law w (slotWords w t s) own .1 (r .equal)) in
+    (at, rw (at, lt-ltb s (slots w t) (r .inside)))
+
+-- such a rule ties with no other and is not crossed
+pub replacing-untied : (w : ℕ) (t : List ℕ) (rule : Rule) (s : ℕ) → Replacing w t rule s
+    → (i : ℕ) → i < slots w t → (i ≡ s → ⊥) → tied w (slotWords w t i) (word (recordOf w rule)) ≡ false
+replacing-untied w t rule s r =
+    let checks = table-checks-law w t .0 (r .table) in
+    equal-untied w t (checks .1) (checks .2) (word (recordOf w rule)) (r .new) s (r .inside) (r .equal)
+
+pub replacing-uncrossed : (w : ℕ) (t : List ℕ) (rule : Rule) (s : ℕ) → Replacing w t rule s → Uncrossed w t (word (recordOf w rule))
+replacing-uncrossed w t rule s r i k h l p d =
+    let checks = table-checks-law w t .0 (r .table) in
+    let own = word (recordOf w rule) in
+    omega (
+      arith,
+      equal-after w t (checks .1) (checks .2) own (r .new) s (r .inside) (r .equal) i h p,
+      equal-before w t (checks .1) (checks .2) own (r .new) s (r .inside) (r .equal) k l d,
     )
+
+-- checks 1 to 10 of an insert, and 18, pass exactly when demand 3's premises hold or the rule replaces one
+module _ (w : ℕ) (t : List ℕ) (given : Given) where
+  abbrev rule : Rule
+  rule = ranked w given
+
+  abbrev new : Words
+  new = ruleWords w rule
+
+  same : new ≡ word (recordOf w rule)
+  same = rule-words w rule
+
+  abbrev rest : Check
+  rest = orElse (checkTie w t new) (checkFull w t)
+
+  -- 1 to 4, 5 and 18, 6, and the others
+  rows : (insertChecks w t given ≡ Pass)
+      ↔ ((tableChecks w t ≡ Pass) × (checkGiven w given ≡ Pass) × (checkKnown w t new ≡ Pass)
+      × (cond (replaces w t new) Pass rest ≡ Pass) × (placeChecks w t new ≡ Pass))
+  unfolding insertChecks ruleChecks newChecks
+  rows =
+      let a = or-else-pass (tableChecks w t) (orElse (ruleChecks w t given) (placeChecks w t new)) in
+      let b = or-else-pass (ruleChecks w t given) (placeChecks w t new) in
+      let c = or-else-pass (checkGiven w given) (newChecks w t new) in
+      let d = or-else-pass (checkKnown w t new) (cond (replaces w t new) Pass rest) in (
+        λ e. let p = a .0 e in
+            let q = b .0 (p .1) in
+            let r = c .0 (q .0) in
+            let s = d .0 (r .1) in
+            (p .0, r .0, s .0, s .1, q .1),
+        λ p. a .1 (p .0, b .1 (c .1 (p .1, d .1 (p .2, p .3)), p .4)),
+      )
+
+  known : (checkKnown w t new ≡ Pass) ↔ IdNew w t rule
+  unfolding checkKnown
+  known =
+      let law = lowest-pass Known (λ (i : ℕ). sameId w (slotWords w t i) new) (slots w t) in (
+        λ e i l. ap (λ (x : Words). sameId w (slotWords w t i) x) (sym same) ∙ law .0 e i l,
+        λ f. law .1 (λ i h. ap (λ (x : Words). sameId w (slotWords w t i) x) same ∙ f i h),
+      )
+
+  -- where no rule is replaced
+  fresh : checkKnown w t new ≡ Pass → tableChecks w t ≡ Pass → checkGiven w given ≡ Pass → rest ≡ Pass → checkCrossed w t new ≡ Pass
+      → InsertableGiven w t given
+  unfolding checkTie checkFull
+  fresh e table good f crossed =
+      let g = given-law w given .0 good in
+      let r = or-else-pass (checkTie w t new) (checkFull w t) .0 f in
+      record {
+        sound = g .0;
+        edition = g .1;
+        insertable = record {
+          table = table;
+          sound = rank-sound w given (g .0);
+          new = known .0 e;
+          untied = λ i l. ap (λ (x : Words). tied w (slotWords w t i) x) (sym same)
+              ∙ lowest-pass Tie (λ (i : ℕ). tied w (slotWords w t i) new) (slots w t) .0 (r .0) i l;
+          room = any-yes (λ (i : ℕ). empty w (slotWords w t i)) (slots w t) (pass-law Full 0 (any (λ (i : ℕ). empty w (slotWords w t i)) (slots w t)) .0 (r .1));
+          uncrossed = subst (λ (x : Words). Uncrossed w t x) same (crossed-pass w t new .0 crossed);
+        };
+      }
+
+  -- where one is
+  replaced : checkKnown w t new ≡ Pass → tableChecks w t ≡ Pass → checkGiven w given ≡ Pass → replaces w t new ≡ true
+      → (s : ℕ) × ReplacingGiven w t given s
+  replaced e table good f =
+      let g = given-law w given .0 good in
+      let found = replaced-equal w t new f in (
+        replacedSlot w t new,
+        record {
+          sound = g .0;
+          edition = g .1;
+          replacing = record {
+            table = table;
+            sound = rank-sound w given (g .0);
+            new = known .0 e;
+            inside = found .0;
+            equal = subst (EqualRules w (slotWords w t (replacedSlot w t new))) same (found .1);
+          };
+        },
+      )
+
+  pub insertable-passes : InsertableGiven w t given → insertChecks w t given ≡ Pass
+  unfolding placeChecks checkTie
+  insertable-passes q =
+      let p = q .insertable in
+      let none = insertable-fresh w t rule (p .new) (p .untied) in
+      let tie = lowest-pass Tie (λ (i : ℕ). tied w (slotWords w t i) new) (slots w t) .1
+      (λ i h. ap (λ (x : Words). tied w (slotWords w t i) x) same ∙ p .untied i h) in
+      let room = p .room in
+      let full = sym (room-at w t (room .0) (room .1) (room .2)) in
+      let crossed = crossed-pass w t new .1 (subst (λ (x : Words). Uncrossed w t x) (sym same) (p .uncrossed)) in
+      rows .1
+      (p .table, given-law w given .1 (q .sound, q .edition), known .1 (p .new), rw none (or-else-pass (checkTie w t new) (checkFull w t) .1 (tie, full)), rw none crossed)
+
+  pub replacing-passes : (s : ℕ) → ReplacingGiven w t given s → insertChecks w t given ≡ Pass
+  unfolding placeChecks
+  replacing-passes s q =
+      let r = q .replacing in
+      let found = replacing-slot w t rule s r .1 in
+      rows .1 (r .table, given-law w given .1 (q .sound, q .edition), known .1 (r .new), rw found refl, rw found refl)
+
+  pub insertable-law : (insertChecks w t given ≡ Pass) ↔ (InsertableGiven w t given ⊎ ((s : ℕ) × ReplacingGiven w t given s))
+  unfolding placeChecks
+  insertable-law = (
+    λ e. let p = rows .0 e in cases (p .0) (p .1) (p .2) (p .3) (p .4) (decided (replaces w t new)),
+    λ c. ⊎-elim insertable-passes (λ r. replacing-passes (r .0) (r .1)) c,
+  )
+    where
+      cases : tableChecks w t ≡ Pass → checkGiven w given ≡ Pass → checkKnown w t new ≡ Pass → cond (replaces w t new) Pass rest ≡ Pass
+          → cond (replaces w t new) Pass (checkCrossed w t new) ≡ Pass → (replaces w t new ≡ true) ⊎ (replaces w t new ≡ false)
+          → InsertableGiven w t given ⊎ ((s : ℕ) × ReplacingGiven w t given s)
+      cases table good id more place (inl e) = inr (replaced id table good e)
+      cases table good id more place (inr e) = inl (fresh id table good (rw e at more) (rw e at place))
 
 -- in numbers: A + 1 is at most B + 1
 pub uncrossed-numbers : (w : ℕ) (t : List ℕ) (rule : Rule) → Insertable w t rule → afterA w t (ruleWords w rule) ≤ suc (slotB w t (ruleWords w rule))

@@ -2,11 +2,13 @@
 -- Document 01, "How a plan is found", on the table's words.
 use mathlib.Core.Path.{_≡_}
 use mathlib.Core.Bool.{cond}
-use mathlib.Core.List.{List}
+use mathlib.Core.List.{List, [], _∷_}
 use Prim.Native.Nat.{ℕ, _+_, _-_, _<_}
 use lib.ListN.{length}
 use Rattle.ternary.specs.Pattern.{Words}
 use Rattle.layout.specs.Plan.{Choice, choose}
+use Rattle.layout.specs.Write.{put}
+use Rattle.plan_words.specs.PlanWords.{writeWord}
 use Rattle.records.specs.Checks.{Told, unless}
 use Rattle.records.specs.Widths.{checkRule, leaves}
 use Rattle.records.specs.Entries.{vacant, entries, entryOccupied, entryMisordered}
@@ -18,18 +20,29 @@ use Rattle.costs.specs.Costs.{costOf}
 use Rattle.planner.specs.Emit.{Stays}
 use Rattle.planner.specs.Choice.{choiceWords}
 use Rattle.planner.specs.declared.PositionChoice.{PositionChoice}
-use Rattle.neighbours.specs.Neighbours.{afterA, slotB, insertChecks}
+use Rattle.neighbours.specs.Neighbours.{afterA, slotB, replacedSlot, replaces, ruleWords, insertChecks}
 
--- the plan's words: the far end of the chain first, the new rule last
+-- the words of a plan that makes room: the far end of the chain first, the new rule last
 abbrev pub insertWords : ℕ → List ℕ → Rule → List ℕ
 insertWords w t rule = planWords (insertChoiceOf w t rule)
 
+-- document 02, 2026-03: the plan of a replacement, one put-in at the slot of the rule that is replaced
+abbrev pub replacementWords : ℕ → List ℕ
+replacementWords slot = writeWord (put slot) ∷ []
+
+-- the words that an insert is planned with, by its record's words: those of a replacement, or else these
+abbrev pub plannedOr : ℕ → List ℕ → Words → List ℕ → List ℕ
+plannedOr w t new words = cond (replaces w t new) (replacementWords (replacedSlot w t new)) words
+
+abbrev pub plannedWords : ℕ → List ℕ → Rule → List ℕ
+plannedWords w t rule = plannedOr w t (ruleWords w rule) (insertWords w t rule)
+
 -- the answer with a buffer of so many words, and the buffer afterwards: the rule that is planned has its rank
 abbrev pub insertAnswer : ℕ → List ℕ → Given → ℕ → Told
-insertAnswer w t given room = bufferAnswer (insertChecks w t given) (length (insertWords w t (ranked w given))) room
+insertAnswer w t given room = bufferAnswer (insertChecks w t given) (length (plannedWords w t (ranked w given))) room
 
 abbrev pub insertPlan : ℕ → List ℕ → Given → List ℕ → List ℕ
-insertPlan w t given plan = bufferAfter (insertChecks w t given) (insertWords w t (ranked w given)) plan
+insertPlan w t given plan = bufferAfter (insertChecks w t given) (plannedWords w t (ranked w given)) plan
 
 -- document 02: the call, on a rule as it is lent, a record, with its edition e; another width or another number of words is 1
 abbrev pub insertCall : ℕ → ℕ → List ℕ → List ℕ → ℕ → Told
@@ -47,6 +60,10 @@ choiceBetween w t after dependant =
 -- and of a new rule, by its record's words
 abbrev pub recordChoice : ℕ → List ℕ → Words → Choice
 recordChoice w t new = choiceBetween w t (afterA w t new) (slotB w t new)
+
+-- and the words that it is planned with
+abbrev pub recordPlan : ℕ → List ℕ → Words → List ℕ
+recordPlan w t new = plannedOr w t new (planWords (recordChoice w t new))
 
 -- a choice in numbers, of n slots, that is a layout's: its cost is finite, its walk stays among the slots, and its words are the plan's
 pub record Joined (n : ℕ) (planned : Choice) (down up : List ℕ) (choice : PositionChoice) : Type 0 where

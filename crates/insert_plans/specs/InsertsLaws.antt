@@ -1,24 +1,29 @@
 -- End theorems on the planning of inserts: A, B and the choice of the table are those of its layout, and the words written are those of its plan.
 use mathlib.Core.Path.{_≡_, refl, sym, ap, ap₂, _∙_, subst}
-use mathlib.Core.Bool.{Bool, true, false, cond}
+use mathlib.Core.Bool.{Bool, true, false, cond, true≢false}
+use mathlib.Core.Logic.{_⊎_, ⊎-elim}
+use mathlib.Core.Logic._⊎_.{inl, inr}
 use mathlib.Core.List.{List, [], _∷_, _++_}
 use Prim.Native.Nat.{ℕ, suc, _+_, _-_, _≤_, _<_}
 use native.Mathlib.Omega.{arith}
 use lib.ListN.{length, drop}
 use Rattle.search.specs.Search.{least, afterLast}
+use Rattle.search.specs.SearchLaws.{decided}
 use Rattle.ternary.specs.Pattern.{Words}
 use Rattle.layout.specs.Plan.{Choice, Range, afterPreceding, firstDependant, rangeDown, rangeUp, choose, insertChoice}
 use Rattle.layout.specs.Insert.{LeastPlan}
 use Rattle.records.specs.Record.{word, recordWords, slotWords, recordOf, listed}
 use Rattle.records.specs.Order.{slots, precedes}
-use Rattle.records.specs.Checks.{success, refusal, tableChecks}
-use Rattle.records.specs.Laws.{passed, sound-law, table-checks-law}
+use Rattle.records.specs.Checks.{success, refusal, orElse, tableChecks}
+use Rattle.records.specs.Laws.{failed, passed, or-else-pass, sound-law, table-checks-law}
 use Rattle.records.specs.Entries.{vacant, entries, entryOccupied, entrySame, entryMisordered}
 use Rattle.records.specs.Inserts.{insertChoiceOf, planWords}
 use Rattle.records.specs.declared.Rule.{Rule}
+use Rattle.records.specs.declared.Cause.{Cause}
 use Rattle.records.specs.declared.Cause.the-variants.{Short}
 use Rattle.records.specs.declared.Check.{Check}
 use Rattle.records.specs.declared.Check.the-variants.{Pass, Fail}
+use Rattle.records.specs.Widths.{leaves}
 use Rattle.records.specs.RulesLaws.{rule-action}
 use Rattle.records.specs.Editions.{Given, lentRule, ranked, rankedRecord, checkGiven}
 use Rattle.records.specs.EditionsLaws.{given-law, ranked-action, ranked-record}
@@ -26,20 +31,23 @@ use Rattle.records.specs.EntriesLaws.{entries-length}
 use Rattle.records.specs.InsertsLaws.{newMisordered, misorderedNew, uncrossed-apart, insert-words, after-preceding-precedes, first-dependant-precedes}
 use Rattle.records.specs.InsertsLaws.{after-preceding-slots, first-dependant-slots}
 use Rattle.buffers.specs.Buffers.{bufferAnswer, bufferAfter}
-use Rattle.buffers.specs.BuffersLaws.{buffer-short, buffer-written}
+use Rattle.buffers.specs.BuffersLaws.{buffer-refused, buffer-short, buffer-written}
 use Rattle.costs.specs.Costs.{costOf}
 use Rattle.planner.specs.Choice.{choiceOf, choiceWords}
 use Rattle.planner.specs.declared.PositionChoice.{PositionChoice}
 use Rattle.planner.specs.Agree.{Agrees, Emits}
 use Rattle.planner.specs.ChoiceLaws.{choice-words-length}
 use Rattle.planner.specs.AgreeLaws.{plan-law, numbers-law}
-use Rattle.neighbours.specs.Neighbours.{afterA, slotB, newChecks, ruleWords, insertChecks}
+use Rattle.neighbours.specs.Neighbours.{afterA, slotB, checkCrossed, replaces, newChecks, placeChecks, ruleWords, ruleChecks, insertChecks}
+use Rattle.neighbours.specs.Neighbours.{foundCheck, FoundIn}
+use Rattle.neighbours.specs.declared.NewRule.{NewRule}
+use Rattle.neighbours.specs.declared.NewRule.the-variants.{Adds, Replaces, Declined}
 use Rattle.windows.specs.Windows.{endAt}
-use Rattle.insert_plans.specs.Insertable.{Insertable}
+use Rattle.insert_plans.specs.Insertable.{Insertable, Replacing}
 use Rattle.insert_plans.specs.Joined.{Costed}
-use Rattle.insert_plans.specs.InsertableLaws.{insertable-law, rule-words, uncrossed-numbers}
+use Rattle.insert_plans.specs.InsertableLaws.{insertable-law, replacing-slot, rule-words, uncrossed-numbers}
 use Rattle.insert_plans.specs.JoinedLaws.{ends-listed, ends-down as ends-down-law, ends-up as ends-up-law}
-use Rattle.insert_plans.specs.Inserts.{insertWords, insertAnswer, insertPlan, choiceBetween, recordChoice, Joined}
+use Rattle.insert_plans.specs.Inserts.{insertWords, replacementWords, plannedWords, insertAnswer, insertPlan, choiceBetween, recordChoice, recordPlan, Joined}
 
 module _ (w : ℕ) (t : List ℕ) (rule : Rule) (p : Insertable w t rule) where
   -- A + 1 and B of the table are those of its layout
@@ -146,54 +154,117 @@ buffer-same Pass x y buffer e =
     (ap (λ (l : List ℕ). bufferAnswer Pass (length l) (length buffer)) (e refl), ap (λ (l : List ℕ). bufferAfter Pass l buffer) (e refl))
 buffer-same (Fail cause spot) x y buffer e = (refl, refl)
 
--- a table that passes checks 1 to 4 and a rule that passes 5 and 18: what is left of an insert's checks, its cost where they pass, and its answer and buffer
-module _ (w : ℕ) (t : List ℕ) (given : Given) (checks : tableChecks w t ≡ Pass) (good : checkGiven w given ≡ Pass) where
-  left-checks : newChecks w t (ruleWords w (ranked w given)) ≡ insertChecks w t given
+-- the words that an insert is planned with, by whether it replaces a rule
+pub planned-fresh : (w : ℕ) (t : List ℕ) (rule : Rule) → replaces w t (ruleWords w rule) ≡ false → plannedWords w t rule ≡ insertWords w t rule
+planned-fresh w t rule e = rw e
+
+pub planned-replaced : (w : ℕ) (t : List ℕ) (rule : Rule) (s : ℕ) → Replacing w t rule s → plannedWords w t rule ≡ replacementWords s
+planned-replaced w t rule s r = let found = replacing-slot w t rule s r in rw (found .1, found .0)
+
+-- a rule that is checked, as the code plans it: by what it was found to be
+module _ (w : ℕ) (t : List ℕ) (new : Words) (plan : List ℕ) {found : NewRule} where
+  pub found-declined : {cause : Cause} {spot : ℕ} → found ≡ Declined cause spot
+      → (refusal cause spot ≡ bufferAnswer (orElse (foundCheck found) (placeChecks w t new)) (length (recordPlan w t new)) (length plan))
+      × (plan ≡ bufferAfter (orElse (foundCheck found) (placeChecks w t new)) (recordPlan w t new) plan)
+  found-declined e = rw e (buffer-refused (recordPlan w t new) plan refl refl)
+
+  pub found-replaces : {slot : ℕ} → found ≡ Replaces slot → FoundIn w t new found
+      → (bufferAnswer Pass (length (replacementWords slot)) (length plan)
+      ≡ bufferAnswer (orElse (foundCheck found) (placeChecks w t new)) (length (recordPlan w t new)) (length plan))
+      × (bufferAfter Pass (replacementWords slot) plan ≡ bufferAfter (orElse (foundCheck found) (placeChecks w t new)) (recordPlan w t new) plan)
+  unfolding placeChecks
+  found-replaces {slot} e f =
+      let in-slot : FoundIn w t new (Replaces slot) = subst (FoundIn w t new) e f in
+      rw e (rw (in-slot .1), rw (in-slot .1, in-slot .0))
+
+  pub found-adds : found ≡ Adds → FoundIn w t new found
+      → (foundCheck found ≡ Pass) × (replaces w t new ≡ false) × (placeChecks w t new ≡ checkCrossed w t new) × (recordPlan w t new ≡ planWords (recordChoice w t new))
+  unfolding placeChecks
+  found-adds e f =
+      let none : replaces w t new ≡ false = subst (FoundIn w t new) e f in
+      (ap foundCheck e, none, rw none, rw none)
+
+-- a table that passes checks 1 to 4 and a rule that passes its own: what is left of an insert's checks, its cost where they pass, and its answer and buffer
+module _ (w : ℕ) (t : List ℕ) (given : Given) (checks : tableChecks w t ≡ Pass) (good : ruleChecks w t given ≡ Pass) where
+  left-checks : placeChecks w t (ruleWords w (ranked w given)) ≡ insertChecks w t given
   unfolding insertChecks
   left-checks = passed refl checks (passed refl good refl)
 
-  insertable : newChecks w t (ruleWords w (ranked w given)) ≡ Pass → Insertable w t (ranked w given)
-  insertable e = insertable-law w t given .0 (sym left-checks ∙ e) .insertable
+  insertable : replaces w t (ruleWords w (ranked w given)) ≡ false → placeChecks w t (ruleWords w (ranked w given)) ≡ Pass → Insertable w t (ranked w given)
+  insertable none e =
+      ⊎-elim (λ q. q .insertable) (λ q. absurd (true≢false (sym (replacing-slot w t (ranked w given) (q .0) (q .1 .replacing) .1) ∙ none)))
+      (insertable-law w t given .0 (sym left-checks ∙ e))
 
-  insert-finite : given .rule .action < 4294967296 → newChecks w t (ruleWords w (ranked w given)) ≡ Pass
+  insert-finite : given .rule .action < 4294967296 → replaces w t (ruleWords w (ranked w given)) ≡ false → placeChecks w t (ruleWords w (ranked w given)) ≡ Pass
       → recordChoice w t (ruleWords w (ranked w given)) .cost < slots w t
-  insert-finite small e =
-      let plan = insert-least w t (ranked w given) (insertable e) (omega (arith, small, ranked-action w given)) in
-      omega (arith, plan .short, plan .valid .count, entries-length w t, ap (λ (c : Choice). c .cost) (between-is w t (ranked w given) (insertable e)))
+  insert-finite small none e =
+      let p = insertable none e in
+      let plan = insert-least w t (ranked w given) p (omega (arith, small, ranked-action w given)) in
+      omega (arith, plan .short, plan .valid .count, entries-length w t, ap (λ (c : Choice). c .cost) (between-is w t (ranked w given) p))
 
   insert-answered : (plan : List ℕ)
-      → (bufferAnswer (newChecks w t (ruleWords w (ranked w given))) (length (planWords (recordChoice w t (ruleWords w (ranked w given))))) (length plan)
+      → (bufferAnswer (placeChecks w t (ruleWords w (ranked w given))) (length (recordPlan w t (ruleWords w (ranked w given)))) (length plan)
       ≡ insertAnswer w t given (length plan))
-      × (bufferAfter (newChecks w t (ruleWords w (ranked w given))) (planWords (recordChoice w t (ruleWords w (ranked w given)))) plan
+      × (bufferAfter (placeChecks w t (ruleWords w (ranked w given))) (recordPlan w t (ruleWords w (ranked w given))) plan
       ≡ insertPlan w t given plan)
   insert-answered plan =
       let rule = ranked w given in
-      let same = buffer-same (newChecks w t (ruleWords w rule)) (planWords (recordChoice w t (ruleWords w rule))) (insertWords w t rule) plan
-      (λ e. ap planWords (between-is w t rule (insertable e))) in (
-        same .0 ∙ ap (λ (k : Check). bufferAnswer k (length (insertWords w t rule)) (length plan)) left-checks,
-        same .1 ∙ ap (λ (k : Check). bufferAfter k (insertWords w t rule) plan) left-checks,
+      let same = buffer-same (placeChecks w t (ruleWords w rule)) (recordPlan w t (ruleWords w rule)) (plannedWords w t rule) plan
+      (λ e. words e (decided (replaces w t (ruleWords w rule)))) in (
+        same .0 ∙ ap (λ (k : Check). bufferAnswer k (length (plannedWords w t rule)) (length plan)) left-checks,
+        same .1 ∙ ap (λ (k : Check). bufferAfter k (plannedWords w t rule) plan) left-checks,
       )
+    where
+      words : placeChecks w t (ruleWords w (ranked w given)) ≡ Pass
+          → (replaces w t (ruleWords w (ranked w given)) ≡ true) ⊎ (replaces w t (ruleWords w (ranked w given)) ≡ false)
+          → recordPlan w t (ruleWords w (ranked w given)) ≡ plannedWords w t (ranked w given)
+      words e (inl f) = rw f
+      words e (inr f) = rw f (ap planWords (between-is w t (ranked w given) (insertable f e)))
 
 -- the same of a rule that is lent as a record, new being its record with its rank
 module _ (w e : ℕ) (t lent new : List ℕ) (checks : tableChecks w t ≡ Pass) (size : length lent ≡ recordWords w)
-    (good : checkGiven w (lentRule w e lent) ≡ Pass) (same : new ≡ rankedRecord w e lent) where
-  is-record : recordOf w (ranked w (lentRule w e lent)) ≡ new
-  is-record = sym (same ∙ ranked-record w e lent size (given-law w (lentRule w e lent) .0 good .0))
+    (good : ruleChecks w t (lentRule w e lent) ≡ Pass) (same : new ≡ rankedRecord w e lent) where
+  own : (checkGiven w (lentRule w e lent) ≡ Pass) × (newChecks w t (ruleWords w (ranked w (lentRule w e lent))) ≡ Pass)
+  unfolding ruleChecks
+  own = or-else-pass (checkGiven w (lentRule w e lent)) (newChecks w t (ruleWords w (ranked w (lentRule w e lent)))) .0 good
 
-  pub lent-finite : newChecks w t (slotWords w new 0) ≡ Pass → recordChoice w t (slotWords w new 0) .cost < slots w t
+  is-record : recordOf w (ranked w (lentRule w e lent)) ≡ new
+  is-record = sym (same ∙ ranked-record w e lent size (given-law w (lentRule w e lent) .0 (own .0) .0))
+
+  pub lent-finite : replaces w t (slotWords w new 0) ≡ false → placeChecks w t (slotWords w new 0) ≡ Pass → recordChoice w t (slotWords w new 0) .cost < slots w t
   lent-finite =
-      subst (λ (l : List ℕ). newChecks w t (slotWords w l 0) ≡ Pass → recordChoice w t (slotWords w l 0) .cost < slots w t) is-record
-      (insert-finite w t (lentRule w e lent) checks good (rule-action w (word lent)))
+      subst (λ (l : List ℕ). replaces w t (slotWords w l 0) ≡ false → placeChecks w t (slotWords w l 0) ≡ Pass → recordChoice w t (slotWords w l 0) .cost < slots w t)
+      is-record (insert-finite w t (lentRule w e lent) checks good (rule-action w (word lent)))
 
   pub lent-answered : (plan : List ℕ)
-      → (bufferAnswer (newChecks w t (slotWords w new 0)) (length (planWords (recordChoice w t (slotWords w new 0)))) (length plan)
+      → (bufferAnswer (placeChecks w t (slotWords w new 0)) (length (recordPlan w t (slotWords w new 0))) (length plan)
       ≡ insertAnswer w t (lentRule w e lent) (length plan))
-      × (bufferAfter (newChecks w t (slotWords w new 0)) (planWords (recordChoice w t (slotWords w new 0))) plan
-      ≡ insertPlan w t (lentRule w e lent) plan)
+      × (bufferAfter (placeChecks w t (slotWords w new 0)) (recordPlan w t (slotWords w new 0)) plan ≡ insertPlan w t (lentRule w e lent) plan)
   lent-answered plan =
       subst (λ (l : List ℕ).
-      (bufferAnswer (newChecks w t (slotWords w l 0)) (length (planWords (recordChoice w t (slotWords w l 0)))) (length plan)
+      (bufferAnswer (placeChecks w t (slotWords w l 0)) (length (recordPlan w t (slotWords w l 0))) (length plan)
       ≡ insertAnswer w t (lentRule w e lent) (length plan))
-      × (bufferAfter (newChecks w t (slotWords w l 0)) (planWords (recordChoice w t (slotWords w l 0))) plan
-      ≡ insertPlan w t (lentRule w e lent) plan)) is-record
+      × (bufferAfter (placeChecks w t (slotWords w l 0)) (recordPlan w t (slotWords w l 0)) plan ≡ insertPlan w t (lentRule w e lent) plan)) is-record
       (insert-answered w t (lentRule w e lent) checks good plan)
+
+-- the lent record has it where the rule passes what it is checked for
+pub lent-ranked : (w e : ℕ) (t lent new before : List ℕ) {x : Check} → x ≡ ruleChecks w t (lentRule w e lent)
+    → new ≡ leaves (checkGiven w (lentRule w e lent)) (rankedRecord w e lent) before → x ≡ Pass → new ≡ rankedRecord w e lent
+unfolding ruleChecks
+lent-ranked w e t lent new before f same pass =
+    let good = or-else-pass (checkGiven w (lentRule w e lent)) (newChecks w t (ruleWords w (ranked w (lentRule w e lent)))) .0 (sym f ∙ pass) .0 in
+    same ∙ ap (λ (x : Check). leaves x (rankedRecord w e lent) before) good
+
+-- and of whatever it was found to be
+pub lent-found : (w e : ℕ) (t lent new plan : List ℕ) → tableChecks w t ≡ Pass → length lent ≡ recordWords w → (x : Check) → x ≡ ruleChecks w t (lentRule w e lent)
+    → (x ≡ Pass → new ≡ rankedRecord w e lent)
+    → (bufferAnswer (orElse x (placeChecks w t (slotWords w new 0))) (length (recordPlan w t (slotWords w new 0))) (length plan)
+    ≡ insertAnswer w t (lentRule w e lent) (length plan))
+    × (bufferAfter (orElse x (placeChecks w t (slotWords w new 0))) (recordPlan w t (slotWords w new 0)) plan ≡ insertPlan w t (lentRule w e lent) plan)
+unfolding insertChecks
+lent-found w e t lent new plan checks size Pass f same = lent-answered w e t lent new checks size (sym f) (same refl) plan
+lent-found w e t lent new plan checks size (Fail cause spot) f same =
+    let given = lentRule w e lent in
+    let declined = buffer-refused (recordPlan w t (slotWords w new 0)) plan refl refl in
+    let r = buffer-refused (plannedWords w t (ranked w given)) plan (passed refl checks (failed (placeChecks w t (ruleWords w (ranked w given))) f refl)) refl in
+    (sym (declined .0) ∙ r .0, sym (declined .1) ∙ r .1)

@@ -1,6 +1,6 @@
 -- Planning an insert: its words, its answer and the buffer afterwards; demand 3.
 -- Insertable: when its checks pass, in plain terms. Nearest: costs in the paper's words. PlanFound: the choice in its words.
--- Demand3: what is promised of its plan. Tables: document 01's marked tables.
+-- Demand3: what is promised of its plan. Replacements: of a rule that is sent again. Tables: document 01's marked tables.
 pub mod Joined
 pub mod JoinedLaws
 pub mod Inserts
@@ -14,5 +14,7 @@ pub mod PlanFound
 pub mod PlanFoundLaws
 pub mod Demand3
 pub mod Demand3Laws
+pub mod Replacements
+pub mod ReplacementsLaws
 pub mod Tables
 pub mod TablesLaws

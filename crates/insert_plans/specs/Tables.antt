@@ -1,4 +1,5 @@
--- Document 01, "Tables at the edge": the ten items marked to be proved, as one list, with what the planning calls promise on them.
+-- Document 01, "Tables at the edge": the ten items marked to be proved, as one list, with what the planning calls promise on them. A list of document 02's
+-- rules that are sent again beside it.
 use mathlib.Core.Path.{_≡_}
 use mathlib.Core.List.{List, [], _∷_, _++_, map}
 use Prim.Native.Nat.{ℕ, _+_, _*_, _/_}
@@ -15,7 +16,7 @@ use Rattle.layout.specs.Plan.{downCost, upCost, downChain, upChain, bestDown, b
 use Rattle.layout.specs.Plan.{insertChoice}
 use Rattle.plan_words.specs.PlanWords.{writeOf}
 use Rattle.records.specs.Record.{listed, empty, rankFits, soundParts, recordOf, ruleOf, word, putSlot}
-use Rattle.records.specs.Order.{distinct, precedes, tied, sameId, misordered}
+use Rattle.records.specs.Order.{distinct, precedes, tied, sameId, samePattern, equalRule, misordered}
 use Rattle.records.specs.Checks.{Told, lowest, shaped, checkShape, unsoundAt, checkRecords, twiceAt, checkTwice, disorderAt, checkOrder, slotChecks}
 use Rattle.records.specs.Checks.{tableChecks}
 use Rattle.records.specs.Widths.{known, checkWidth, checkWords, checkRule as checkLent}
@@ -24,9 +25,10 @@ use Rattle.records.specs.Editions.{Given, under13, rankOf, ranked, knownEdition
 use Rattle.records.specs.declared.Rule.{Rule}
 use Rattle.records.specs.Writes.{applyWords}
 use Rattle.buffers.specs.Buffers.{checkRoom, bufferAnswer, bufferAfter}
-use Rattle.neighbours.specs.Neighbours.{checkKnown, checkTie, checkFull, afterA, slotB, checkCrossed, newChecks, insertChecks}
+use Rattle.neighbours.specs.Neighbours.{checkKnown, checkTie, checkFull, afterA, slotB, checkCrossed, replacedSlot, replaces, newChecks, placeChecks}
+use Rattle.neighbours.specs.Neighbours.{ruleChecks, insertChecks}
 use Rattle.delete_plans.specs.Deletes.{hasId, slotOfId, checkId, checkUnknown, deleteChecks, deleteAnswer, deletePlan, deleteCall, deleteCallPlan}
-use Rattle.insert_plans.specs.Inserts.{insertAnswer, insertPlan, insertCall, insertCallPlan, insertWords}
+use Rattle.insert_plans.specs.Inserts.{insertAnswer, insertPlan, insertCall, insertCallPlan, plannedWords}
 
 -- a pattern, highest bit first: a bit that must be 0, one that must be 1, one not cared for
 pub data Symbol : Type 0 where
@@ -92,7 +94,7 @@ pub record Item : Type 0 where
   pub expected : Result
 
 unfoldable pub resultOf : ℕ → Item → Result
-unfolding all any least afterLast agree inside both overlaps within minimum lowestOf highestOf windowEnd costs nextSlot steps moves downCost upCost downChain upChain bestDown bestUp slotDown slotUp choose afterPreceding firstDependant insertChoice listed empty fullMask rankFits soundParts rankOf ranked knownEdition checkSound checkEdition checkGiven recordOf distinct precedes tied sameId misordered entries lowest shaped checkShape unsoundAt checkRecords twiceAt checkTwice disorderAt checkOrder slotChecks tableChecks checkRoom bufferAnswer bufferAfter checkKnown checkTie checkFull afterA slotB checkCrossed newChecks insertChecks hasId slotOfId checkId checkUnknown deleteChecks
+unfolding all any least afterLast agree inside both overlaps within minimum lowestOf highestOf windowEnd costs nextSlot steps moves downCost upCost downChain upChain bestDown bestUp slotDown slotUp choose afterPreceding firstDependant insertChoice listed empty fullMask rankFits soundParts rankOf ranked knownEdition checkSound checkEdition checkGiven recordOf distinct precedes tied sameId misordered samePattern equalRule entries lowest shaped checkShape unsoundAt checkRecords twiceAt checkTwice disorderAt checkOrder slotChecks tableChecks checkRoom bufferAnswer bufferAfter checkKnown checkTie checkFull afterA slotB checkCrossed replacedSlot replaces newChecks placeChecks ruleChecks insertChecks hasId slotOfId checkId checkUnknown deleteChecks
 resultOf w item = result w (item .table) (item .asked) (item .buffer)
 
 unfoldable pub calledOf : ℕ → Item → Result
@@ -208,6 +210,36 @@ module _ (w : ℕ) where
       ∷ record { table = before-third; asked = deleting 3; buffer = 801 ∷ 802 ∷ []; expected = declined 7 0 (801 ∷ 802 ∷ []) }
       ∷ []
 
+  -- document 02, 2026-03: a full table; a rule equal to the one in slot 1, and three that differ from that one in one thing besides the action
+  unfoldable pub again-table : List ℕ
+  again-table = held rule1 ++ held rule2
+
+  unfoldable pub again-equal : Rule
+  again-equal = line 9 20 (one ∷ []) 5
+
+  unfoldable pub again-known : Rule
+  again-known = line 2 20 (one ∷ []) 5
+
+  unfoldable pub again-mask : Rule
+  again-mask = line 9 20 (one ∷ nought ∷ []) 5
+
+  unfoldable pub again-rank : Rule
+  again-rank = line 9 25 (one ∷ []) 5
+
+  unfoldable pub again-items : List Item
+  again-items =
+      -- the same value, mask and rank: one put-in at that slot, though no slot is empty
+      record { table = again-table; asked = inserting (under13 again-equal); buffer = 801 ∷ 802 ∷ []; expected = planned 1 (new 1 ∷ 802 ∷ []) }
+      -- without a word of buffer: 11, spot 1
+      ∷ record { table = again-table; asked = inserting (under13 again-equal); buffer = []; expected = declined 11 1 [] }
+      -- with the id that stands: 6
+      ∷ record { table = again-table; asked = inserting (under13 again-known); buffer = 801 ∷ []; expected = declined 6 1 (801 ∷ []) }
+      -- with another mask: 8
+      ∷ record { table = again-table; asked = inserting (under13 again-mask); buffer = 801 ∷ []; expected = declined 8 1 (801 ∷ []) }
+      -- with another rank: 9
+      ∷ record { table = again-table; asked = inserting (under13 again-rank); buffer = 801 ∷ []; expected = declined 9 0 (801 ∷ []) }
+      ∷ []
+
 -- each item gives what is expected of it, by the definitions and by the calls
 abbrev pub TablesAtTheEdge : ℕ → Type 0
 TablesAtTheEdge w = map (resultOf w) (items w) ≡ map expected (items w)
@@ -215,10 +247,13 @@ TablesAtTheEdge w = map (resultOf w) (items w) ≡ map expected (items w)
 abbrev pub CallsAtTheEdge : ℕ → Type 0
 CallsAtTheEdge w = map (calledOf w) (items w) ≡ map expected (items w)
 
+abbrev pub AgainAtTheEdge : ℕ → Type 0
+AgainAtTheEdge w = (map (resultOf w) (again-items w) ≡ map expected (again-items w)) × (map (calledOf w) (again-items w) ≡ map expected (again-items w))
+
 -- the table with a rule put in by its plan
 unfoldable pub afterInsert : ℕ → List ℕ → Rule → List ℕ
 unfolding resultOf writeOf putSlot
-afterInsert w t rule = applyWords w t rule (insertWords w t rule)
+afterInsert w t rule = applyWords w t rule (plannedWords w t rule)
 
 -- row by row, which of the rules that rule precedes
 unfoldable pub precedence : ℕ → List Rule → List (List Bool)

@@ -7,6 +7,7 @@ use mathlib.Core.Logic._⊎_.{inl, inr}
 use mathlib.Core.List.{List, [], _∷_, _++_, map, foldl}
 use Prim.Native.Nat.{ℕ, zero, suc, _+_, _*_, _/_, _≤_, _<_}
 use native.Mathlib.Nat.{div-self}
+use native.Mathlib.Decide.{decLt}
 use native.Mathlib.Omega.{arith}
 use lib.Dec.{eqb}
 use lib.ListN.{length, drop, length-replicate}
@@ -18,7 +19,7 @@ use Rattle.ternary.specs.PatternLaws.{overlaps-law}
 use Rattle.layout.specs.Write.{moves}
 use Rattle.layout.specs.Plan.{Choice, insertChoice}
 use Rattle.records.specs.Record.{word, recordWords, slotWords, value, mask, ident, rank, listed, empty, occupied, soundRule, recordOf}
-use Rattle.records.specs.Order.{slots, overlapping, precedes, tied, sameId, misordered}
+use Rattle.records.specs.Order.{slots, overlapping, precedes, tied, sameId, misordered, EqualRules}
 use Rattle.records.specs.Checks.{success, refusal, unless, tableChecks}
 use Rattle.records.specs.Laws.{passed, failed, empty-law, sound-law, same-id-law, precedes-law, precedes-misordered, tied-law, shape-law, slot-checks-law}
 use Rattle.records.specs.Laws.{table-checks-law, records-law, twice-law, order-law}
@@ -27,7 +28,7 @@ use Rattle.records.specs.WidthsLaws.{width-law, rule-law}
 use Rattle.records.specs.Rules.{Fields}
 use Rattle.records.specs.Entries.{vacant, entryAt, entries, entryOccupied, entryMisordered}
 use Rattle.records.specs.Inserts.{planWords}
-use Rattle.records.specs.Editions.{Given, ranked, Edition, checkGiven}
+use Rattle.records.specs.Editions.{Given, ranked, Edition}
 use Rattle.records.specs.EditionsLaws.{given-law, rank-sound, ranked-action}
 use Rattle.records.specs.declared.Rule.{Rule}
 use Rattle.records.specs.declared.Cause.the-variants.{Known, Tie, Full, Short, Unknown}
@@ -35,18 +36,21 @@ use Rattle.records.specs.declared.Check.{Check}
 use Rattle.records.specs.declared.Check.the-variants.{Pass, Fail}
 use Rattle.records.specs.ChecksLaws.{lowest-none}
 use Rattle.records.specs.RulesLaws.{zero-word, length-listed, record-length, rule-of-record}
+use Rattle.records.specs.EqualLaws.{equal-overlapping}
 use Rattle.records.specs.EntriesLaws.{entry-laws, refuted, occupied-cong, misordered-cong, listed-same}
 use Rattle.records.specs.InsertsLaws.{overlapping-turned, rule-same, rule-tied}
 use Rattle.buffers.specs.BuffersLaws.{buffer-refused, buffer-short, buffer-written}
-use Rattle.neighbours.specs.Neighbours.{checkKnown, checkTie, checkCrossed, afterA, slotB, newChecks, ruleWords, insertChecks}
-use Rattle.neighbours.specs.NeighboursLaws.{after-a-high, crossed-no, room-at, room-none}
+use Rattle.neighbours.specs.Neighbours.{checkKnown, checkTie, replaces, newChecks, ruleWords, ruleChecks, insertChecks}
+use Rattle.neighbours.specs.NeighboursLaws.{room-none}
 use Rattle.delete_plans.specs.Deletes.{hasId, slotOfId, deleteChecks, deleteWords}
 use Rattle.delete_plans.specs.DeletesLaws.{id-accepted, id-absent}
-use Rattle.insert_plans.specs.Inserts.{insertAnswer, insertPlan, insertWords}
-use Rattle.insert_plans.specs.InsertableLaws.{rule-words}
+use Rattle.insert_plans.specs.Inserts.{insertAnswer, insertPlan, insertWords, plannedWords}
+use Rattle.insert_plans.specs.InsertsLaws.{planned-fresh}
+use Rattle.insert_plans.specs.Insertable.{InsertableGiven}
+use Rattle.insert_plans.specs.InsertableLaws.{rule-words, replaces-none, insertable-fresh, insertable-passes}
 use Rattle.insert_plans.specs.Tables.{moved, planned, rule2, new, valueFrom, before-crossing, rule-d, before-third, rule-new, declined, rule5}
 use Rattle.insert_plans.specs.Tables.{deleting, rule3, rule-a, rule-other, maskFrom, expected, rule7, rule6, rule-c, rule1, result, resultOf}
-use Rattle.insert_plans.specs.Tables.{Result, called, calledOf, TablesAtTheEdge, CallsAtTheEdge}
+use Rattle.insert_plans.specs.Tables.{Result, called, calledOf, TablesAtTheEdge, CallsAtTheEdge, AgainAtTheEdge, again-items, again-table, again-equal, again-known, again-mask, again-rank}
 use Rattle.insert_plans.specs.Tables.{items, rule4, vacancy, after-third, inserting, line, afterInsert, precedence}
 
 -- what holds at two words and at five holds at every width
@@ -92,6 +96,10 @@ pub calls-at-the-edge : (w : ℕ) → Width w → CallsAtTheEdge w
 unfolding calledOf expected items before-third after-third before-crossing rule1 rule2 rule3 rule4 rule5 rule6 rule7 rule-a rule-other rule-c rule-d rule-new line valueFrom maskFrom
 calls-at-the-edge = by-widths _ refl refl
 
+pub sent-again : (w : ℕ) → Width w → AgainAtTheEdge w
+unfolding calledOf expected again-items again-table again-equal again-known again-mask again-rank rule1 rule2 line valueFrom maskFrom
+sent-again = by-widths _ (refl, refl) (refl, refl)
+
 -- at a width that there is, what a call gives is what the definitions give
 pub called-insert : (w : ℕ) → Width w → (t : List ℕ) (given : Given) → Fields w (given .rule) → (plan : List ℕ)
     → called w t (inserting given) plan ≡ result w t (inserting given) plan
@@ -111,10 +119,12 @@ pub called-delete : (w : ℕ) → Width w → (t : List ℕ) (id : ℕ) (plan : 
 called-delete w width t id plan = rw (width-law w .1 width)
 
 -- a plan whose words are known, in a buffer that holds them
-words-outcome : (w : ℕ) (t : List ℕ) (given : Given) {words : List ℕ} → Pass ≡ insertChecks w t given → insertWords w t (ranked w given) ≡ words
-    → (plan : List ℕ) → length words ≤ length plan → result w t (inserting given) plan ≡ planned (length words) (words ++ drop (length words) plan)
-words-outcome w t given checks e plan room =
-    let r = buffer-written (insertWords w t (ranked w given)) plan checks refl (subst (λ (l : List ℕ). length l ≤ length plan) (sym e) room) in
+words-outcome : (w : ℕ) (t : List ℕ) (given : Given) {words : List ℕ} → Pass ≡ insertChecks w t given → replaces w t (ruleWords w (ranked w given)) ≡ false
+    → insertWords w t (ranked w given) ≡ words → (plan : List ℕ) → length words ≤ length plan
+    → result w t (inserting given) plan ≡ planned (length words) (words ++ drop (length words) plan)
+words-outcome w t given checks none chosen-words plan room =
+    let e = planned-fresh w t (ranked w given) none ∙ chosen-words in
+    let r = buffer-written (plannedWords w t (ranked w given)) plan checks refl (subst (λ (l : List ℕ). length l ≤ length plan) (sym e) room) in
     let answer = sym (r .0) ∙ ap (λ (l : List ℕ). success (length l ∷ [])) e in
     let after = sym (r .1) ∙ ap (λ (l : List ℕ). l ++ drop (length l) plan) e in
     λ k. record { answer = answer k; buffer = after k }
@@ -161,24 +171,19 @@ module _ (w : ℕ) where
         order-law w (vacancy w) .1 (λ x y l h. absurd (omega arith)),
       )
 
-  vacant-known : (x : Words) → checkKnown w (vacancy w) x ≡ Pass
-  unfolding checkKnown
-  vacant-known x =
-      sym (lowest-none Known _ (slots w (vacancy w)) (λ i h. refuted (λ e. true≢false (sym (same-id-law w _ x .0 e .0) ∙ ap not (vacant-slot i)))))
-
-  vacant-tie : (x : Words) → checkTie w (vacancy w) x ≡ Pass
-  unfolding checkTie
-  vacant-tie x =
-      sym (lowest-none Tie _ (slots w (vacancy w)) (λ i h. refuted (λ e. true≢false (sym (tied-law w _ x .0 e .0 .0) ∙ ap not (vacant-slot i)))))
-
-  vacant-checks : (given : Given) → checkGiven w given ≡ Pass → Pass ≡ insertChecks w (vacancy w) given
-  unfolding insertChecks newChecks checkCrossed
-  vacant-checks given good =
-      let one = one-vacant in
-      let x = ruleWords w (ranked w given) in
-      passed refl vacant-table (passed refl good (passed refl (vacant-known x) (passed refl (vacant-tie x)
-      (passed refl (sym (room-at w (vacancy w) 0 (omega arith) (vacant-slot 0)))
-      (crossed-no (afterA w (vacancy w) x) (slotB w (vacancy w) x) (omega (arith, after-a-high w (vacancy w) x)))))))
+  vacant-insertable : (given : Given) → soundRule w (given .rule) ≡ true → Edition (given .edition) → InsertableGiven w (vacancy w) given
+  vacant-insertable given sound edition = record {
+    sound = sound;
+    edition = edition;
+    insertable = record {
+      table = vacant-table;
+      sound = rank-sound w given sound;
+      new = λ i h. refuted (λ e. true≢false (sym (same-id-law w _ _ .0 e .0) ∙ ap not (vacant-slot i)));
+      untied = λ i h. refuted (λ e. true≢false (sym (tied-law w _ _ .0 e .0 .0) ∙ ap not (vacant-slot i)));
+      room = (0, omega (arith, one-vacant), vacant-slot 0);
+      uncrossed = λ i k h l p d. absurd (true≢false (sym (precedes-law w _ _ .0 p .0 .0) ∙ ap not (vacant-slot i)));
+    };
+  }
 
   -- no rule precedes the new one, and none depends on it
   vacant-words : (rule : Rule) → insertWords w (vacancy w) rule ≡ new 0 ∷ []
@@ -194,7 +199,9 @@ module _ (w : ℕ) where
   pub one-empty-slot : (given : Given) → soundRule w (given .rule) ≡ true → Edition (given .edition) → (plan : List ℕ) → 1 ≤ length plan
       → result w (vacancy w) (inserting given) plan ≡ planned 1 (new 0 ∷ drop 1 plan)
   one-empty-slot given sound edition plan room =
-      words-outcome w (vacancy w) given (vacant-checks given (given-law w given .1 (sound, edition))) (vacant-words (ranked w given)) plan room
+      let p = vacant-insertable given sound edition in
+      words-outcome w (vacancy w) given (sym (insertable-passes w (vacancy w) given p))
+      (insertable-fresh w (vacancy w) (ranked w given) (p .insertable .new) (p .insertable .untied)) (vacant-words (ranked w given)) plan room
 
 -- One slot, occupied, any sound rule of new id that ties with nothing: 9.
 module _ (w : ℕ) (t : List ℕ) (one-slot : slots w t ≡ 1) where
@@ -208,9 +215,9 @@ module _ (w : ℕ) (t : List ℕ) (one-slot : slots w t ≡ 1) where
       → (Overlap w (value (slotWords w t 0)) (mask w (slotWords w t 0)) (word (ranked w given .value)) (word (ranked w given .mask))
       → rank w (slotWords w t 0) ≢ ranked w given .priority)
       → (plan : List ℕ) → result w t (inserting given) plan ≡ declined 9 0 plan
-  unfolding insertChecks newChecks checkKnown checkTie
+  unfolding insertChecks ruleChecks newChecks checkKnown checkTie
   one-slot-full table filled given sound edition action32 id-new untied plan =
-      let r = buffer-refused (insertWords w t rule) plan checks refl in λ k. record { answer = sym (r .0) k; buffer = sym (r .1) k }
+      let r = buffer-refused (plannedWords w t rule) plan checks refl in λ k. record { answer = sym (r .0) k; buffer = sym (r .1) k }
     where
       rule : Rule
       rule = ranked w given
@@ -235,14 +242,21 @@ module _ (w : ℕ) (t : List ℕ) (one-slot : slots w t ≡ 1) where
           let p = and-left (over && level) _ (sym (rule-tied w rule named small here) ∙ e) in
           untied (overlaps-law w _ _ _ _ .0 (and-left over level p)) (eqb-true (rank w here) (rule .priority) (and-right over level p)))
 
+      fresh : replaces w t (ruleWords w rule) ≡ false
+      fresh = insertable-fresh w t rule (only-slot _ known) (only-slot _ ties)
+
+      own : newChecks w t (ruleWords w rule) ≡ newChecks w t (word (recordOf w rule))
+      own = ap (newChecks w t) (rule-words w rule)
+
       new-checks : Fail Full 0 ≡ newChecks w t (word (recordOf w rule))
       new-checks =
           passed refl (sym (lowest-none Known _ (slots w t) (only-slot _ known)))
+          (rw (ap (replaces w t) (sym (rule-words w rule)) ∙ fresh)
           (passed refl (sym (lowest-none Tie _ (slots w t) (only-slot _ ties)))
-          (failed _ refl (sym (room-none w t (only-slot _ (not-true (empty w here) filled))))))
+          (room-none w t (only-slot _ (not-true (empty w here) filled)))))
 
       checks : Fail Full 0 ≡ insertChecks w t given
-      checks = passed refl table (passed refl (given-law w given .1 (sound, edition)) (new-checks ∙ ap (newChecks w t) (sym (rule-words w rule))))
+      checks = passed refl table (failed _ (passed refl (given-law w given .1 (sound, edition)) (new-checks ∙ sym own)) refl)
 
 -- The new rule between a in slot 1 and b in slot 2, slot 0 empty: what the tests of entries say, e being the empty entry, ..
 record Between {S : Type 0} (full : S → Bool) (wrong : S → S → Bool) (e a b fresh : S) : Type 0 where
@@ -292,12 +306,26 @@ module _ (w : ℕ) (t : List ℕ) (given : Given) (checks : insertChecks w t giv
         fresh-b = misordered-cong w (λ j l. refl) (same b) ∙ precedes-misordered w fresh b rule-b .1;
       }
 
+  -- slots 1 and 2 have other ranks than the rule, and the others are empty: it replaces none
+  fresh : (n : ℕ) → slots w t ≡ n → ((i : ℕ) → 3 ≤ i → i < n → empty w (slotWords w t i) ≡ true) → replaces w t (ruleWords w (ranked w given)) ≡ false
+  fresh n size vacant-last = replaces-none w t (ranked w given) (λ i h. equal i (omega (arith, h, size)))
+    where
+      own : Words
+      own = word (recordOf w (ranked w given))
+
+      equal : (i : ℕ) → i < n → EqualRules w (slotWords w t i) own → ⊥
+      equal zero h e = true≢false (sym (e .first) ∙ ap not vacant-0)
+      equal (suc zero) h e = omega (arith, e .ranks, precedes-law w (slotWords w t 1) own .0 a-rule .1)
+      equal (suc (suc zero)) h e = omega (arith, e .ranks, precedes-law w own (slotWords w t 2) .0 rule-b .1)
+      equal (suc (suc (suc i))) h e = true≢false (sym (e .first) ∙ ap not (vacant-last (suc (suc (suc i))) (omega arith) h))
+
   pub between-up : slots w t ≡ 3 → (plan : List ℕ) → 2 ≤ length plan → result w t (inserting given) plan ≡ planned 2 (moved 1 0 ∷ new 1 ∷ drop 2 plan)
   unfolding entries listed moves
   between-up three plan room =
       let layout : entries w t ≡ vacancy w ∷ entryAt w t 1 ∷ entryAt w t 2 ∷ [] =
       ap (λ (n : ℕ). map (entryAt w t) (listed n (λ i. i))) three ∙ ap (λ (l : List ℕ). l ∷ entryAt w t 1 ∷ entryAt w t 2 ∷ []) (vacant-entry w t 0 vacant-0) in
-      words-outcome w t given (sym checks) (chosen w t (ranked w given) layout (up-choice (vacant w) _ _ _ _ _ _ between)) plan room
+      words-outcome w t given (sym checks) (fresh 3 three (λ i l h. absurd (omega arith)))
+      (chosen w t (ranked w given) layout (up-choice (vacant w) _ _ _ _ _ _ between)) plan room
 
   pub between-down : slots w t ≡ 4 → empty w (slotWords w t 3) ≡ true → (plan : List ℕ) → 2 ≤ length plan
       → result w t (inserting given) plan ≡ planned 2 (moved 2 3 ∷ new 2 ∷ drop 2 plan)
@@ -306,7 +334,9 @@ module _ (w : ℕ) (t : List ℕ) (given : Given) (checks : insertChecks w t giv
       let layout : entries w t ≡ vacancy w ∷ entryAt w t 1 ∷ entryAt w t 2 ∷ vacancy w ∷ [] =
       ap (λ (n : ℕ). map (entryAt w t) (listed n (λ i. i))) four
       ∙ ap₂ (λ (l m : List ℕ). l ∷ entryAt w t 1 ∷ entryAt w t 2 ∷ m ∷ []) (vacant-entry w t 0 vacant-0) (vacant-entry w t 3 vacant-3) in
-      words-outcome w t given (sym checks) (chosen w t (ranked w given) layout (down-choice (vacant w) _ _ _ _ _ _ between)) plan room
+      words-outcome w t given (sym checks)
+      (fresh 4 four (λ i l h. let last : i ≡ 3 = omega arith in ap (λ (k : ℕ). empty w (slotWords w t k)) last ∙ vacant-3))
+      (chosen w t (ranked w given) layout (down-choice (vacant w) _ _ _ _ _ _ between)) plan room
 
 -- The five-slot table: what the tests of entries say of a, the other, c, d, the empty entry e and the new rule, ..
 record FiveSlots {S : Type 0} (full : S → Bool) (wrong : S → S → Bool) (a other c d e fresh : S) : Type 0 where
@@ -373,10 +403,22 @@ pub five-slots : (w : ℕ) (t : List ℕ) (given : Given) → insertChecks w t g
     → (plan : List ℕ) → 3 ≤ length plan → result w t (inserting given) plan ≡ planned 3 (moved 1 4 ∷ moved 0 1 ∷ new 0 ∷ drop 3 plan)
 unfolding entries listed moves
 five-slots w t given checks five filled vacant-4 a-c c-d a-other a-d other-c other-d rule-a clear plan room =
-    words-outcome w t given (sym checks) (chosen w t rule layout (five-choice (vacant w) _ _ _ _ _ _ _ _ facts)) plan room
+    words-outcome w t given (sym checks) (replaces-none w t rule (λ i h. equal i (omega (arith, h, five))))
+    (chosen w t rule layout (five-choice (vacant w) _ _ _ _ _ _ _ _ facts)) plan room
   where
     rule : Rule
     rule = ranked w given
+
+    -- a has another rank than the rule, the three after it do not overlap it, and the last slot is empty: it replaces none
+    equal : (i : ℕ) → i < 5 → EqualRules w (slotWords w t i) (word (recordOf w rule)) → ⊥
+    equal zero h e = omega (arith, e .ranks, precedes-law w (word (recordOf w rule)) (slotWords w t 0) .0 rule-a .1)
+    equal (suc i) h e = pick (decLt (suc i) 4)
+      where
+        pick : Dec (suc i < 4) → ⊥
+        pick (yes l) = true≢false (sym (equal-overlapping w (slotWords w t (suc i)) (word (recordOf w rule)) e) ∙ clear (suc i) (omega arith) l)
+        pick (no l) =
+            let last : suc i ≡ 4 = omega arith in
+            true≢false (sym (e .first) ∙ ap not (ap (λ (k : ℕ). empty w (slotWords w t k)) last ∙ vacant-4))
 
     layout : entries w t ≡ entryAt w t 0 ∷ entryAt w t 1 ∷ entryAt w t 2 ∷ entryAt w t 3 ∷ vacancy w ∷ []
     layout =
@@ -428,10 +470,10 @@ five-slots w t given checks five filled vacant-4 a-c c-d a-other a-d other-c oth
     }
 
 -- Any plan of two in a one-word buffer: 11, spot 2.
-pub one-word-short : (w : ℕ) (t : List ℕ) (given : Given) → insertChecks w t given ≡ Pass → length (insertWords w t (ranked w given)) ≡ 2
+pub one-word-short : (w : ℕ) (t : List ℕ) (given : Given) → insertChecks w t given ≡ Pass → length (plannedWords w t (ranked w given)) ≡ 2
     → (filler : ℕ) → result w t (inserting given) (filler ∷ []) ≡ declined 11 2 (filler ∷ [])
 one-word-short w t given checks two filler =
-    let r = buffer-short (insertWords w t (ranked w given)) (filler ∷ []) refl checks (omega arith) in
+    let r = buffer-short (plannedWords w t (ranked w given)) (filler ∷ []) refl checks (omega arith) in
     λ k. record { answer = (sym (r .0) ∙ ap (refusal Short) two) k; buffer = sym (r .1) k }
 
 -- Delete of an absent id, any table that passes checks 1 to 4 and any id but 0: 7. An empty slot's id word is 0.

@@ -1,12 +1,16 @@
-// Planning an insert: costs in both directions, the choice between them, and the words of its chain.
+// Planning an insert: costs in both directions, the choice between them, and the words of its chain; the one word of a replacement.
 // The table is never changed, and a call that declines leaves the plan buffer as it was.
 use buffers::PlanAnswer;
 use buffers::PlanInfo;
+use buffers::answer_word;
 use costs::fill_costs;
+use neighbours::NewRule;
 use neighbours::checks::after_a;
 use neighbours::checks::check_crossed;
-use neighbours::checks::check_new;
+use neighbours::checks::check_for_insert;
 use neighbours::checks::slot_b;
+use plan_words::PlanWrite;
+use plan_words::word_of;
 use planner::PositionChoice;
 use planner::SlotRange;
 use planner::choose;
@@ -22,21 +26,19 @@ use records::Rule;
 use records::WIDE_RECORD;
 use records::check_rule;
 use records::record_words;
-use slots::given::check_given;
-use slots::given::rank_record;
 use slots::rules::record_of;
 use slots::slot_count;
 use table_checks::check_listed;
 use windows::fill_ends;
 ghost use mathlib.Core.Path.{_≡_};
-ghost use mathlib.Core.Bool.{cond};
+ghost use mathlib.Core.Bool.{false, cond};
 ghost use Prim.Native.Nat.{_+_, _-_, _*_, _≤_, _<_};
 ghost use lib.ListN.{length};
 ghost use Rattle.records.specs.Record.{mostSlots, recordWords, slotWords};
 ghost use Rattle.records.specs.Order.{slots as slotsOf};
 ghost use Rattle.records.specs.Widths.{Width};
-ghost use Rattle.records.specs.Editions.{lentRule, under13, ranked, checkGiven};
-ghost use Rattle.records.specs.Checks.{tableChecks};
+ghost use Rattle.records.specs.Editions.{lentRule, under13, ranked};
+ghost use Rattle.records.specs.Checks.{orElse, tableChecks};
 ghost use Rattle.records.specs.Inserts.{planWords};
 ghost use Rattle.records.specs.declared.Check.the-variants.{Pass};
 ghost use Rattle.buffers.specs.Buffers.{planTold, bufferAnswer, bufferAfter};
@@ -44,11 +46,11 @@ ghost use Rattle.neighbour_lists.specs.Lists.{Listed};
 ghost use Rattle.costs.specs.Costs.{costOf};
 ghost use Rattle.planner.specs.Emit.{Stays};
 ghost use Rattle.planner.specs.Choice.{choiceOf, choiceWords};
-ghost use Rattle.neighbours.specs.Neighbours.{newChecks};
+ghost use Rattle.neighbours.specs.Neighbours.{checkCrossed, replaces, placeChecks, foundCheck, FoundIn};
 ghost use Rattle.insert_plans.specs.Joined.{Costed};
 ghost use Rattle.insert_plans.specs.Insertable.{InsertableGiven, InsertableCall};
 ghost use Rattle.insert_plans.specs.Demand3.{Demand3};
-ghost use Rattle.insert_plans.specs.Inserts.{choiceBetween, recordChoice, insertAnswer, insertPlan, insertCall, insertCallPlan};
+ghost use Rattle.insert_plans.specs.Inserts.{choiceBetween, recordChoice, replacementWords, recordPlan, insertAnswer, insertPlan, insertCall, insertCallPlan};
 
 // The costs of all positions along one direction, with the ends of their windows.
 fn costs_along(
@@ -182,21 +184,23 @@ fn plan_between(
     )
 }
 
-// The plan of a sound rule's insert into a table that passes checks 1 to 4, by its neighbour list.
-fn plan_record(table: &[u64], near: &[u16], new: &[u64], plan: &mut [u32], mode: Mode) -> PlanAnswer
+// Check 10, and the plan of a rule that replaces none, by the table's neighbour list.
+fn plan_between_neighbours(
+    table: &[u64],
+    near: &[u16],
+    new: &[u64],
+    plan: &mut [u32],
+    mode: Mode,
+) -> PlanAnswer
     requires { ⌜ (Width (mode .width)) × (tableChecks (mode .width) (now table) ≡ Pass) × (2 * mostSlots ≤ length (now near)) × Listed (mode .width) (now table) (now near) ⌝ }
     requires { ⌜ length (now new) ≡ recordWords (mode .width) ⌝ }
-    requires { ⌜ (newChecks (mode .width) (now table) (slotWords (mode .width) (now new) 0) ≡ Pass
+    requires { ⌜ (checkCrossed (mode .width) (now table) (slotWords (mode .width) (now new) 0) ≡ Pass
         → recordChoice (mode .width) (now table) (slotWords (mode .width) (now new) 0) .cost < slotsOf (mode .width) (now table)) ⌝ }
-    ensures { λ r. ⌜ planTold r ≡ bufferAnswer (newChecks (mode .width) (now (table .entry)) (slotWords (mode .width) (now (new .entry)) 0))
+    ensures { λ r. ⌜ planTold r ≡ bufferAnswer (checkCrossed (mode .width) (now (table .entry)) (slotWords (mode .width) (now (new .entry)) 0))
         (length (planWords (recordChoice (mode .width) (now (table .entry)) (slotWords (mode .width) (now (new .entry)) 0)))) (length (now (plan .entry))) ⌝ }
-    ensures { λ _. ⌜ now (plan .exit) ≡ bufferAfter (newChecks (mode .width) (now (table .entry)) (slotWords (mode .width) (now (new .entry)) 0))
+    ensures { λ _. ⌜ now (plan .exit) ≡ bufferAfter (checkCrossed (mode .width) (now (table .entry)) (slotWords (mode .width) (now (new .entry)) 0))
         (planWords (recordChoice (mode .width) (now (table .entry)) (slotWords (mode .width) (now (new .entry)) 0))) (now (plan .entry)) ⌝ }
 {
-    let check = check_new(table, new, mode);
-    if let Check::Fail(cause, spot) = check {
-        return PlanAnswer::Refused(cause, spot);
-    }
     let after = after_a(table, new, mode);
     let dependant = slot_b(table, new, mode);
     let crossed = check_crossed(after, dependant);
@@ -206,27 +210,42 @@ fn plan_record(table: &[u64], near: &[u16], new: &[u64], plan: &mut [u32], mode:
     plan_between(table, near, after, dependant, plan, mode)
 }
 
-// The plan of a rule that passes checks 5 and 18: of its record with the rank that its edition gives it.
-fn plan_given(
+// The plan of a replacement: one put-in at the slot of the rule that is replaced.
+fn plan_replacement(slot: usize, plan: &mut [u32]) -> PlanAnswer
+    requires { ⌜ slot < mostSlots ⌝ }
+    ensures { λ r. ⌜ planTold r ≡ bufferAnswer Pass (length (replacementWords slot)) (length (now (plan .entry))) ⌝ }
+    ensures { λ _. ⌜ now (plan .exit) ≡ bufferAfter Pass (replacementWords slot) (now (plan .entry)) ⌝ }
+{
+    answer_word(word_of(PlanWrite::PutIn(slot as u32)), plan)
+}
+
+// The plan of a rule that has been checked, by what it was found to be, into a table that passes checks 1 to 4. Its record with its rank is lent.
+fn plan_checked(
     table: &[u64],
     near: &[u16],
-    rule: &[u64],
-    edition: u32,
+    new: &[u64],
+    found: NewRule,
     plan: &mut [u32],
     mode: Mode,
 ) -> PlanAnswer
     requires { ⌜ (Width (mode .width)) × (tableChecks (mode .width) (now table) ≡ Pass) × (2 * mostSlots ≤ length (now near)) × Listed (mode .width) (now table) (now near) ⌝ }
-    requires { ⌜ (length (now rule) ≡ recordWords (mode .width)) × (checkGiven (mode .width) (lentRule (mode .width) edition (now rule)) ≡ Pass) ⌝ }
-    ensures { λ r. ⌜ planTold r ≡ insertAnswer (mode .width) (now (table .entry)) (lentRule (mode .width) edition (now (rule .entry))) (length (now (plan .entry))) ⌝ }
-    ensures { λ _. ⌜ now (plan .exit) ≡ insertPlan (mode .width) (now (table .entry)) (lentRule (mode .width) edition (now (rule .entry))) (now (plan .entry)) ⌝ }
+    requires { ⌜ (length (now new) ≡ recordWords (mode .width)) × FoundIn (mode .width) (now table) (slotWords (mode .width) (now new) 0) found ⌝ }
+    requires { ⌜ (foundCheck found ≡ Pass → replaces (mode .width) (now table) (slotWords (mode .width) (now new) 0) ≡ false
+        → placeChecks (mode .width) (now table) (slotWords (mode .width) (now new) 0) ≡ Pass
+        → recordChoice (mode .width) (now table) (slotWords (mode .width) (now new) 0) .cost < slotsOf (mode .width) (now table)) ⌝ }
+    ensures { λ r. ⌜ planTold r ≡ bufferAnswer (orElse (foundCheck found) (placeChecks (mode .width) (now (table .entry)) (slotWords (mode .width) (now (new .entry)) 0)))
+        (length (recordPlan (mode .width) (now (table .entry)) (slotWords (mode .width) (now (new .entry)) 0))) (length (now (plan .entry))) ⌝ }
+    ensures { λ _. ⌜ now (plan .exit) ≡ bufferAfter (orElse (foundCheck found) (placeChecks (mode .width) (now (table .entry)) (slotWords (mode .width) (now (new .entry)) 0)))
+        (recordPlan (mode .width) (now (table .entry)) (slotWords (mode .width) (now (new .entry)) 0)) (now (plan .entry)) ⌝ }
 {
-    let mut ranked = [0u64; WIDE_RECORD];
-    let words = record_words(mode.width);
-    rank_record(rule, edition, &mut ranked[0..words], mode.width);
-    plan_record(table, near, &ranked[0..words], plan, mode)
+    match found {
+        NewRule::Adds => plan_between_neighbours(table, near, new, plan, mode),
+        NewRule::Replaces(slot) => plan_replacement(slot as usize, plan),
+        NewRule::Declined(cause, spot) => PlanAnswer::Refused(cause, spot),
+    }
 }
 
-// The plan of an insert into a table that passes checks 1 to 4, by its neighbour list.
+// The plan of an insert into a table that passes checks 1 to 4, by its neighbour list: what a rule is checked for, and its plan.
 fn plan_listed(
     table: &[u64],
     near: &[u16],
@@ -240,11 +259,10 @@ fn plan_listed(
     ensures { λ r. ⌜ planTold r ≡ insertAnswer (mode .width) (now (table .entry)) (lentRule (mode .width) edition (now (rule .entry))) (length (now (plan .entry))) ⌝ }
     ensures { λ _. ⌜ now (plan .exit) ≡ insertPlan (mode .width) (now (table .entry)) (lentRule (mode .width) edition (now (rule .entry))) (now (plan .entry)) ⌝ }
 {
-    let given = check_given(rule, edition, mode.width);
-    if let Check::Fail(cause, spot) = given {
-        return PlanAnswer::Refused(cause, spot);
-    }
-    plan_given(table, near, rule, edition, plan, mode)
+    let mut ranked = [0u64; WIDE_RECORD];
+    let words = record_words(mode.width);
+    let found = check_for_insert(table, rule, edition, &mut ranked[0..words], mode);
+    plan_checked(table, near, &ranked[0..words], found, plan, mode)
 }
 
 // The plan of an insert at a width that there is, its rule lent as a record.

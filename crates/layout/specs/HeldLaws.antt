@@ -67,14 +67,17 @@ module _ {S : Type 0} {empty : S} {occupied : S → Bool} {same misordered : S �
       pick (yes e) = rw e
       pick (no n) = absurd (true≢false (sym s ∙ u i k a b n))
 
-  -- emptying a slot keeps each id where it is
-  pub unique-emptied : (t : List S) (j : ℕ) → j < length t → Unique empty same t → Unique empty same (emptied empty t j)
-  unique-emptied t j h u i k a b d =
-      let n : length (set t j empty) ≡ length t = length-set t j empty in
-      pairs-written empty t j empty h (λ x y a b. same a b ≡ false)
-      (λ x l q. same-vacant (getD t x empty) empty (laws .vacant))
-      (λ x l q. same-turned (getD t x empty) empty (same-vacant (getD t x empty) empty (laws .vacant)))
+  -- a write of an entry whose id stands in no slot keeps each id where it is
+  pub unique-written : (t : List S) (j : ℕ) (e : S) → j < length t → NewId empty same t e → Unique empty same t → Unique empty same (set t j e)
+  unique-written t j e h new u i k a b d =
+      let n : length (set t j e) ≡ length t = length-set t j e in
+      pairs-written empty t j e h (λ x y a b. same a b ≡ false)
+      (λ x l q. new x l) (λ x l q. same-turned (getD t x empty) e (new x l))
       (λ x y l r p q f. u x y l r f) i k (omega arith) (omega arith) d
+
+  -- so does emptying a slot
+  pub unique-emptied : (t : List S) (j : ℕ) → j < length t → Unique empty same t → Unique empty same (emptied empty t j)
+  unique-emptied t j h u = unique-written t j empty h (λ k b. same-vacant (getD t k empty) empty (laws .vacant)) u
 
   -- a write keeps a layout coherent if its entry is equal to each entry of its id
   pub coherent-written : (t : List S) (j : ℕ) (e : S) → j < length t → Coherent empty same t
@@ -151,30 +154,40 @@ module _ {S : Type 0} {empty : S} {occupied : S → Bool} {same misordered : S �
       let r = held-written t j e c h v x in
       (λ w. ⊎-elim (λ y. inl y) (λ y. inr (y .1)) (r .0 w), λ w. r .1 (⊎-elim (λ y. inl y) (λ y. inr (o, y)) w))
 
+  -- a write to an id's only slot takes the entry there away, adds its own, if that is occupied, and nothing else
+  pub held-replaced : (t : List S) (j : ℕ) (e : S) → j < length t
+      → ((k : ℕ) → k < length t → k ≢ j → same (getD t k empty) (getD t j empty) ≡ false)
+      → (x : S) → Held empty occupied (set t j e) x
+      ↔ ((Held empty occupied t x × (same x (getD t j empty) ≡ false)) ⊎ ((occupied e ≡ true) × (e ≡ x)))
+  held-replaced t j e h only x = (λ w. forth (w .0) (w .1 .0) (w .1 .1) (w .1 .2) (ℕ-discrete (w .1 .0) j), back)
+    where
+      n : length (set t j e) ≡ length t
+      n = length-set t j e
+
+      forth : occupied x ≡ true → (i : ℕ) → i < length (set t j e) → getD (set t j e) i empty ≡ x → Dec (i ≡ j)
+          → (Held empty occupied t x × (same x (getD t j empty) ≡ false)) ⊎ ((occupied e ≡ true) × (e ≡ x))
+      forth o i b q (yes d) =
+          let w : e ≡ x = sym (getD-set-same t j e empty h) ∙ (ap (λ (i : ℕ). getD (set t j e) i empty) (sym d) ∙ q) in
+          inr (ap occupied w ∙ o, w)
+      forth o i b q (no d) =
+          let w : getD t i empty ≡ x = sym (getD-set-other t j i e empty d) ∙ q in
+          inl ((o, (i, omega (arith, n), w)), rw w at (only i (omega (arith, n)) d))
+
+      kept : occupied x ≡ true → (i : ℕ) → i < length t → getD t i empty ≡ x → same x (getD t j empty) ≡ false → Dec (i ≡ j)
+          → Held empty occupied (set t j e) x
+      kept o i b q s (yes d) =
+          let w : getD t j empty ≡ x = ap (λ (i : ℕ). getD t i empty) (sym d) ∙ q in
+          absurd (true≢false (sym (laws .same-self x o) ∙ (ap (same x) (sym w) ∙ s)))
+      kept o i b q s (no d) = (o, (i, omega (arith, n), getD-set-other t j i e empty d ∙ q))
+
+      back : (Held empty occupied t x × (same x (getD t j empty) ≡ false)) ⊎ ((occupied e ≡ true) × (e ≡ x)) → Held empty occupied (set t j e) x
+      back (inl w) = kept (w .0 .0) (w .0 .1 .0) (w .0 .1 .1) (w .0 .1 .2) (w .1) (ℕ-discrete (w .0 .1 .0) j)
+      back (inr (o, q)) = (ap occupied (sym q) ∙ o, (j, omega (arith, n), getD-set-same t j e empty h ∙ q))
+
   -- the emptying of an id's only slot takes its entry away, and nothing else
   pub held-removed : (t : List S) (j : ℕ) → j < length t
       → ((k : ℕ) → k < length t → k ≢ j → same (getD t k empty) (getD t j empty) ≡ false)
       → (x : S) → Held empty occupied (emptied empty t j) x ↔ (Held empty occupied t x × (same x (getD t j empty) ≡ false))
-  held-removed t j h only x = (
-    λ w. forth (w .0) (w .1 .0) (w .1 .1) (w .1 .2) (ℕ-discrete (w .1 .0) j),
-    λ w. back (w .0 .0) (w .0 .1 .0) (w .0 .1 .1) (w .0 .1 .2) (w .1) (ℕ-discrete (w .0 .1 .0) j),
-  )
-    where
-      n : length (set t j empty) ≡ length t
-      n = length-set t j empty
-
-      forth : occupied x ≡ true → (i : ℕ) → i < length (set t j empty) → getD (set t j empty) i empty ≡ x → Dec (i ≡ j)
-          → Held empty occupied t x × (same x (getD t j empty) ≡ false)
-      forth o i b q (yes d) =
-          let gone : x ≡ empty = sym q ∙ (ap (λ (i : ℕ). getD (set t j empty) i empty) d ∙ getD-set-same t j empty empty h) in
-          absurd (true≢false (sym o ∙ (ap occupied gone ∙ laws .vacant)))
-      forth o i b q (no d) =
-          let w : getD t i empty ≡ x = sym (getD-set-other t j i empty empty d) ∙ q in
-          ((o, (i, omega (arith, n), w)), rw w at (only i (omega (arith, n)) d))
-
-      back : occupied x ≡ true → (i : ℕ) → i < length t → getD t i empty ≡ x → same x (getD t j empty) ≡ false → Dec (i ≡ j)
-          → Held empty occupied (set t j empty) x
-      back o i b q s (yes d) =
-          let w : getD t j empty ≡ x = ap (λ (i : ℕ). getD t i empty) (sym d) ∙ q in
-          absurd (true≢false (sym (laws .same-self x o) ∙ (ap (same x) (sym w) ∙ s)))
-      back o i b q s (no d) = (o, (i, omega (arith, n), getD-set-other t j i empty empty d ∙ q))
+  held-removed t j h only x =
+      let r = held-replaced t j empty h only x in
+      (λ w. ⊎-elim (λ y. y) (λ y. absurd (true≢false (sym (y .0) ∙ laws .vacant))) (r .0 w), λ w. r .1 (inl w))

@@ -1,19 +1,24 @@
--- A new rule against a table: is its id known, does it tie, is there room, and its neighbours A and B. Checks 6 and 8 to 10 of document 01, and all checks of an insert in their order.
+-- A new rule against a table: is its id known, does it replace a rule, does it tie, is there room, and its neighbours A and B. Checks 6 and 8 to 10 of
+-- document 01, and all checks of an insert in their order.
 -- The new rule is given by its record's words, new.
-use mathlib.Core.Bool.{cond}
+use mathlib.Core.Path.{_≡_}
+use mathlib.Core.Bool.{Bool, true, false, cond}
 use mathlib.Core.List.{List}
+use Prim.{Unit}
 use Prim.Native.Nat.{ℕ, suc, _-_}
 use lib.Dec.{ltb}
 use Rattle.search.specs.Search.{any, least, afterLast}
 use Rattle.ternary.specs.Pattern.{Words}
-use Rattle.records.specs.Record.{slotWords, empty, recordOf}
-use Rattle.records.specs.Order.{slots, sameId, tied, precedes}
+use Rattle.records.specs.Record.{slotWords, empty, ident, recordOf}
+use Rattle.records.specs.Order.{slots, sameId, tied, precedes, equalRule}
 use Rattle.records.specs.Checks.{lowest, orElse, tableChecks}
 use Rattle.records.specs.Editions.{Given, ranked, checkGiven}
 use Rattle.records.specs.declared.Rule.{Rule}
 use Rattle.records.specs.declared.Cause.the-variants.{Known, Tie, Full, Crossed}
 use Rattle.records.specs.declared.Check.{Check}
 use Rattle.records.specs.declared.Check.the-variants.{Pass, Fail}
+use Rattle.neighbours.specs.declared.NewRule.{NewRule}
+use Rattle.neighbours.specs.declared.NewRule.the-variants.{Adds, Replaces, Declined}
 
 -- 6: the id is present, in the slot named
 unfoldable pub checkKnown : ℕ → List ℕ → Words → Check
@@ -42,14 +47,45 @@ crossedBy after dependant = cond (ltb (suc dependant) after) (Fail Crossed (afte
 unfoldable pub checkCrossed : ℕ → List ℕ → Words → Check
 checkCrossed w t new = crossedBy (afterA w t new) (slotB w t new)
 
--- checks 6 and 8 to 10, in number order
+-- document 02, 2026-03: the slot of the rule that the new one replaces, the lowest with one of the same value, mask and rank (the number of slots if
+-- none); whether there is one; and the id of that rule
+unfoldable pub replacedSlot : ℕ → List ℕ → Words → ℕ
+replacedSlot w t new = least (λ (i : ℕ). equalRule w (slotWords w t i) new) (slots w t) 0
+
+unfoldable pub replaces : ℕ → List ℕ → Words → Bool
+replaces w t new = ltb (replacedSlot w t new) (slots w t)
+
+abbrev pub replacedId : ℕ → List ℕ → Words → ℕ
+replacedId w t new = ident w (slotWords w t (replacedSlot w t new))
+
+-- what a rule with its rank is checked for in a table: 6; then nothing more if it replaces a rule, else 8 and 9
 unfoldable pub newChecks : ℕ → List ℕ → Words → Check
-newChecks w t new = orElse (checkKnown w t new) (orElse (checkTie w t new) (orElse (checkFull w t) (checkCrossed w t new)))
+newChecks w t new = orElse (checkKnown w t new) (cond (replaces w t new) Pass (orElse (checkTie w t new) (checkFull w t)))
+
+-- what planning adds to that: 10, unless it replaces a rule; 11 is its buffer's
+unfoldable pub placeChecks : ℕ → List ℕ → Words → Check
+placeChecks w t new = cond (replaces w t new) Pass (checkCrossed w t new)
 
 -- the record of a rule, as a table of one slot
 abbrev pub ruleWords : ℕ → Rule → Words
 ruleWords w rule = slotWords w (recordOf w rule) 0
 
--- checks 1 to 10 of an insert, 18 after 5: 7 does not apply. From 6 on the rule has its rank
+-- all that a rule is checked for as it is given: 5, 18, and those; from 6 on the rule has its rank
+unfoldable pub ruleChecks : ℕ → List ℕ → Given → Check
+ruleChecks w t given = orElse (checkGiven w given) (newChecks w t (ruleWords w (ranked w given)))
+
+-- checks 1 to 10 of an insert, and 18 after 5: 7 does not apply
 unfoldable pub insertChecks : ℕ → List ℕ → Given → Check
-insertChecks w t given = orElse (tableChecks w t) (orElse (checkGiven w given) (newChecks w t (ruleWords w (ranked w given))))
+insertChecks w t given = orElse (tableChecks w t) (orElse (ruleChecks w t given) (placeChecks w t (ruleWords w (ranked w given))))
+
+-- what the code tells of a new rule: the check that it comes to, ..
+abbrev pub foundCheck : NewRule → Check
+foundCheck Adds = Pass
+foundCheck (Replaces slot) = Pass
+foundCheck (Declined cause spot) = Fail cause spot
+
+-- .. and which rule it replaces
+abbrev pub FoundIn : ℕ → List ℕ → Words → NewRule → Type 0
+FoundIn w t new Adds = replaces w t new ≡ false
+FoundIn w t new (Replaces slot) = (slot ≡ replacedSlot w t new) × (replaces w t new ≡ true)
+FoundIn w t new (Declined cause spot) = Unit {0}

@@ -1,19 +1,23 @@
 -- Laws on a new rule's checks and neighbours: the searches of the code, and how each check ends.
-use mathlib.Core.Path.{_≡_, refl}
-use mathlib.Core.Bool.{true, false}
+use mathlib.Core.Path.{_≡_, refl, sym, _∙_}
+use mathlib.Core.Bool.{Bool, true, false, cond, true≢false}
 use mathlib.Core.List.{List}
 use Prim.Native.Nat.{ℕ, suc, _+_, _-_, _≤_, _<_}
 use native.Mathlib.Omega.{arith}
-use borrow.Author.Tests.{lt-ltb, le-ltb}
-use Rattle.search.specs.SearchLaws.{any-some, any-none, least-law, after-last-law}
+use borrow.Author.Tests.{lt-ltb, le-ltb, ltb-true, ltb-false}
+use Rattle.search.specs.Search.{least}
+use Rattle.search.specs.SearchLaws.{any-some, any-none, least-law, least-none, after-last-law}
 use Rattle.ternary.specs.Pattern.{Words}
-use Rattle.records.specs.Record.{slotWords, empty}
-use Rattle.records.specs.Order.{slots, precedes}
+use Rattle.records.specs.Record.{slotWords, empty, ident}
+use Rattle.records.specs.Order.{slots, sameId, tied, precedes, equalRule, EqualRules}
+use Rattle.records.specs.Laws.{or-else-pass, lowest-pass, same-id-law}
+use Rattle.records.specs.EntriesLaws.{refuted}
+use Rattle.records.specs.EqualLaws.{equal-law, equal-tied}
 use Rattle.records.specs.Checks.{orElse}
-use Rattle.records.specs.declared.Cause.the-variants.{Full, Crossed}
+use Rattle.records.specs.declared.Cause.the-variants.{Known, Tie, Full, Crossed}
 use Rattle.records.specs.declared.Check.{Check}
 use Rattle.records.specs.declared.Check.the-variants.{Pass, Fail}
-use Rattle.neighbours.specs.Neighbours.{checkKnown, checkTie, checkFull, afterA, slotB, crossedBy, checkCrossed, newChecks}
+use Rattle.neighbours.specs.Neighbours.{checkKnown, checkTie, checkFull, afterA, slotB, crossedBy, replacedSlot, replaces, newChecks}
 
 -- a loop over the slots ends in one of two ways
 pub room-at : (w : ℕ) (t : List ℕ) (i : ℕ) → i < slots w t → empty w (slotWords w t i) ≡ true → Pass ≡ checkFull w t
@@ -40,13 +44,61 @@ crossed-yes a b h = rw (lt-ltb (suc b) a (omega arith))
 pub crossed-no : (a b : ℕ) → a ≤ b + 1 → Pass ≡ crossedBy a b
 crossed-no a b h = rw (le-ltb (suc b) a (omega arith))
 
--- checks 6 and 8 to 10, as the code makes them: 10 once A and B are found
-pub new-row : (w : ℕ) (t : List ℕ) (new : Words)
-    → newChecks w t new ≡ orElse (orElse (checkKnown w t new) (orElse (checkTie w t new) (checkFull w t))) (checkCrossed w t new)
+-- the searches for the rule that is replaced, as the code makes them: of 8 and 9 nothing is left where there is one
+pub new-passed : (w : ℕ) (t : List ℕ) (new : Words) {x : Check} → x ≡ orElse (checkTie w t new) (checkFull w t) → x ≡ Pass
+    → checkKnown w t new ≡ Pass → Pass ≡ newChecks w t new
 unfolding newChecks
-new-row w t new = four (checkKnown w t new) (checkTie w t new) (checkFull w t) (checkCrossed w t new)
+new-passed w t new e f g = rw g (pick (replaces w t new))
   where
-    four : (a b c d : Check) → orElse a (orElse b (orElse c d)) ≡ orElse (orElse a (orElse b c)) d
-    four Pass Pass c d = refl
-    four Pass (Fail cause spot) c d = refl
-    four (Fail cause spot) b c d = refl
+    pick : (b : Bool) → Pass ≡ cond b Pass (orElse (checkTie w t new) (checkFull w t))
+    pick true = refl
+    pick false = sym f ∙ e
+
+pub new-replaces : (w : ℕ) (t : List ℕ) (new : Words) → replacedSlot w t new < slots w t → checkKnown w t new ≡ Pass
+    → (Pass ≡ newChecks w t new) × (replaces w t new ≡ true)
+unfolding newChecks replaces
+new-replaces w t new h g = let one = lt-ltb (replacedSlot w t new) (slots w t) h in (rw (g, one), one)
+
+pub new-declined : (w : ℕ) (t : List ℕ) (new : Words) → slots w t ≤ replacedSlot w t new → checkKnown w t new ≡ Pass
+    → orElse (checkTie w t new) (checkFull w t) ≡ newChecks w t new
+unfolding newChecks replaces
+new-declined w t new h g = rw (g, le-ltb (replacedSlot w t new) (slots w t) h)
+
+-- what it means that a rule is replaced, and that none is
+pub replaced-equal : (w : ℕ) (t : List ℕ) (new : Words) → replaces w t new ≡ true
+    → (replacedSlot w t new < slots w t) × EqualRules w (slotWords w t (replacedSlot w t new)) new
+unfolding replaces replacedSlot
+replaced-equal w t new e =
+    let p : ℕ → Bool = λ i. equalRule w (slotWords w t i) new in
+    let inside = ltb-true (least p (slots w t) 0) (slots w t) e in
+    (inside, equal-law w (slotWords w t (least p (slots w t) 0)) new .0 (least-law p (slots w t) 0 .hit (omega (arith, inside))))
+
+pub replaced-none : (w : ℕ) (t : List ℕ) (new : Words) → replaces w t new ≡ false → (i : ℕ) → i < slots w t → EqualRules w (slotWords w t i) new → ⊥
+unfolding replaces replacedSlot
+replaced-none w t new e i h equal =
+    let p : ℕ → Bool = λ i. equalRule w (slotWords w t i) new in
+    let none = least-law p (slots w t) 0 .before i (omega arith) (omega (arith, h, ltb-false (least p (slots w t) 0) (slots w t) e)) in
+    true≢false (sym (equal-law w (slotWords w t i) new .1 equal) ∙ none)
+
+-- no rule is replaced where none is equal, ..
+pub none-replaced : (w : ℕ) (t : List ℕ) (new : Words) → ((i : ℕ) → i < slots w t → EqualRules w (slotWords w t i) new → ⊥) → replaces w t new ≡ false
+unfolding replaces replacedSlot
+none-replaced w t new none =
+    let at = least-none (λ (i : ℕ). equalRule w (slotWords w t i) new) (slots w t) (λ i h. refuted (λ e. none i h (equal-law w (slotWords w t i) new .0 e))) in
+    rw (at, le-ltb (slots w t) (slots w t) (omega arith))
+
+-- .. as where the new rule's id is unknown and it ties with none: 6 and 8 pass
+pub untied-none : (w : ℕ) (t : List ℕ) (new : Words) → ((i : ℕ) → i < slots w t → sameId w (slotWords w t i) new ≡ false)
+    → ((i : ℕ) → i < slots w t → tied w (slotWords w t i) new ≡ false) → replaces w t new ≡ false
+untied-none w t new unknown untied =
+    none-replaced w t new (λ i h equal.
+    let apart : ident w (slotWords w t i) ≡ ident w new → ⊥ =
+    λ f. true≢false (sym (same-id-law w (slotWords w t i) new .1 (equal .first, equal .second, f)) ∙ unknown i h) in
+    true≢false (sym (equal-tied w (slotWords w t i) new equal apart) ∙ untied i h))
+
+pub new-adds : (w : ℕ) (t : List ℕ) (new : Words) {x : Check} → x ≡ orElse (checkTie w t new) (checkFull w t) → x ≡ Pass → checkKnown w t new ≡ Pass
+    → replaces w t new ≡ false
+unfolding checkKnown checkTie
+new-adds w t new e f g =
+    untied-none w t new (lowest-pass Known (λ (i : ℕ). sameId w (slotWords w t i) new) (slots w t) .0 g)
+    (lowest-pass Tie (λ (i : ℕ). tied w (slotWords w t i) new) (slots w t) .0 (or-else-pass (checkTie w t new) (checkFull w t) .0 (sym e ∙ f) .0))

@@ -1,5 +1,7 @@
-// A new rule against a table: known id, tie, room, and its neighbours A and B. Checks 6 and 8 to 10 of an insert.
+// A new rule against a table: known id, the rule that it replaces, tie, room, and its neighbours A and B. Checks 5, 18, 6 and 8 to 10 of an insert.
 // The new rule is lent as a table of one slot that holds its record.
+use crate::NewRule;
+use pairs::equal_pair;
 use pairs::precedes_pair;
 use pairs::same_id;
 use pairs::tied_pair;
@@ -8,6 +10,8 @@ use records::Check;
 use records::Mode;
 use records::NARROW;
 use records::WIDE;
+use slots::given::check_given;
+use slots::given::rank_record;
 use slots::slot_count;
 use slots::slot_empty;
 ghost use mathlib.Core.Path.{_≡_};
@@ -15,9 +19,10 @@ ghost use Prim.Native.Nat.{_≤_};
 ghost use lib.ListN.{length};
 ghost use Rattle.records.specs.Record.{mostSlots, recordWords, slotWords};
 ghost use Rattle.records.specs.Order.{slots};
-ghost use Rattle.records.specs.Widths.{Width};
+ghost use Rattle.records.specs.Widths.{Width, leaves};
 ghost use Rattle.records.specs.Checks.{orElse};
-ghost use Rattle.neighbours.specs.Neighbours.{checkKnown, checkTie, checkFull, afterA, slotB, crossedBy};
+ghost use Rattle.records.specs.Editions.{lentRule, rankedRecord, checkGiven};
+ghost use Rattle.neighbours.specs.Neighbours.{checkKnown, checkTie, checkFull, afterA, slotB, crossedBy, replacedSlot, newChecks, ruleChecks, foundCheck, FoundIn};
 
 // Check 6: the id is not in the table.
 fn check_known_by(table: &[u64], new: &[u64], mode: Mode) -> Check
@@ -153,19 +158,84 @@ pub fn check_crossed(after: usize, dependant: usize) -> Check
     Check::Pass
 }
 
-// Checks 6, 8 and 9.
-pub fn check_new(table: &[u64], new: &[u64], mode: Mode) -> Check
-    requires { ⌜ (Width (mode .width)) × (slots (mode .width) (now table) ≤ mostSlots) × (length (now new) ≡ recordWords (mode .width)) ⌝ }
-    ensures { λ r. ⌜ r ≡ orElse (checkKnown (mode .width) (now (table .entry)) (slotWords (mode .width) (now (new .entry)) 0))
-        (orElse (checkTie (mode .width) (now (table .entry)) (slotWords (mode .width) (now (new .entry)) 0)) (checkFull (mode .width) (now (table .entry)))) ⌝ }
+// The lowest slot with a rule of the new one's value, mask and rank, or the number of slots.
+fn replaced_slot_by(table: &[u64], new: &[u64], mode: Mode) -> usize
+    requires { ⌜ (Width (mode .width)) × (length (now new) ≡ recordWords (mode .width)) ⌝ }
+    ensures { λ r. ⌜ r ≡ replacedSlot (mode .width) (now (table .entry)) (slotWords (mode .width) (now (new .entry)) 0) ⌝ }
 {
-    let known = check_known(table, new, mode);
-    if let Check::Fail(cause, spot) = known {
-        return Check::Fail(cause, spot);
+    let slots = slot_count(table, mode.width);
+    let mut slot = 0;
+    while slot < slots {
+        if equal_pair(table, slot, new, 0, mode.width) {
+            return slot;
+        }
+        slot += 1;
     }
+    slots
+}
+
+// The same, with the width a constant for the compiler: it makes a copy for each.
+fn replaced_slot(table: &[u64], new: &[u64], mode: Mode) -> usize
+    requires { ⌜ (Width (mode .width)) × (length (now new) ≡ recordWords (mode .width)) ⌝ }
+    ensures { λ r. ⌜ r ≡ replacedSlot (mode .width) (now (table .entry)) (slotWords (mode .width) (now (new .entry)) 0) ⌝ }
+{
+    if mode.width == NARROW {
+        return replaced_slot_by(table, new, Mode { width: NARROW });
+    }
+    replaced_slot_by(table, new, Mode { width: WIDE })
+}
+
+// Checks 8 and 9, as for a rule that replaces none.
+fn check_tie_full(table: &[u64], new: &[u64], mode: Mode) -> Check
+    requires { ⌜ (Width (mode .width)) × (slots (mode .width) (now table) ≤ mostSlots) × (length (now new) ≡ recordWords (mode .width)) ⌝ }
+    ensures { λ r. ⌜ r ≡ orElse (checkTie (mode .width) (now (table .entry)) (slotWords (mode .width) (now (new .entry)) 0)) (checkFull (mode .width) (now (table .entry))) ⌝ }
+{
     let tie = check_tie(table, new, mode);
     if let Check::Fail(cause, spot) = tie {
         return Check::Fail(cause, spot);
     }
     check_full(table, mode)
+}
+
+// Check 6; then none for a rule that replaces another, else 8 and 9. A rule that replaces one ties with it, so that it is looked for only where 8 or 9
+// would decline.
+pub fn check_new(table: &[u64], new: &[u64], mode: Mode) -> NewRule
+    requires { ⌜ (Width (mode .width)) × (slots (mode .width) (now table) ≤ mostSlots) × (length (now new) ≡ recordWords (mode .width)) ⌝ }
+    ensures { λ r. ⌜ foundCheck r ≡ newChecks (mode .width) (now (table .entry)) (slotWords (mode .width) (now (new .entry)) 0) ⌝ }
+    ensures { λ r. ⌜ FoundIn (mode .width) (now (table .entry)) (slotWords (mode .width) (now (new .entry)) 0) r ⌝ }
+{
+    let known = check_known(table, new, mode);
+    if let Check::Fail(cause, spot) = known {
+        return NewRule::Declined(cause, spot);
+    }
+    let room = check_tie_full(table, new, mode);
+    if let Check::Fail(cause, spot) = room {
+        let slot = replaced_slot(table, new, mode);
+        if slot < slot_count(table, mode.width) {
+            return NewRule::Replaces(slot as u32);
+        }
+        return NewRule::Declined(cause, spot);
+    }
+    NewRule::Adds
+}
+
+// All that a rule is checked for as it is given: 5, 18, and those. Where 5 and 18 pass, its record with its rank is left in a lent record.
+pub fn check_for_insert(
+    table: &[u64],
+    rule: &[u64],
+    edition: u32,
+    new: &mut [u64],
+    mode: Mode,
+) -> NewRule
+    requires { ⌜ (Width (mode .width)) × (slots (mode .width) (now table) ≤ mostSlots) × (length (now rule) ≡ recordWords (mode .width)) × (length (now new) ≡ recordWords (mode .width)) ⌝ }
+    ensures { λ r. ⌜ foundCheck r ≡ ruleChecks (mode .width) (now (table .entry)) (lentRule (mode .width) edition (now (rule .entry))) ⌝ }
+    ensures { λ _. ⌜ now (new .exit) ≡ leaves (checkGiven (mode .width) (lentRule (mode .width) edition (now (rule .entry)))) (rankedRecord (mode .width) edition (now (rule .entry))) (now (new .entry)) ⌝ }
+    ensures { λ r. ⌜ FoundIn (mode .width) (now (table .entry)) (slotWords (mode .width) (now (new .exit)) 0) r ⌝ }
+{
+    let given = check_given(rule, edition, mode.width);
+    if let Check::Fail(cause, spot) = given {
+        return NewRule::Declined(cause, spot);
+    }
+    rank_record(rule, edition, new, mode.width);
+    check_new(table, new, mode)
 }

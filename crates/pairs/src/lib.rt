@@ -1,4 +1,4 @@
-// Two slots side by side: overlap, one id in both, tied, one before the other. Each slot is read in its own table.
+// Two slots side by side: overlap, one id in both, tied, equal, one before the other. Each slot is read in its own table.
 // A slot of one table and a slot of another, or of the same; a rule to be inserted is a table of one slot.
 use records::Mode;
 use records::NARROW;
@@ -8,6 +8,7 @@ use slots::slot_empty;
 use slots::slot_id;
 use slots::slot_rank;
 use slots::slot_vacant;
+use slots::slot_word;
 use slots::value_word;
 ghost use mathlib.Core.Path.{_≡_};
 ghost use mathlib.Core.Bool.{_&&_};
@@ -16,7 +17,7 @@ ghost use Rattle.records.specs.Record.{slotWords, occupied};
 ghost use Rattle.records.specs.Checks.{checkRecords};
 ghost use Rattle.records.specs.Widths.{Width};
 ghost use Rattle.records.specs.declared.Check.the-variants.{Pass};
-ghost use Rattle.records.specs.Order.{slots, sameId, distinct, tied, precedes, overlapAt, overlapping};
+ghost use Rattle.records.specs.Order.{slots, sameId, distinct, tied, precedes, overlapAt, overlapping, samePattern, equalRule};
 
 // Whether two slots' patterns do not differ in one word at bits that both care for.
 fn word_overlaps(
@@ -150,6 +151,35 @@ pub fn tied_pair(table: &[u64], slot: usize, others: &[u64], other: usize, mode:
     let width = mode.width;
     if slot_rank(table, slot, width) == slot_rank(others, other, width) {
         return overlapping_rules(table, slot, others, other, width);
+    }
+    false
+}
+
+// Whether two slots have the same value and mask, the first words of their records.
+pub fn same_pattern(table: &[u64], slot: usize, others: &[u64], other: usize, width: usize) -> bool
+    requires { ⌜ (Width width) × (slot < slots width (now table)) × (other < slots width (now others)) ⌝ }
+    ensures { λ r. ⌜ r ≡ samePattern width (slotWords width (now (table .entry)) slot) (slotWords width (now (others .entry)) other) ⌝ }
+{
+    let mut place = 0;
+    while place < 2 * width {
+        if slot_word(table, slot, place, width) != slot_word(others, other, place, width) {
+            return false;
+        }
+        place += 1;
+    }
+    true
+}
+
+// Whether two rules have the same value, mask and rank. Ranks first: they tell most pairs apart.
+pub fn equal_pair(table: &[u64], slot: usize, others: &[u64], other: usize, width: usize) -> bool
+    requires { ⌜ (Width width) × (slot < slots width (now table)) × (other < slots width (now others)) ⌝ }
+    ensures { λ r. ⌜ r ≡ equalRule width (slotWords width (now (table .entry)) slot) (slotWords width (now (others .entry)) other) ⌝ }
+{
+    if slot_rank(table, slot, width) != slot_rank(others, other, width) {
+        return false;
+    }
+    if same_pattern(table, slot, others, other, width) {
+        return both_occupied(table, slot, others, other, width);
     }
     false
 }

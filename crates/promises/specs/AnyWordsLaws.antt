@@ -1,5 +1,6 @@
 -- End theorems: matching, order, least count, demand 2 and the round trip for any number of words, and each at two words and at five.
-use mathlib.Core.Path.{refl}
+use mathlib.Core.Path.{refl, sym, ap}
+use mathlib.Core.List.{List}
 use Prim.Native.Nat.{ℕ}
 use Rattle.ternary.specs.PatternLaws.{overlaps-law}
 use Rattle.records.specs.Record.{value, mask}
@@ -7,12 +8,17 @@ use Rattle.records.specs.Checks.{comparedAt}
 use Rattle.records.specs.Laws.{order-law}
 use Rattle.records.specs.Widths.{Width}
 use Rattle.records.specs.WidthsLaws.{two, five}
+use Rattle.records.specs.Editions.{ranked}
+use Rattle.records.specs.declared.Rule.{Rule}
+use Rattle.insert_plans.specs.ReplacementsLaws.{replacement-planned}
+use Rattle.histories.specs.InsertedLaws.{inserted-replaced}
 use Rattle.histories.specs.HistoriesLaws.{reached-lookup}
 use Rattle.histories.specs.Demand2Laws.{demand-2-insert, demand-2-delete}
 use Rattle.image.specs.RoundTripLaws.{width-numbered, saved-loads}
 use Rattle.promises.specs.AnyWords.{AnyWords, AtWidth}
 use Rattle.promises.specs.KeysOfSlotLaws.{compares}
 use Rattle.promises.specs.EditionsLaws.{editions}
+use Rattle.promises.specs.ReplacementsLaws.{replacements}
 use Rattle.promises.specs.SecondDemandLaws.{second-demand}
 use Rattle.promises.specs.ThirdDemandLaws.{least-words, third-demand}
 
@@ -23,6 +29,10 @@ any-words w = record {
   overlap = λ a b. overlaps-law w (value a) (mask w a) (value b) (mask w b);
   order = order-law w;
   least = least-words w;
+  replaces = λ t given s r. (
+    replacement-planned w t given s r,
+    λ rules. sym (ap (λ (change : List Rule → List Rule). change rules) (inserted-replaced w t (ranked w given) s (r .replacing))),
+  );
   answered = λ history t reached key. reached-lookup reached key;
   inserts = demand-2-insert w;
   deletes = demand-2-delete w;
@@ -31,7 +41,7 @@ any-words w = record {
 
 -- and cited for both
 at-width : (w : ℕ) → Width w → AtWidth w
-at-width w known = record { words = any-words w; offsets = width-numbered known; second = second-demand w known; third = third-demand w known; editions = editions w known }
+at-width w known = record { words = any-words w; offsets = width-numbered known; second = second-demand w known; third = third-demand w known; editions = editions w known; replacements = replacements w known }
 
 pub at-two-words : AtWidth 2
 at-two-words = at-width 2 two

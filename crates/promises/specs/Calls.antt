@@ -6,7 +6,8 @@ use Prim.Native.Nat.{ℕ, _≤_, _*_}
 use lib.ListN.{length, take, replicate}
 use Rattle.records.specs.Record.{recordWords}
 use Rattle.records.specs.Editions.{lentRule, ranked}
-use Rattle.histories.specs.RuleSet.{Change, insert, delete}
+use Rattle.histories.specs.RuleSet.{Change, delete}
+use Rattle.histories.specs.Inserted.{insertChanges}
 use Rattle.tcam.specs.declared.carry.Progress.{Progress}
 use Rattle.tcam.specs.Carried.{CarryLeft}
 use Rattle.tcam.specs.Cells.{InsertLeft, DeleteLeft}
@@ -33,12 +34,13 @@ CarriedOut w e t plan rule count after = (progress : Progress) × Carrying w e t
 
 -- The tables that a caller comes to, with the changes made, the latest first: from 1 to 1,024 empty slots, by inserts and deletes that the planning
 -- calls accepted and that were carried out in full. Each insert names an edition of its own, and is carried out with the edition that it was planned with; a
--- delete with any record of as many words, and any edition. An insert counts with the rank that its edition gives it.
+-- delete with any record of as many words, and any edition. An insert counts with the rank that its edition gives it, and the rule that it replaces counts as
+-- deleted.
 pub data CameTo (w : ℕ) : List Change → List ℕ → Type 0 where
   started : (n : ℕ) → 1 ≤ n → n ≤ 1024 → CameTo w [] (replicate (n * recordWords w) 0)
   inserted : (history : List Change) (t : List ℕ) → CameTo w history t → (e : ℕ) (rule : List ℕ)
       → (plan after : List ℕ) (count count′ spot spot′ : ℕ) → InsertLeft w e t rule 0 plan after count count′ spot spot′
-      → (u : List ℕ) → CarriedOut w e t after rule count′ u → CameTo w (insert (ranked w (lentRule w e rule)) ∷ history) u
+      → (u : List ℕ) → CarriedOut w e t after rule count′ u → CameTo w (insertChanges w t (ranked w (lentRule w e rule)) history) u
   deleted : (history : List Change) (t : List ℕ) → CameTo w history t → (id : ℕ)
       → (plan after : List ℕ) (count count′ spot spot′ : ℕ) → DeleteLeft w t id 0 plan after count count′ spot spot′
       → (e : ℕ) (rule : List ℕ) → length rule ≡ recordWords w → (u : List ℕ) → CarriedOut w e t after rule count′ u → CameTo w (delete id ∷ history) u

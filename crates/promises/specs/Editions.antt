@@ -9,9 +9,9 @@ use lib.ListN.{length}
 use Rattle.ternary.specs.Pattern.{Words, FullMask}
 use Rattle.records.specs.Record.{word, recordWords, slotWords, mask, ident, rank, recordOf}
 use Rattle.records.specs.Sound.{SoundRecord, SoundRule}
-use Rattle.records.specs.Order.{slots}
+use Rattle.records.specs.Order.{slots, EqualRules}
 use Rattle.records.specs.Entries.{entryAt}
-use Rattle.records.specs.Editions.{Given, ranked}
+use Rattle.records.specs.Editions.{Given, lentRule, ranked}
 use Rattle.records.specs.declared.Rule.{Rule}
 use Rattle.refusals.specs.Rows.{Accepts}
 use Rattle.refusals.specs.Calls.{tableRows}
@@ -28,11 +28,13 @@ pub record Editions (w : ℕ) : Type 0 where
   pub sound : (given : Given) → given .rule .action < 4294967296 → SoundRule w (given .rule) → SoundRecord w (word (recordOf w (ranked w given)))
   -- under 1.0 a rule without wildcards stands above every record that has them, whatever the priorities and whichever edition that came with
   pub above : (exact : Rule) (x : Words) → FullMask w (word (exact .mask)) → SoundRecord w x → (FullMask w (mask w x) → ⊥) → rank w x < rank10 w exact
-  -- each rule that stood before an insert, of whatever edition, stands after it with the record that it had, its rank too; so does each rule of another id
-  -- that stood before a delete
+  -- each rule that stood before an insert, of whatever edition, and is not the one that it replaces (2026-03), stands after it with the record that it had, its
+  -- rank too; so does each rule of another id that stood before a delete
   pub kept : (t : List ℕ) → Accepts (tableRows w t) → (e : ℕ) (rule plan after : List ℕ) (count count′ spot spot′ : ℕ)
       → InsertLeft w e t rule 0 plan after count count′ spot spot′ → (u : List ℕ) → CarriedOut w e t after rule count′ u
-      → (x : List ℕ) → Stands w t x → Stands w u x
+      → (x : List ℕ) → Stands w t x
+      → ((s : ℕ) → s < slots w t → EqualRules w (slotWords w t s) (word (recordOf w (ranked w (lentRule w e rule)))) → ident w (word x) ≡ ident w (slotWords w t s) → ⊥)
+      → Stands w u x
   pub left : (t : List ℕ) → Accepts (tableRows w t) → (id : ℕ) (plan after : List ℕ) (count count′ spot spot′ : ℕ)
       → DeleteLeft w t id 0 plan after count count′ spot spot′ → (e : ℕ) (rule : List ℕ) → length rule ≡ recordWords w
       → (u : List ℕ) → CarriedOut w e t after rule count′ u → (x : List ℕ) → Stands w t x → (ident w (word x) ≡ id → ⊥) → Stands w u x

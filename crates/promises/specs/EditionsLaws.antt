@@ -1,15 +1,18 @@
 -- End theorems: document 02, 2026-07, of the ranks that editions give, and of what the exported calls return and leave.
 use mathlib.Core.Path.{_≡_, refl, sym, ap, _∙_, subst}
-use mathlib.Core.Bool.{true≢false}
+use mathlib.Core.Bool.{true, false, true≢false}
 use mathlib.Core.Logic.{_⊎_, ⊎-elim}
 use mathlib.Core.Logic._⊎_.{inl, inr}
 use mathlib.Core.List.{List}
-use Prim.Native.Nat.{ℕ}
+use Prim.Native.Nat.{ℕ, _<_}
 use native.Mathlib.Omega.{arith}
 use lib.ListN.{length}
+use Rattle.search.specs.SearchLaws.{decided}
+use Rattle.ternary.specs.Pattern.{Words}
 use Rattle.layout.specs.Held.{Held}
 use Rattle.records.specs.Record.{word, recordWords, slotWords, ident, rank, recordOf}
 use Rattle.records.specs.Sound.{SoundRule}
+use Rattle.records.specs.Order.{slots, EqualRules}
 use Rattle.records.specs.Checks.{Shaped}
 use Rattle.records.specs.Laws.{sound-record-law, sound-rule-law}
 use Rattle.records.specs.RulesLaws.{length-listed, record-ident, record-sound}
@@ -20,6 +23,13 @@ use Rattle.records.specs.EditionsLaws.{ranked-action, rank-sound, exact-above, 
 use Rattle.records.specs.Entries.{vacant, entries, entryOccupied, entryAt}
 use Rattle.records.specs.EntriesLaws.{listed-same, rank-cong}
 use Rattle.records.specs.declared.Cause.the-variants.{Rule as RuleCause}
+use Rattle.records.specs.declared.Rule.{Rule}
+use Rattle.neighbours.specs.Neighbours.{replacedSlot, replaces, replacedId, ruleWords}
+use Rattle.neighbours.specs.NeighboursLaws.{replaced-equal}
+use Rattle.insert_plans.specs.InsertableLaws.{rule-words}
+use Rattle.histories.specs.RuleSet.{Member}
+use Rattle.histories.specs.Inserted.{rulesInserted}
+use Rattle.histories.specs.Holding.{Holding}
 use Rattle.histories.specs.RuleSetLaws.{without-law}
 use Rattle.histories.specs.TableRules.{tableRules}
 use Rattle.histories.specs.TableRulesLaws.{table-holding}
@@ -36,18 +46,39 @@ use Rattle.promises.specs.ThirdDemandLaws.{stands-law}
 use Rattle.promises.specs.Editions.{Editions}
 
 module _ (w : ℕ) (known : Width w) where
-  -- the old rules are held after an insert as they were before
+  -- the old rules but the one that is replaced are held after an insert as they were before
   rules-kept : (t : List ℕ) → Accepts (tableRows w t) → (e : ℕ) (rule plan after : List ℕ) (count count′ spot spot′ : ℕ)
       → InsertLeft w e t rule 0 plan after count count′ spot spot′ → (u : List ℕ) → CarriedOut w e t after rule count′ u
-      → (x : List ℕ) → Stands w t x → Stands w u x
-  rules-kept t sound e rule plan after count count′ spot spot′ left u full x stands =
+      → (x : List ℕ) → Stands w t x
+      → ((s : ℕ) → s < slots w t → EqualRules w (slotWords w t s) (word (recordOf w (ranked w (lentRule w e rule)))) → ident w (word x) ≡ ident w (slotWords w t s) → ⊥)
+      → Stands w u x
+  rules-kept t sound e rule plan after count count′ spot spot′ left u full x stands other =
       let planned = inserting w known e t rule plan after count count′ spot spot′ left in
       let d = planned .1 in
-      let before = table-holding w t (table-rows w t .passes .1 sound) in
-      let old = before .held x .0 (stands-law w t x .1 stands) in
       let there = carried-at w e t after rule known (planned .0) _ count′ _ d u full in
       stands-law w u x .0
-      (subst (λ (v : List ℕ). Held (vacant w) (entryOccupied w) (entries w v) x) (sym there) (d .holds (tableRules w t) before .held x .1 (old .0, inr (old .1), old .2)))
+      (subst (λ (v : List ℕ). Held (vacant w) (entryOccupied w) (entries w v) x) (sym there)
+      (d .holds (tableRules w t) before .held x .1 (old .0, member (decided (replaces w t own)), old .2)))
+    where
+      before : Holding w (tableRules w t) t
+      before = table-holding w t (table-rows w t .passes .1 sound)
+
+      old : (r : Rule) × Member r (tableRules w t) × (recordOf w r ≡ x)
+      old = before .held x .0 (stands-law w t x .1 stands)
+
+      new : Rule
+      new = ranked w (lentRule w e rule)
+
+      own : Words
+      own = ruleWords w new
+
+      member : (replaces w t own ≡ true) ⊎ (replaces w t own ≡ false) → Member (old .0) (rulesInserted w t new (tableRules w t))
+      member (inl e) =
+          let found = replaced-equal w t own e in
+          let equal = subst (EqualRules w (slotWords w t (replacedSlot w t own))) (rule-words w new) (found .1) in
+          let named = ap (λ (l : List ℕ). ident w (word l)) (sym (old .2)) ∙ record-ident w (old .0) (before .actions (old .0) (old .1)) in
+          rw e (inr (without-law (replacedId w t own) (tableRules w t) (old .0) .1 (old .1, λ f. other (replacedSlot w t own) (found .0) equal (named ∙ f))))
+      member (inr e) = rw e (inr (old .1))
 
   -- and those of another id after a delete
   others-kept : (t : List ℕ) → Accepts (tableRows w t) → (id : ℕ) (plan after : List ℕ) (count count′ spot spot′ : ℕ)

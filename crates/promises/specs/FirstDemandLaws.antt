@@ -27,7 +27,7 @@ use Rattle.image.specs.Format.{imageOf}
 use Rattle.image.specs.SaveLaws.{image-length}
 use Rattle.neighbours.specs.Neighbours.{insertChecks}
 use Rattle.delete_plans.specs.Deletes.{deleteChecks, deleteWords}
-use Rattle.insert_plans.specs.Inserts.{insertWords}
+use Rattle.insert_plans.specs.Inserts.{plannedWords}
 use Rattle.histories.specs.Histories.{emptyTable}
 use Rattle.marshalling.specs.Cells.{dataCell, spotCell}
 use Rattle.marshalling.specs.Carried.{carryResult}
@@ -377,7 +377,7 @@ first-demand = record {
       );
   insert = λ w e t rule result plan after count count′ spot spot′ left.
       let given = lentRule w e rule in
-      buffer-call _ (checkRule w (length rule)) (insertChecks w t given) (insertWords w t (ranked w given)) plan after _ result count count′ spot spot′ refl
+      buffer-call _ (checkRule w (length rule)) (insertChecks w t given) (plannedWords w t (ranked w given)) plan after _ result count count′ spot spot′ refl
       (insert-call-rows w e t rule (length plan)) (left .left);
   delete = λ w t id result plan after count count′ spot spot′ left.
       buffer-call _ (checkWidth w) (deleteChecks w t id) (deleteWords w t id) plan after _ result count count′ spot spot′ refl

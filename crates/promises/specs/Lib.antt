@@ -1,5 +1,5 @@
 -- Document 01's three demands, and document 02's requests where a theorem of their own states them. Calls: calls one after the other; FirstDemand,
--- SecondDemand, ThirdDemand, KeysOfSlot, Editions, AnyWords: the statements; their theorems are in the files of laws of the same names.
+-- SecondDemand, ThirdDemand, KeysOfSlot, Editions, Replacements, AnyWords: the statements; their theorems are in the files of laws of the same names.
 pub mod Calls
 pub mod CallsLaws
 pub mod FirstDemand
@@ -12,5 +12,7 @@ pub mod ThirdDemand
 pub mod ThirdDemandLaws
 pub mod Editions
 pub mod EditionsLaws
+pub mod Replacements
+pub mod ReplacementsLaws
 pub mod AnyWords
 pub mod AnyWordsLaws

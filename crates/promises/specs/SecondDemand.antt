@@ -3,7 +3,7 @@
 -- then on has the reply of the changed rule set. Images load to the table they were saved from. By document 02, 2026-07, the rank counts for the priority.
 use mathlib.Core.Path.{_≡_}
 use mathlib.Core.Logic.{_⊎_}
-use mathlib.Core.List.{List, _∷_}
+use mathlib.Core.List.{List}
 use Prim.Native.Nat.{ℕ, _+_, _*_, _≤_, _<_, min}
 use lib.ListN.{length, getD, take}
 use Rattle.ternary.specs.Pattern.{Matches, FullMask}
@@ -12,6 +12,7 @@ use Rattle.records.specs.Editions.{Given, lentRule, ranked}
 use Rattle.records.specs.Writes.{applyWords}
 use Rattle.records.specs.declared.Rule.{Rule}
 use Rattle.histories.specs.RuleSet.{Change, ruleSet, without, Member}
+use Rattle.histories.specs.Inserted.{rulesInserted}
 use Rattle.histories.specs.TableRules.{tableRules}
 use Rattle.image.specs.Reading.{Words64}
 use Rattle.refusals.specs.Rows.{Accepts}
@@ -97,11 +98,12 @@ pub record SecondDemand (w : ℕ) : Type 0 where
   pub ranks : (given : Given) → Ranks w given (ranked w given)
   -- each key is answered by the highest-ranked match of the table's rules, or by a miss
   pub answered : (rules : List Rule) (t : List ℕ) → RulesOf w rules t → AllReplied w t rules
-  -- within the plan of an insert, carried out with the edition that it was planned with, and of a delete, which is carried out with any record of as many
+  -- within the plan of an insert, which adds the rule and takes away the one that it replaces (Replacements), carried out with the edition that it was
+  -- planned with, and of a delete, which is carried out with any record of as many
   -- words and any edition
   pub insert : (rules : List Rule) (t : List ℕ) → RulesOf w rules t → (e : ℕ) (rule : List ℕ)
       → (plan after : List ℕ) (count count′ spot spot′ : ℕ) → InsertLeft w e t rule 0 plan after count count′ spot spot′
-      → DuringPlan w e t after rule count′ rules (ranked w (lentRule w e rule) ∷ rules)
+      → DuringPlan w e t after rule count′ rules (rulesInserted w t (ranked w (lentRule w e rule)) rules)
   pub delete : (rules : List Rule) (t : List ℕ) → RulesOf w rules t → (id : ℕ)
       → (plan after : List ℕ) (count count′ spot spot′ : ℕ) → DeleteLeft w t id 0 plan after count count′ spot spot′
       → (e : ℕ) (rule : List ℕ) → length rule ≡ recordWords w → DuringPlan w e t after rule count′ rules (without id rules)

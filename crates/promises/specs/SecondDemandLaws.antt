@@ -25,10 +25,11 @@ use Rattle.records.specs.declared.Rule.{Rule}
 use Rattle.records.specs.declared.Check.{Check}
 use Rattle.neighbours.specs.Neighbours.{insertChecks}
 use Rattle.delete_plans.specs.Deletes.{deleteChecks, deletePlan, deleteWords}
-use Rattle.insert_plans.specs.Inserts.{insertWords, insertPlan}
+use Rattle.insert_plans.specs.Inserts.{plannedWords, insertPlan}
 use Rattle.carrying.specs.Calls.{afterCalls, Lent}
 use Rattle.carrying.specs.CallsLaws.{lent-whole}
 use Rattle.histories.specs.RuleSet.{Change, without, Member, ruleMatches, highestMatch, ruleReply, setReply, IsHighest}
+use Rattle.histories.specs.Inserted.{rulesInserted}
 use Rattle.histories.specs.RuleSetLaws.{highest-law}
 use Rattle.histories.specs.TableRules.{tableRules}
 use Rattle.histories.specs.TableRulesLaws.{table-holding}
@@ -130,14 +131,14 @@ module _ (w : ℕ) (known : Width w) where
   -- a planning call that returned 0
   pub inserting : (e : ℕ) (t rule plan after : List ℕ) (count count′ spot spot′ : ℕ) → InsertLeft w e t rule 0 plan after count count′ spot spot′
       → (length rule ≡ recordWords w)
-      × Demand2 w t after (lentRule w e rule) (insertWords w t (ranked w (lentRule w e rule))) count′ (λ rules. ranked w (lentRule w e rule) ∷ rules)
+      × Demand2 w t after (lentRule w e rule) (plannedWords w t (ranked w (lentRule w e rule))) count′ (rulesInserted w t (ranked w (lentRule w e rule)))
   inserting e t rule plan after count count′ spot spot′ left =
       let given = lentRule w e rule in
       let passed = lent-accepted (checkRule w (length rule)) _ (sym (left .left .number)) in
       let told = counted-answer (checkRule w (length rule)) (insertChecks w t given) _ _ _ after count count′ spot spot′ (left .left) in
       let is = left .left .plan ∙ ap (λ (x : Check). leaves x (insertPlan w t given plan) plan) passed in (
         rule-law w (length rule) .0 passed .1,
-        subst (λ (p : List ℕ). Demand2 w t p given (insertWords w t (ranked w given)) count′ (λ rules. ranked w given ∷ rules)) (sym is)
+        subst (λ (p : List ℕ). Demand2 w t p given (plannedWords w t (ranked w given)) count′ (rulesInserted w t (ranked w given))) (sym is)
             (demand-2-insert w t given plan count′ (rule-action w (word rule)) told),
       )
 
@@ -160,7 +161,7 @@ module _ (w : ℕ) (known : Width w) where
       let is = left .left .plan ∙ ap (λ (x : Check). leaves x (insertPlan w u given plan) plan) (lent-accepted (checkRule w (length rule)) _ (sym (left .left .number))) in
       let lent = subst (Lent (insertPlan w u given plan) count′) (sym is)
       (lent-whole (insertPlan w u given plan) count′ (demand-2-room (demand-2-insert w u given plan count′ (rule-action w (word rule)) told))) in
-      subst (Reached w history) (sym (carried-at w e u after rule known (planned .0) _ count′ (λ rules. ranked w given ∷ rules) d t full))
+      subst (Reached w history) (sym (carried-at w e u after rule known (planned .0) _ count′ (rulesInserted w u (ranked w given)) d t full))
       (Reached.inserted before u (came-reached before u came) given (rule-action w (word rule)) plan count′ told after lent count′ (d .finished count′ (omega arith)))
   came-reached history t (CameTo.deleted before u came id plan after count count′ spot spot′ left e rule size v full) =
       let given = lentRule w e rule in
@@ -213,7 +214,7 @@ second-demand w known = record {
   answered = λ rules t of. answers w known rules t t (held w known rules t of) (told w known rules t of);
   insert = λ rules t of e rule plan after count count′ spot spot′ left.
       let planned = inserting w known e t rule plan after count count′ spot spot′ left in
-      during w known e t after rule (planned .0) _ count′ (λ rs. ranked w (lentRule w e rule) ∷ rs) (planned .1) rules (held w known rules t of);
+      during w known e t after rule (planned .0) _ count′ (rulesInserted w t (ranked w (lentRule w e rule))) (planned .1) rules (held w known rules t of);
   delete = λ rules t of id plan after count count′ spot spot′ left e rule size.
       during w known e t after rule size _ count′ (without id) (deleting w known t id plan after count count′ spot spot′ left (lentRule w e rule)) rules
       (held w known rules t of);

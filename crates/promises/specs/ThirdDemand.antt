@@ -19,7 +19,7 @@ use Rattle.records.specs.Inserts.{insertChoiceOf}
 use Rattle.records.specs.Editions.{lentRule, ranked}
 use Rattle.records.specs.declared.Rule.{Rule}
 use Rattle.refusals.specs.Rows.{Accepts}
-use Rattle.refusals.specs.Calls.{OneId, newRuleRows}
+use Rattle.refusals.specs.Calls.{OneId, ReplacesNone, newRuleRows}
 use Rattle.tcam.specs.Cells.{InsertLeft}
 
 -- a write to slot j loses no rule: it is empty, or its id stands in another slot too
@@ -68,10 +68,11 @@ pub record InsertPlanned (w : ℕ) (t : List ℕ) (rule : Rule) (result : ℕ) (
 
 -- Document 01 words the premises by the checks: a table that passes 1 to 4 is sound; a rule that passes 5 to 8 is sound, of new id and ties with none; 9 is
 -- the empty slot, 10 the crossed neighbours; document 02 adds 18: a rule given with another edition is not sound in this sense. These are the rows of an
--- insert without 11. The rule is lent as a record of as many words, whose last word becomes the rank in the record that stands; w is the width that the
--- call names, and is one that there is.
+-- insert without 11. Demand 3 covers inserts that are not replacements (2026-03): no slot holds a rule of the same value, mask and rank. The rule is lent as
+-- a record of as many words, whose last word becomes the rank in the record that stands; w is the width that the call names, and is one that there is.
 pub record ThirdDemand (w : ℕ) : Type 0 where
   pub plans : (e : ℕ) (t rule : List ℕ) → length rule ≡ recordWords w → Accepts (newRuleRows w t (lentRule w e rule))
+      → ReplacesNone w t (word (recordOf w (ranked w (lentRule w e rule))))
       → (result : ℕ) (plan after : List ℕ) (count count′ spot spot′ : ℕ) → InsertLeft w e t rule result plan after count count′ spot spot′
       → InsertPlanned w t (ranked w (lentRule w e rule)) result plan after count count′ spot spot′
       × (recordOf w (ranked w (lentRule w e rule)) ≡ set rule (2 * w + 1) (ranked w (lentRule w e rule) .priority))

@@ -16,7 +16,7 @@ use Rattle.layout.specs.Write.{copy, put}
 use Rattle.layout.specs.Held.{Held}
 use Rattle.records.specs.Record.{word, recordWords, slotWords, rank, empty, occupied, recordOf}
 use Rattle.records.specs.Order.{slots, sameId}
-use Rattle.records.specs.Checks.{Told, success, unless}
+use Rattle.records.specs.Checks.{Told, success, refusal, unless}
 use Rattle.records.specs.Widths.{Width, checkRule, leaves}
 use Rattle.records.specs.WidthsLaws.{rule-law}
 use Rattle.records.specs.RulesLaws.{record-rank, rule-action}
@@ -29,18 +29,20 @@ use Rattle.records.specs.ClassWordsLaws.{class-words-law}
 use Rattle.records.specs.Editions.{Given, lentRule, ranked, lentRank}
 use Rattle.records.specs.EditionsLaws.{ranked-record}
 use Rattle.records.specs.declared.Rule.{Rule}
+use Rattle.records.specs.declared.Cause.the-variants.{Short}
 use Rattle.records.specs.declared.Check.{Check}
 use Rattle.records.specs.declared.Check.the-variants.{Pass}
 use Rattle.buffers.specs.BuffersLaws.{buffer-short}
 use Rattle.neighbours.specs.Neighbours.{insertChecks}
-use Rattle.insert_plans.specs.Inserts.{insertWords, insertAnswer, insertPlan, insertCall}
+use Rattle.insert_plans.specs.Inserts.{insertWords, plannedWords, insertAnswer, insertPlan, insertCall}
 use Rattle.insert_plans.specs.Insertable.{InsertableGiven}
-use Rattle.insert_plans.specs.InsertableLaws.{insertable-law}
+use Rattle.insert_plans.specs.InsertableLaws.{insertable-law, insertable-fresh}
+use Rattle.insert_plans.specs.InsertsLaws.{planned-fresh}
 use Rattle.insert_plans.specs.Demand3.{ShortestPlan, Demand3}
 use Rattle.insert_plans.specs.Demand3Laws.{demand-3, shortest-words}
 use Rattle.marshalling.specs.Cells.{dataCell, spotCell}
 use Rattle.refusals.specs.Rows.{Accepts}
-use Rattle.refusals.specs.Calls.{OneId, newRuleRows}
+use Rattle.refusals.specs.Calls.{OneId, ReplacesNone, newRuleRows}
 use Rattle.refusals.specs.PlanningLaws.{insert-rows}
 use Rattle.tcam.specs.Cells.{InsertLeft}
 use Rattle.promises.specs.ThirdDemand.{LosesNone, WritesToward, OneWay, Stands, InsertPlanned, ThirdDemand}
@@ -155,14 +157,22 @@ stands-law w t x = (
   λ s. let at = s .1 in (s .0, (at .0, omega (arith, at .1, entries-length w t), entry-at w t (at .0) (at .1) ∙ at .2)),
 )
 
+-- an accepted insert that replaces no rule has the demand's premises
+fresh-premises : (w : ℕ) (t : List ℕ) (given : Given) → Accepts (newRuleRows w t given) → ReplacesNone w t (word (recordOf w (ranked w given)))
+    → InsertableGiven w t given
+fresh-premises w t given accepts none =
+    ⊎-elim (λ p. p) (λ r. absurd (none (r .0) (r .1 .replacing .inside) (r .1 .replacing .equal)))
+    (insertable-law w t given .0 (insert-rows w t given .passes .1 accepts))
+
 -- for any number of words: the plan's words are of the class, no sequence of it is shorter, and with buffer enough they are what the call leaves
 pub least-words : (w : ℕ) (t : List ℕ) (given : Given) → given .rule .action < 4294967296 → Accepts (newRuleRows w t given)
+    → ReplacesNone w t (word (recordOf w (ranked w given)))
     → (words : List ℕ) × OneWay w t (ranked w given) words × ((other : List ℕ) → OneWay w t (ranked w given) other → length words ≤ length other)
     × ((plan : List ℕ) → length words ≤ length plan
     → (insertAnswer w t given (length plan) ≡ success (length words ∷ [])) × (insertPlan w t given plan ≡ words ++ drop (length words) plan))
-least-words w t given small accepts =
+least-words w t given small accepts none =
     let rule = ranked w given in
-    let premises = insertable-law w t given .0 (insert-rows w t given .passes .1 accepts) in
+    let premises = fresh-premises w t given accepts none in
     let best = shortest-words w t given small premises in (
       insertWords w t rule,
       one-way w t rule (insertWords w t rule) .0 (best .class),
@@ -171,7 +181,8 @@ least-words w t given small accepts =
     )
 
 -- document 01's demand 3, at every width that there is
-module _ (w : ℕ) (known : Width w) (e : ℕ) (t lent : List ℕ) (size : length lent ≡ recordWords w) (accepts : Accepts (newRuleRows w t (lentRule w e lent))) where
+module _ (w : ℕ) (known : Width w) (e : ℕ) (t lent : List ℕ) (size : length lent ≡ recordWords w) (accepts : Accepts (newRuleRows w t (lentRule w e lent)))
+    (none : ReplacesNone w t (word (recordOf w (ranked w (lentRule w e lent))))) where
   abbrev given : Given
   given = lentRule w e lent
 
@@ -182,7 +193,10 @@ module _ (w : ℕ) (known : Width w) (e : ℕ) (t lent : List ℕ) (size : lengt
   checks = insert-rows w t given .passes .1 accepts
 
   premises : InsertableGiven w t given
-  premises = insertable-law w t given .0 checks
+  premises = fresh-premises w t given accepts none
+
+  fresh : plannedWords w t rule ≡ insertWords w t rule
+  fresh = planned-fresh w t rule (insertable-fresh w t rule (premises .insertable .new) (premises .insertable .untied))
 
   abbrev words : List ℕ
   words = insertWords w t rule
@@ -212,8 +226,9 @@ module _ (w : ℕ) (known : Width w) (e : ℕ) (t lent : List ℕ) (size : lengt
         let p = promised .shortest room in
         (left .left .number ∙ ap (λ (x : Told). x .number) (p .answer), left .left .counted ∙ ap (λ (x : Told). dataCell x 0 count) (p .answer), p .buffer);
     short = λ less.
-        let r = buffer-short words plan refl checks less in
-        let told : insertCall w e t lent (length plan) ≡ _ = ap (λ (x : Check). unless x (insertAnswer w t given (length plan))) passed ∙ sym (r .0) in (
+        let r = buffer-short (plannedWords w t rule) plan refl checks (omega (arith, less, ap length fresh)) in
+        let told : insertCall w e t lent (length plan) ≡ refusal Short (length words) =
+        ap (λ (x : Check). unless x (insertAnswer w t given (length plan))) passed ∙ (sym (r .0) ∙ ap (λ (l : List ℕ). refusal Short (length l)) fresh) in (
           left .left .number ∙ ap (λ (x : Told). x .number) told,
           left .left .spotted ∙ ap (λ (x : Told). spotCell x spot) told,
           left .left .plan ∙ (ap (λ (x : Check). leaves x (insertPlan w t given plan) plan) passed ∙ sym (r .1)),
@@ -235,6 +250,6 @@ module _ (w : ℕ) (known : Width w) (e : ℕ) (t lent : List ℕ) (size : lengt
 
 pub third-demand : (w : ℕ) → Width w → ThirdDemand w
 third-demand w known = record {
-  plans = λ e t rule size accepts result plan after count count′ spot spot′ left.
-      (planned w known e t rule size accepts result plan after count count′ spot spot′ left, same-record w known e t rule size accepts);
+  plans = λ e t rule size accepts none result plan after count count′ spot spot′ left.
+      (planned w known e t rule size accepts none result plan after count count′ spot spot′ left, same-record w known e t rule size accepts none);
 }

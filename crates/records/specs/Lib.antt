@@ -22,3 +22,4 @@ pub mod ClassWords
 pub mod ClassWordsLaws
 pub mod Inserts
 pub mod InsertsLaws
+pub mod EqualLaws

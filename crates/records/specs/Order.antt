@@ -1,11 +1,12 @@
--- Two records side by side: overlap, precedence, one id in two slots, and which pair is out of order. A table's order.
+-- Two records side by side: overlap, precedence, one id in two slots, equal rules, and which pair is out of order. A table's order.
 -- Copies of one id are not compared with each other, so that these definitions hold in the middle of a plan too.
 use mathlib.Core.Path.{_≡_}
 use mathlib.Core.Bool.{Bool, true, not, _&&_}
 use mathlib.Core.List.{List}
-use Prim.Native.Nat.{ℕ, _/_, _<_}
+use Prim.Native.Nat.{ℕ, _*_, _/_, _<_}
 use lib.Dec.{eqb, ltb, leb}
 use lib.ListN.{length}
+use Rattle.search.specs.Search.{all}
 use Rattle.ternary.specs.Word.{agree, both}
 use Rattle.ternary.specs.Pattern.{Words, Overlap, overlaps}
 use Rattle.records.specs.Record.{recordWords, slotWords, value, mask, ident, rank, occupied}
@@ -37,6 +38,14 @@ tied w a b = (overlapping w a b && eqb (rank w a) (rank w b)) && distinct w a b
 unfoldable pub sameId : ℕ → Words → Words → Bool
 sameId w a b = eqb (ident w a) (ident w b) && (occupied w a && occupied w b)
 
+-- value and mask, the first words of a record, are the same
+unfoldable pub samePattern : ℕ → Words → Words → Bool
+samePattern w a b = all (λ (j : ℕ). eqb (a j) (b j)) (2 * w)
+
+-- document 02, 2026-03: two rules of the same value, mask and rank; ids and actions are not looked at
+unfoldable pub equalRule : ℕ → Words → Words → Bool
+equalRule w a b = (samePattern w a b && eqb (rank w a) (rank w b)) && (occupied w a && occupied w b)
+
 -- a standing before b is out of order: two rules that overlap, and a's rank is not higher
 unfoldable pub misordered : ℕ → Words → Words → Bool
 misordered w a b = (overlapping w a b && leb (rank w a) (rank w b)) && distinct w a b
@@ -56,3 +65,11 @@ InOrder w t = (x y : ℕ) → x < y → y < slots w t → Ordered w (slotWords w
 abbrev pub Overlapping : ℕ → Words → Words → Type 0
 Overlapping w a b =
     (occupied w a ≡ true) × (occupied w b ≡ true) × (ident w a ≡ ident w b → ⊥) × Overlap w (value a) (mask w a) (value b) (mask w b)
+
+-- Two rules of the same value, mask and rank, in words: of such a pair the one replaces the other.
+pub record EqualRules (w : ℕ) (a b : Words) : Type 0 where
+  pub first : occupied w a ≡ true
+  pub second : occupied w b ≡ true
+  pub values : (j : ℕ) → j < w → value a j ≡ value b j
+  pub masks : (j : ℕ) → j < w → mask w a j ≡ mask w b j
+  pub ranks : rank w a ≡ rank w b

@@ -36,7 +36,7 @@ standsElsewhere w t j = any (heldAt w t j) (slots w t)
 unfoldable pub freeAt : ℕ → List ℕ → ℕ → Bool
 freeAt w t j = empty w (slotWords w t j) || standsElsewhere w t j
 
--- document 01, "Carrying out": when a write fits
+-- document 01: when a write fits, in the comparison class; in carrying out a put-in over an equal rule fits too, by document 02
 abbrev pub fitsWrite : ℕ → List ℕ → Write → Bool
 fitsWrite w t (copy from to) =
     ltb from (slots w t) && (ltb to (slots w t) && (not (eqb from to) && (occupied w (slotWords w t from) && freeAt w t to)))

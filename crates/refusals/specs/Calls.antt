@@ -8,11 +8,11 @@ use mathlib.Core.List.{List, [], _∷_, _++_}
 use Prim.Native.Nat.{ℕ, zero, suc, _+_, _≤_, _<_}
 use lib.ListN.{length, getD}
 use Rattle.ternary.specs.Pattern.{Words}
-use Rattle.layout.specs.Write.{put}
+use Rattle.layout.specs.Write.{Write, put}
 use Rattle.plan_words.specs.PlanWords.{writeOf}
 use Rattle.records.specs.Record.{word, recordWords, slotWords, occupied, ident, rank, recordOf}
 use Rattle.records.specs.Sound.{SoundRecord, SoundRule}
-use Rattle.records.specs.Order.{slots, Overlapping}
+use Rattle.records.specs.Order.{slots, Overlapping, EqualRules}
 use Rattle.records.specs.Checks.{Shaped}
 use Rattle.records.specs.Entries.{entries}
 use Rattle.records.specs.Writes.{EntryFits}
@@ -20,7 +20,7 @@ use Rattle.records.specs.Editions.{Given, lentRule, ranked}
 use Rattle.records.specs.declared.Rule.{Rule}
 use Rattle.records.specs.declared.Cause.the-variants.{Shape, Record, Twice, Order, Rule as RuleCause, Known, Unknown, Tie, Full, Crossed, Short}
 use Rattle.records.specs.declared.Cause.the-variants.{Write as WriteCause, Image, Edition as EditionCause}
-use Rattle.insert_plans.specs.Inserts.{insertWords}
+use Rattle.insert_plans.specs.Inserts.{plannedWords}
 use Rattle.image.specs.Format.{imageBytes, bodyPlace, entryPlace, ruleCount, slotsIn, rulesIn, idAt, entrySlot, offsetAt, recordAt}
 use Rattle.image.specs.Checks.{lowestSlot, meant}
 use Rattle.refusals.specs.Rows.{Row, rowAt, slotRow}
@@ -71,13 +71,17 @@ module _ (w : ℕ) (t : List ℕ) where
   abbrev pub unknownRow : ℕ → Row
   unknownRow id = rowAt Unknown ((i : ℕ) → i < slots w t → occupied w (slotWords w t i) ≡ true → ident w (slotWords w t i) ≡ id → ⊥) 0
 
-  -- 8: overlap at equal rank
+  -- 8: overlap at equal rank; document 02, 2026-03: but not with a rule of the same value, mask and rank, which the new one replaces
   abbrev pub tieRow : Words → Row
-  tieRow new = slotRow Tie (slots w t) (λ i. Ties w (slotWords w t i) new)
+  tieRow new = slotRow Tie (slots w t) (λ i. Ties w (slotWords w t i) new × (EqualRules w (slotWords w t i) new → ⊥))
 
-  -- 9: insert: no slot empty
-  abbrev pub fullRow : Row
-  fullRow = rowAt Full ((i : ℕ) → i < slots w t → occupied w (slotWords w t i) ≡ true) 0
+  -- no slot holds such a rule: none is replaced
+  abbrev pub ReplacesNone : Words → Type 0
+  ReplacesNone new = (i : ℕ) → i < slots w t → EqualRules w (slotWords w t i) new → ⊥
+
+  -- 9: insert: no slot empty, and no rule is replaced
+  abbrev pub fullRow : Words → Row
+  fullRow new = rowAt Full (((i : ℕ) → i < slots w t → occupied w (slotWords w t i) ≡ true) × ReplacesNone new) 0
 
   -- slot a is A, the highest slot holding a rule that precedes the new one
   abbrev pub IsA : Words → ℕ → Type 0
@@ -119,14 +123,14 @@ abbrev pub newRuleRows : ℕ → List ℕ → Given → List Row
 newRuleRows w t given =
     let new = word (recordOf w (ranked w given)) in
     tableRows w t
-    ++ (ruleRow w (given .rule) ∷ editionRow (given .edition) ∷ knownRow w t new ∷ tieRow w t new ∷ fullRow w t ∷ crossedRow w t new ∷ [])
+    ++ (ruleRow w (given .rule) ∷ editionRow (given .edition) ∷ knownRow w t new ∷ tieRow w t new ∷ fullRow w t new ∷ crossedRow w t new ∷ [])
 
 abbrev pub oldRuleRows : ℕ → List ℕ → ℕ → List Row
 oldRuleRows w t id = tableRows w t ++ (idRow id ∷ unknownRow w t id ∷ [])
 
 -- and with a buffer of so many words
 abbrev pub insertRows : ℕ → List ℕ → Given → ℕ → List Row
-insertRows w t given room = newRuleRows w t given ++ (shortRow (length (insertWords w t (ranked w given))) room ∷ [])
+insertRows w t given room = newRuleRows w t given ++ (shortRow (length (plannedWords w t (ranked w given))) room ∷ [])
 
 abbrev pub deleteRows : ℕ → List ℕ → ℕ → ℕ → List Row
 deleteRows w t id room = oldRuleRows w t id ++ (shortRow 1 room ∷ [])
@@ -135,8 +139,12 @@ deleteRows w t id room = oldRuleRows w t id ++ (shortRow 1 room ∷ [])
 abbrev pub saveRows : ℕ → List ℕ → ℕ → List Row
 saveRows w t room = tableRows w t ++ (shortRow (imageBytes w (ruleCount w t)) room ∷ [])
 
+-- document 02, 2026-03: a put-in over a rule of the same value, mask and rank as the one put in, which has its rank
+abbrev pub OverEqual : ℕ → List ℕ → Rule → Write → Type 0
+OverEqual w t rule next = (to : ℕ) × (next ≡ put to) × (to < slots w t) × EqualRules w (slotWords w t to) (word (recordOf w rule))
+
 -- carrying out: 1, 2; then 12 if done > in all or in all > the plan's words; then, where the next write is to be made, 5 for an unsound rule and 18 for
--- another edition where a rule is put in, and 12 unless it fits
+-- another edition where a rule is put in, and 12 unless it fits or is such a put-in
 abbrev pub stepRows : ℕ → List ℕ → List ℕ → Given → ℕ → ℕ → List Row
 stepRows w t plan given done total =
     let next = writeOf (getD plan done 0) in
@@ -144,7 +152,7 @@ stepRows w t plan given done total =
     ++ (rowAt WriteCause ((total < done) ⊎ (length plan < total)) done ∷ [])
     ++ (rowAt RuleCause ((done < total) × ((to : ℕ) × (next ≡ put to)) × (SoundRule w (given .rule) → ⊥)) 0
     ∷ rowAt EditionCause ((done < total) × ((to : ℕ) × (next ≡ put to)) × OtherEdition (given .edition)) 0
-    ∷ rowAt WriteCause ((done < total) × (EntryFits w (entries w t) next → ⊥)) done
+    ∷ rowAt WriteCause ((done < total) × (EntryFits w (entries w t) next → ⊥) × (OverEqual w t (ranked w given) next → ⊥)) done
     ∷ [])
 
 -- 14: a field of the image is wrong, at its offset

@@ -13,7 +13,7 @@ use Rattle.records.specs.Editions.{Given, lentRule, ranked}
 use Rattle.records.specs.declared.Check.{Check}
 use Rattle.buffers.specs.Buffers.{checkRoom, bufferAnswer}
 use Rattle.lookups.specs.Lookup.{matchTold, lookupAnswer, lookupCall}
-use Rattle.insert_plans.specs.Inserts.{insertAnswer, insertWords, insertCall}
+use Rattle.insert_plans.specs.Inserts.{insertAnswer, plannedWords, insertCall}
 use Rattle.delete_plans.specs.Deletes.{deleteAnswer, deleteCall}
 use Rattle.carrying.specs.Carrying.{stepAnswer, stepCall}
 use Rattle.image.specs.Format.{imageBytes, ruleCount}
@@ -44,7 +44,7 @@ buffer-answered checks rows needed room agree =
     answered _ _ (needed ∷ []) (rows-then checks (checkRoom needed room) rows (shortRow needed room ∷ []) agree (λ e. short-row needed room))
 
 pub insert-by-rows : (w : ℕ) (t : List ℕ) (given : Given) (room : ℕ) → AnsweredBy (insertRows w t given room) (insertAnswer w t given room)
-insert-by-rows w t given room = buffer-answered _ _ (length (insertWords w t (ranked w given))) room (insert-rows w t given)
+insert-by-rows w t given room = buffer-answered _ _ (length (plannedWords w t (ranked w given))) room (insert-rows w t given)
 
 pub delete-by-rows : (w : ℕ) (t : List ℕ) (id room : ℕ) → AnsweredBy (deleteRows w t id room) (deleteAnswer w t id room)
 delete-by-rows w t id room = buffer-answered _ _ 1 room (delete-rows w t id)

@@ -1,34 +1,37 @@
 -- Laws on the rows of a step: 12 for the progress, and 5, 18 and 12 for the next write, where one is to be made.
-use mathlib.Core.Path.{_≡_, refl, sym, _∙_}
-use mathlib.Core.Bool.{Bool, true, false, cond, _&&_, true≢false}
-use mathlib.Core.Logic.{_⊎_, inl, inr, ⊎-elim}
+use mathlib.Core.Path.{_≡_, refl, sym, ap, _∙_, subst}
+use mathlib.Core.Bool.{Bool, true, false, cond, _&&_, _||_, or-true, true≢false}
+use mathlib.Core.Logic.{_↔_, _⊎_, inl, inr, ⊎-elim}
 use mathlib.Core.List.{List, [], _∷_, _++_}
 use Prim.{tt}
 use Prim.Native.Nat.{ℕ, _+_, _≤_, _<_}
 use native.Mathlib.Omega.{arith}
 use native.Mathlib.Decide.{decLt}
-use lib.Dec.{eqb, leb}
+use lib.Dec.{eqb, ltb, leb}
 use lib.ListN.{length, getD}
-use borrow.Author.Tests.{eqb-true, eqb-false, leb-true, le-leb}
+use borrow.Author.Tests.{eqb-true, eqb-false, leb-true, le-leb, lt-ltb, ltb-true}
 use Rattle.search.specs.SearchLaws.{and-law, decided}
 use Rattle.layout.specs.Write.{Write, copy, put, clear}
 use Rattle.plan_words.specs.PlanWords.{writeOf}
-use Rattle.records.specs.Record.{soundRule}
+use Rattle.ternary.specs.Pattern.{Words}
+use Rattle.records.specs.Record.{word, slotWords, soundRule, recordOf}
+use Rattle.records.specs.Order.{slots, equalRule, EqualRules}
+use Rattle.records.specs.EqualLaws.{equal-law}
 use Rattle.records.specs.Sound.{SoundRule}
 use Rattle.records.specs.Checks.{Told, success, unless, orElse}
 use Rattle.records.specs.Entries.{entries}
 use Rattle.records.specs.Writes.{fitsWrite, EntryFits}
 use Rattle.records.specs.WritesLaws.{fits-write-law}
 use Rattle.records.specs.Laws.{sound-rule-law}
-use Rattle.records.specs.Editions.{Given, knownEdition, checkSound, checkEdition, checkGiven}
+use Rattle.records.specs.Editions.{Given, ranked, knownEdition, checkSound, checkEdition, checkGiven}
 use Rattle.records.specs.declared.Cause.the-variants.{Rule as RuleCause, Write as WriteCause, Edition as EditionCause}
 use Rattle.records.specs.declared.Check.{Check}
 use Rattle.records.specs.declared.Check.the-variants.{Pass, Fail}
-use Rattle.carrying.specs.Carrying.{putChecks, progressChecks, writeChecks, stepAnswer}
-use Rattle.carrying.specs.StepsLaws.{progress-within}
+use Rattle.carrying.specs.Carrying.{putChecks, overEqual, fitsCarried, progressChecks, writeChecks, stepAnswer}
+use Rattle.carrying.specs.StepsLaws.{fits-carried, progress-within}
 use Rattle.refusals.specs.Rows.{Row, rowAt}
 use Rattle.refusals.specs.RowsLaws.{Agrees, rows-then, passing}
-use Rattle.refusals.specs.Calls.{OtherEdition, slotRows, stepRows}
+use Rattle.refusals.specs.Calls.{OtherEdition, OverEqual, slotRows, stepRows}
 use Rattle.refusals.specs.TableLaws.{test-row, slot-rows}
 use Rattle.refusals.specs.PlanningLaws.{edition-one, edition-other}
 
@@ -68,7 +71,9 @@ module _ (w : ℕ) (t plan : List ℕ) (given : Given) (done total : ℕ) where
   putRows next = putRuleRow next ∷ putEditionRow next ∷ []
 
   abbrev fitRow : Row
-  fitRow = rowAt WriteCause ((done < total) × (EntryFits w (entries w t) (writeOf (getD plan done 0)) → ⊥)) done
+  fitRow =
+      let next = writeOf (getD plan done 0) in
+      rowAt WriteCause ((done < total) × (EntryFits w (entries w t) next → ⊥) × (OverEqual w t (ranked w given) next → ⊥)) done
 
   progress-rows : Agrees (progressChecks w t (length plan) done total) (slotRows w t ++ (progressRow ∷ []))
   unfolding progressChecks
@@ -104,13 +109,58 @@ module _ (w : ℕ) (t plan : List ℕ) (given : Given) (done total : ℕ) where
       (λ e. test-row EditionCause _ 0 (knownEdition (given .edition)) (λ k bad. edition-one (given .edition) k (bad .2))
       (λ k. (h, (to, refl), edition-other (given .edition) k)))
 
+  -- a write fits by the test exactly when it fits as document 01 has it or is a put-in over an equal rule
+  carried-law : (next : Write) → (fitsCarried w t (ranked w given) next ≡ true) ↔ (EntryFits w (entries w t) next ⊎ OverEqual w t (ranked w given) next)
+  unfolding overEqual
+  carried-law (copy from to) = (
+    λ f. inl (fits-write-law w t (copy from to) .0 f),
+    λ o. ⊎-elim (λ good. fits-write-law w t (copy from to) .1 good) (λ over. absurd (apart (over .1))) o,
+  )
+    where
+      apart : {k : ℕ} → copy from to ≡ put k → ⊥
+      apart f = let z : _≡_ {A = ℕ} 0 1 = cc in omega arith
+  carried-law (clear to) = (
+    λ f. inl (fits-write-law w t (clear to) .0 f),
+    λ o. ⊎-elim (λ good. fits-write-law w t (clear to) .1 good) (λ over. absurd (apart (over .1))) o,
+  )
+    where
+      apart : {k : ℕ} → clear to ≡ put k → ⊥
+      apart f = let z : _≡_ {A = ℕ} 0 1 = cc in omega arith
+  carried-law (put to) = (λ f. forth (decided (fitsWrite w t (put to))) f, back)
+    where
+      own : Words
+      own = word (recordOf w (ranked w given))
+
+      both : (overEqual w t (ranked w given) to ≡ true) ↔ ((ltb to (slots w t) ≡ true) × (equalRule w (slotWords w t to) own ≡ true))
+      both = and-law (ltb to (slots w t)) (equalRule w (slotWords w t to) own)
+
+      forth : (fitsWrite w t (put to) ≡ true) ⊎ (fitsWrite w t (put to) ≡ false) → fitsCarried w t (ranked w given) (put to) ≡ true
+          → EntryFits w (entries w t) (put to) ⊎ OverEqual w t (ranked w given) (put to)
+      forth (inl e) f = inl (fits-write-law w t (put to) .0 e)
+      forth (inr e) f =
+          let p = both .0 (sym (ap (λ (b : Bool). b || overEqual w t (ranked w given) to) e) ∙ f) in
+          inr (to, refl, ltb-true to (slots w t) (p .0), equal-law w (slotWords w t to) own .0 (p .1))
+
+      put-slot : {k : ℕ} → put to ≡ put k → k ≡ to
+      put-slot e = cc
+
+      back : EntryFits w (entries w t) (put to) ⊎ OverEqual w t (ranked w given) (put to) → fitsCarried w t (ranked w given) (put to) ≡ true
+      back (inl good) = fits-carried w t (ranked w given) (put to) (fits-write-law w t (put to) .1 good)
+      back (inr (k, e, inside, equal)) =
+          let at : k ≡ to = put-slot e in
+          let over = both .1 (
+            lt-ltb to (slots w t) (subst (λ (n : ℕ). n < slots w t) at inside),
+            equal-law w (slotWords w t to) own .1 (subst (λ (n : ℕ). EqualRules w (slotWords w t n) own) at equal),
+          ) in
+          ap (λ (b : Bool). fitsWrite w t (put to) || b) over ∙ or-true (fitsWrite w t (put to))
+
   write-rows : done < total → Agrees (writeChecks w t given (getD plan done 0) done) (putRows (writeOf (getD plan done 0)) ++ (fitRow ∷ []))
   unfolding writeChecks
   write-rows h =
       let next = writeOf (getD plan done 0) in
       rows-then _ _ (putRows next) _ (put-rows h next)
-      (λ e. test-row WriteCause _ done (fitsWrite w t next) (λ f bad. bad .1 (fits-write-law w t next .0 f))
-      (λ f. (h, λ good. true≢false (sym (fits-write-law w t next .1 good) ∙ f))))
+      (λ e. test-row WriteCause _ done (fitsCarried w t (ranked w given) next) (λ f bad. ⊎-elim (bad .1) (bad .2) (carried-law next .0 f))
+      (λ f. (h, λ good. true≢false (sym (carried-law next .1 (inl good)) ∙ f), λ over. true≢false (sym (carried-law next .1 (inr over)) ∙ f))))
 
   pub step-rows : Agrees (stepChecks w t plan given done total) (stepRows w t plan given done total)
   step-rows =

@@ -18,7 +18,7 @@ use Rattle.records.specs.declared.Cause.the-variants.{Shape, Line}
 use Rattle.records.specs.declared.Check.{Check}
 use Rattle.records.specs.declared.Check.the-variants.{Pass, Fail}
 use Rattle.delete_plans.specs.Deletes.{deleteWords}
-use Rattle.insert_plans.specs.Inserts.{insertWords}
+use Rattle.insert_plans.specs.Inserts.{plannedWords}
 use Rattle.script_commands.specs.declared.Command.{Command}
 use Rattle.script_commands.specs.declared.Command.the-variants.{Table, Insert, Delete, Lookup, Malformed}
 use Rattle.script_commands.specs.Commands.{insertedRule, keyOf, commandOf}
@@ -56,7 +56,7 @@ change-answered checks rows words agree = subst (AnsweredBy rows) (change-told c
 
 insert-line-answered : (t : List ℕ) (rule : Rule) → AnsweredBy (newRuleRows 2 t (under13 rule)) (insertTold t rule .told)
 unfolding insertTold
-insert-line-answered t rule = change-answered _ _ (insertWords 2 t rule) (insert-rows 2 t (under13 rule))
+insert-line-answered t rule = change-answered _ _ (plannedWords 2 t rule) (insert-rows 2 t (under13 rule))
 
 delete-line-answered : (t : List ℕ) (id : ℕ) → AnsweredBy (oldRuleRows 2 t id) (deleteTold t id .told)
 unfolding deleteTold

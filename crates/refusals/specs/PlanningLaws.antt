@@ -1,31 +1,36 @@
 -- Laws on the rows of a planning call: checks 5 to 11 and 18, each with its condition in plain terms.
 use mathlib.Core.Path.{_≡_, sym, ap, _∙_, subst}
-use mathlib.Core.Bool.{true, false, not, true≢false}
-use mathlib.Core.Logic.{⊎-elim}
+use mathlib.Core.Bool.{true, false, not, cond, true≢false}
+use mathlib.Core.Logic.{_⊎_, inl, inr, ⊎-elim}
 use mathlib.Core.List.{List, [], _∷_}
+use Prim.{tt}
 use Prim.Native.Nat.{ℕ, suc, _-_, _<_}
 use native.Mathlib.Omega.{arith}
-use native.Mathlib.Decide.{decLt}
+use native.Mathlib.Decide.{ℕ-discrete, decLt}
 use lib.Dec.{eqb, ltb}
 use borrow.Author.Tests.{eqb-true, eq-eqb, lt-ltb, ltb-true, ltb-false}
 use Rattle.search.specs.Search.{any, least}
-use Rattle.search.specs.SearchLaws.{any-yes, any-no, and-law, least-law}
+use Rattle.search.specs.SearchLaws.{decided, any-yes, any-no, and-law, least-law}
 use Rattle.ternary.specs.Pattern.{Words}
-use Rattle.records.specs.Record.{slotWords, empty, occupied, ident, soundRule}
-use Rattle.records.specs.Order.{slots}
-use Rattle.records.specs.Laws.{pass-law, sound-rule-law, same-id-law, tied-law, precedes-law}
+use Rattle.records.specs.Record.{word, slotWords, empty, occupied, ident, soundRule, recordOf}
+use Rattle.records.specs.Order.{slots, sameId, EqualRules}
+use Rattle.records.specs.Checks.{orElse, slotChecks, checkTwice, checkOrder, tableChecks}
+use Rattle.records.specs.Laws.{pass-law, or-else-pass, lowest-pass, table-checks-law, sound-rule-law, same-id-law, tied-law, precedes-law}
+use Rattle.records.specs.EqualLaws.{equal-untied, equal-after, equal-before}
 use Rattle.records.specs.Editions.{Given, ranked, knownEdition, checkSound, checkEdition, checkGiven}
 use Rattle.records.specs.EditionsLaws.{edition-law}
 use Rattle.records.specs.declared.Rule.{Rule}
 use Rattle.records.specs.declared.Cause.{Cause}
 use Rattle.records.specs.declared.Cause.the-variants.{Rule as RuleCause, Known, Unknown, Tie, Full, Crossed, Short, Edition as EditionCause}
-use Rattle.records.specs.declared.Check.the-variants.{Fail}
+use Rattle.records.specs.declared.Check.the-variants.{Pass, Fail}
 use Rattle.buffers.specs.Buffers.{checkRoom}
-use Rattle.neighbours.specs.Neighbours.{checkKnown, checkTie, checkFull, checkCrossed, afterA, slotB, newChecks, ruleWords, insertChecks}
+use Rattle.neighbours.specs.Neighbours.{checkKnown, checkTie, checkFull, checkCrossed, afterA, slotB, replacedSlot, replaces, newChecks, placeChecks}
+use Rattle.neighbours.specs.Neighbours.{ruleWords, ruleChecks, insertChecks}
+use Rattle.neighbours.specs.NeighboursLaws.{replaced-equal, replaced-none}
 use Rattle.delete_plans.specs.Deletes.{hasId, slotOfId, checkId, checkUnknown, deleteChecks}
 use Rattle.insert_plans.specs.InsertableLaws.{rule-words, crossed-pass, crossed-fail}
-use Rattle.refusals.specs.RowsLaws.{Agrees, one-row, rows-then}
-use Rattle.refusals.specs.Calls.{OneId, Ties, IsA, knownRow, unknownRow, tieRow, fullRow, crossedRow, tableRows, ruleRow, idRow, OtherEdition, editionRow}
+use Rattle.refusals.specs.RowsLaws.{Agrees, one-row, rows-then, passing}
+use Rattle.refusals.specs.Calls.{OneId, Ties, IsA, ReplacesNone, knownRow, unknownRow, tieRow, fullRow, crossedRow, tableRows, ruleRow, idRow, OtherEdition, editionRow}
 use Rattle.refusals.specs.Calls.{shortRow, newRuleRows, oldRuleRows}
 use Rattle.refusals.specs.TableLaws.{test-row, fault-row, only-cause, lowest-row, table-rows}
 
@@ -57,17 +62,17 @@ module _ (w : ℕ) (t : List ℕ) where
   unfolding checkKnown
   known-row new = lowest-row Known (slots w t) _ (λ i. OneId w (slotWords w t i) new) (λ i h. same-id-law w (slotWords w t i) new)
 
-  pub tie-row : (new : Words) → Agrees (checkTie w t new) (tieRow w t new ∷ [])
-  unfolding checkTie
-  tie-row new = lowest-row Tie (slots w t) _ (λ i. Ties w (slotWords w t i) new) (λ i h. tied-law w (slotWords w t i) new)
-
-  pub full-row : Agrees (checkFull w t) (fullRow w t ∷ [])
-  unfolding checkFull
-  full-row =
-      test-row Full _ 0 (any (λ (i : ℕ). empty w (slotWords w t i)) (slots w t))
+  -- 8 and 9 where no rule is replaced
+  tie-full-rows : (new : Words) → ReplacesNone w t new → Agrees (orElse (checkTie w t new) (checkFull w t)) (tieRow w t new ∷ fullRow w t new ∷ [])
+  unfolding checkTie checkFull
+  tie-full-rows new none =
+      rows-then _ _ (tieRow w t new ∷ []) _
+      (lowest-row Tie (slots w t) _ (λ i. Ties w (slotWords w t i) new × (EqualRules w (slotWords w t i) new → ⊥))
+      (λ i h. let law = tied-law w (slotWords w t i) new in (λ e. (law .0 e, none i h), λ p. law .1 (p .0))))
+      (λ f. test-row Full _ 0 (any (λ (i : ℕ). empty w (slotWords w t i)) (slots w t))
       (λ e full. let free = any-yes (λ (i : ℕ). empty w (slotWords w t i)) (slots w t) e in
-      true≢false (sym (full (free .0) (free .1)) ∙ ap not (free .2)))
-      (λ e i h. ap not (any-no (λ (i : ℕ). empty w (slotWords w t i)) (slots w t) e i h))
+      true≢false (sym (full .0 (free .0) (free .1)) ∙ ap not (free .2)))
+      (λ e. (λ i h. ap not (any-no (λ (i : ℕ). empty w (slotWords w t i)) (slots w t) e i h), none)))
 
   pub crossed-row : (new : Words) → Agrees (checkCrossed w t new) (crossedRow w t new ∷ [])
   unfolding checkCrossed
@@ -96,13 +101,51 @@ module _ (w : ℕ) (t : List ℕ) where
           pick (no l) (yes m) = absurd (b .2 x m (a .0) (a .1))
           pick (no l) (no m) = omega arith
 
-  -- checks 6 and 8 to 10
-  new-rows : (new : Words) → Agrees (newChecks w t new) (knownRow w t new ∷ tieRow w t new ∷ fullRow w t ∷ crossedRow w t new ∷ [])
-  unfolding newChecks
-  new-rows new =
-      rows-then _ _ (knownRow w t new ∷ []) _ (known-row new)
-      (λ e. rows-then _ _ (tieRow w t new ∷ []) _ (tie-row new)
-      (λ f. rows-then _ _ (fullRow w t ∷ []) _ full-row (λ g. crossed-row new)))
+  -- what is left where a rule is replaced, in a table that passes 1 to 4: nothing of 8, 9 and 10
+  module _ (new : Words) (sound : tableChecks w t ≡ Pass) (known : checkKnown w t new ≡ Pass) where
+    fresh : (i : ℕ) → i < slots w t → sameId w (slotWords w t i) new ≡ false
+    unfolding checkKnown
+    fresh = lowest-pass Known (λ (i : ℕ). sameId w (slotWords w t i) new) (slots w t) .0 known
+
+    checks : (slotChecks w t ≡ Pass) × (checkTwice w t ≡ Pass) × (checkOrder w t ≡ Pass)
+    checks = table-checks-law w t .0 sound
+
+    replaced-tie : (s : ℕ) → s < slots w t → EqualRules w (slotWords w t s) new → tieRow w t new .condition → ⊥
+    replaced-tie s h equal (i, l, (ties, other)) = pick (ℕ-discrete i s)
+      where
+        pick : Dec (i ≡ s) → ⊥
+        pick (yes e) = other (subst (λ (k : ℕ). EqualRules w (slotWords w t k) new) (sym e) equal)
+        pick (no e) = true≢false (sym (tied-law w (slotWords w t i) new .1 ties) ∙ equal-untied w t (checks .1) (checks .2) new fresh s h equal i l e)
+
+    replaced-crossed : (s : ℕ) → s < slots w t → EqualRules w (slotWords w t s) new → crossedRow w t new .condition → ⊥
+    replaced-crossed s h equal (b, a, less, inside, depends, before) =
+        omega (
+          arith,
+          equal-before w t (checks .1) (checks .2) new fresh s h equal b (omega (arith, less, inside)) (precedes-law w new (slotWords w t b) .1 depends),
+          equal-after w t (checks .1) (checks .2) new fresh s h equal a inside (precedes-law w (slotWords w t a) new .1 before),
+          less,
+        )
+
+    room-rows : Agrees (cond (replaces w t new) Pass (orElse (checkTie w t new) (checkFull w t))) (tieRow w t new ∷ fullRow w t new ∷ [])
+    room-rows = pick (decided (replaces w t new))
+      where
+        pick : (replaces w t new ≡ true) ⊎ (replaces w t new ≡ false)
+            → Agrees (cond (replaces w t new) Pass (orElse (checkTie w t new) (checkFull w t))) (tieRow w t new ∷ fullRow w t new ∷ [])
+        pick (inl e) =
+            let found = replaced-equal w t new e in
+            rw e (passing (tieRow w t new ∷ fullRow w t new ∷ [])
+            (replaced-tie (replacedSlot w t new) (found .0) (found .1), (λ full. full .1 (replacedSlot w t new) (found .0) (found .1), tt)))
+        pick (inr e) = rw e (tie-full-rows new (replaced-none w t new e))
+
+    place-rows : Agrees (placeChecks w t new) (crossedRow w t new ∷ [])
+    unfolding placeChecks
+    place-rows = pick (decided (replaces w t new))
+      where
+        pick : (replaces w t new ≡ true) ⊎ (replaces w t new ≡ false) → Agrees (cond (replaces w t new) Pass (checkCrossed w t new)) (crossedRow w t new ∷ [])
+        pick (inl e) =
+            let found = replaced-equal w t new e in
+            rw e (passing (crossedRow w t new ∷ []) (replaced-crossed (replacedSlot w t new) (found .0) (found .1), tt))
+        pick (inr e) = rw e (crossed-row new)
 
   -- checks 5 and 18
   given-rows : (given : Given) → Agrees (checkGiven w given) (ruleRow w (given .rule) ∷ editionRow (given .edition) ∷ [])
@@ -111,13 +154,24 @@ module _ (w : ℕ) (t : List ℕ) where
 
   -- checks 1 to 10 of an insert
   pub insert-rows : (given : Given) → Agrees (insertChecks w t given) (newRuleRows w t given)
-  unfolding insertChecks
+  unfolding insertChecks ruleChecks newChecks
   insert-rows given =
-      let rule = ranked w given in
       rows-then _ _ (tableRows w t) _ (table-rows w t)
-      (λ e. rows-then _ _ (ruleRow w (given .rule) ∷ editionRow (given .edition) ∷ []) _ (given-rows given)
-      (λ f. subst (λ (new : Words). Agrees (newChecks w t (ruleWords w rule)) (knownRow w t new ∷ tieRow w t new ∷ fullRow w t ∷ crossedRow w t new ∷ []))
-      (rule-words w rule) (new-rows (ruleWords w rule))))
+      (λ e. rows-then _ _ (ruleRow w (given .rule) ∷ editionRow (given .edition) ∷ knownRow w t own ∷ tieRow w t own ∷ fullRow w t own ∷ []) _
+      (rows-then _ _ (ruleRow w (given .rule) ∷ editionRow (given .edition) ∷ []) _ (given-rows given)
+      (λ f. subst (λ (x : Words). Agrees (newChecks w t new) (knownRow w t x ∷ tieRow w t x ∷ fullRow w t x ∷ [])) same
+      (rows-then _ _ (knownRow w t new ∷ []) _ (known-row new) (room-rows new e))))
+      (λ f. subst (λ (x : Words). Agrees (placeChecks w t new) (crossedRow w t x ∷ [])) same
+      (place-rows new e (or-else-pass (checkKnown w t new) _ .0 (or-else-pass (checkGiven w given) (newChecks w t new) .0 f .1) .0))))
+    where
+      new : Words
+      new = ruleWords w (ranked w given)
+
+      own : Words
+      own = word (recordOf w (ranked w given))
+
+      same : new ≡ own
+      same = rule-words w (ranked w given)
 
   -- check 7
   holds-law : (id i : ℕ) → hasId w t id i ≡ true → (occupied w (slotWords w t i) ≡ true) × (ident w (slotWords w t i) ≡ id)

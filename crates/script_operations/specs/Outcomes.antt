@@ -14,7 +14,7 @@ use Rattle.records.specs.declared.Check.{Check}
 use Rattle.records.specs.declared.Check.the-variants.{Pass, Fail}
 use Rattle.neighbours.specs.Neighbours.{insertChecks}
 use Rattle.delete_plans.specs.Deletes.{deleteChecks, deleteWords}
-use Rattle.insert_plans.specs.Inserts.{insertWords}
+use Rattle.insert_plans.specs.Inserts.{plannedWords}
 use Rattle.carrying.specs.Calls.{afterCalls}
 use Rattle.script_lines.specs.Blocks.{Outcome}
 use Rattle.script_printing.specs.PrintedLines.{printed}
@@ -36,7 +36,7 @@ changeOutcome t (Fail cause spot) words after = refused t (causeNumber cause) sp
 
 -- `I id priority pattern action` inserts and carries out, under 1.3: a rule's rank is its priority
 unfoldable pub insertOutcome : List ℕ → Rule → Outcome (List ℕ)
-insertOutcome t rule = changeOutcome t (insertChecks 2 t (under13 rule)) (insertWords 2 t rule) (applyWords 2 t rule (insertWords 2 t rule))
+insertOutcome t rule = changeOutcome t (insertChecks 2 t (under13 rule)) (plannedWords 2 t rule) (applyWords 2 t rule (plannedWords 2 t rule))
 
 -- `D id`; its one write puts no rule in
 abbrev pub noRule : Rule

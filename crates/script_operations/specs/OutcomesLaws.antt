@@ -9,22 +9,21 @@ use lib.ListN.{length, getD, take, drop, length-append, length-drop}
 use native.Mathlib.Omega.{arith}
 use lib.Seq.{take-append-seam}
 use borrow.Author.Tests.{le-ltb}
-use Rattle.records.specs.Checks.{Told, causeNumber, success, refusal}
+use Rattle.records.specs.Checks.{Told, causeNumber, success, refusal, tableChecks}
 use Rattle.records.specs.Writes.{applyWords}
 use Rattle.records.specs.Editions.{under13, rankOf, ranked}
 use Rattle.records.specs.declared.Rule.{Rule}
 use Rattle.records.specs.declared.Check.{Check}
 use Rattle.records.specs.declared.Check.the-variants.{Pass, Fail}
-use Rattle.records.specs.Laws.{cause-not-zero, slot-checks-law, table-checks-law}
+use Rattle.records.specs.Laws.{cause-not-zero, or-else-pass, slot-checks-law, table-checks-law}
 use Rattle.records.specs.declared.Cause.{Cause}
 use Rattle.records.specs.EntriesLaws.{shaped-slots}
 use Rattle.buffers.specs.Buffers.{bufferAnswer, bufferAfter, checkRoom}
 use Rattle.buffers.specs.BuffersLaws.{buffer-refused, buffer-written}
 use Rattle.neighbours.specs.Neighbours.{insertChecks}
 use Rattle.delete_plans.specs.Deletes.{deleteChecks, deleteWords, deleteAnswer, deletePlan}
-use Rattle.insert_plans.specs.Inserts.{insertWords, insertAnswer, insertPlan}
-use Rattle.insert_plans.specs.InsertableLaws.{insertable-law}
-use Rattle.insert_plans.specs.Demand3Laws.{demand-3}
+use Rattle.insert_plans.specs.Inserts.{plannedWords, insertAnswer, insertPlan}
+use Rattle.insert_plans.specs.ReplacementsLaws.{planned-few}
 use Rattle.carrying.specs.Calls.{afterCalls}
 use Rattle.histories.specs.Demand2Laws.{demand-2-insert, demand-2-delete, carried-whole}
 use Rattle.script_lines.specs.Blocks.{Outcome}
@@ -80,12 +79,12 @@ told-is (Fail cause spot) words room long = rw (cause-not-zero cause)
 told-is Pass words room long = rw (le-ltb room (length words) (long refl))
 
 -- the plan of an insert has at most as many words as the table has slots
-insert-short : (t : List ℕ) (rule : Rule) → rule .action < 4294967296 → insertChecks 2 t (under13 rule) ≡ Pass → length (insertWords 2 t rule) ≤ 1024
-unfolding ranked rankOf
+insert-short : (t : List ℕ) (rule : Rule) → rule .action < 4294967296 → insertChecks 2 t (under13 rule) ≡ Pass → length (plannedWords 2 t rule) ≤ 1024
+unfolding ranked rankOf insertChecks
 insert-short t rule small e =
-    let p = insertable-law 2 t (under13 rule) .0 e in
-    let shape = slot-checks-law 2 t .0 (table-checks-law 2 t .0 (p .insertable .table) .0) .0 in
-    omega (arith, demand-3 2 t (under13 rule) small p [] .few, shaped-slots 2 t shape .1)
+    let table = or-else-pass (tableChecks 2 t) _ .0 e .0 in
+    let shape = slot-checks-law 2 t .0 (table-checks-law 2 t .0 table .0) .0 in
+    omega (arith, planned-few 2 t (under13 rule) small e, shaped-slots 2 t shape .1)
 
 -- an I line
 pub insert-is : (t : List ℕ) (rule : Rule) (plan plan′ : List ℕ) (told : Told) → rule .action < 4294967296 → length plan ≡ 1024
@@ -93,7 +92,7 @@ pub insert-is : (t : List ℕ) (rule : Rule) (plan plan′ : List ℕ) (told : T
     → WithinRoom told (length plan′) × (planOutcome told t plan′ rule ≡ insertOutcome t rule)
 unfolding insertOutcome ranked rankOf
 insert-is t rule plan plan′ told small n e f =
-    let words = insertWords 2 t rule in
+    let words = plannedWords 2 t rule in
     let long : insertChecks 2 t (under13 rule) ≡ Pass → length words ≤ length plan = λ p. omega (arith, insert-short t rule small p, n) in
     let r = plan-is t rule (insertChecks 2 t (under13 rule)) words plan (applyWords 2 t rule words) long
     (λ p. carried-whole (demand-2-insert 2 t (under13 rule) plan (length words) small (sym (buffer-written words plan refl p (long p) .0)))) in
@@ -103,7 +102,7 @@ pub insert-told : (t : List ℕ) (rule : Rule) (room : ℕ) (told : Told) → ru
     → told ≡ insertAnswer 2 t (under13 rule) room → plannedTold told ≡ insertTold t rule
 unfolding insertTold ranked rankOf
 insert-told t rule room told small n e =
-    ap plannedTold e ∙ told-is (insertChecks 2 t (under13 rule)) (insertWords 2 t rule) room (λ p. omega (arith, insert-short t rule small p, n))
+    ap plannedTold e ∙ told-is (insertChecks 2 t (under13 rule)) (plannedWords 2 t rule) room (λ p. omega (arith, insert-short t rule small p, n))
 
 -- a D line
 pub delete-is : (t : List ℕ) (id : ℕ) (plan plan′ : List ℕ) (told : Told) → length plan ≡ 1024

@@ -12,7 +12,7 @@ use Rattle.records.specs.declared.Check.{Check}
 use Rattle.records.specs.declared.Check.the-variants.{Pass, Fail}
 use Rattle.neighbours.specs.Neighbours.{insertChecks}
 use Rattle.delete_plans.specs.Deletes.{deleteChecks, deleteWords}
-use Rattle.insert_plans.specs.Inserts.{insertWords}
+use Rattle.insert_plans.specs.Inserts.{plannedWords}
 use Rattle.script_operations.specs.declared.LineAnswer.{LineAnswer}
 use Rattle.script_operations.specs.declared.LineAnswer.the-variants.{Made, Planned, Found, Miss, Refused}
 
@@ -38,7 +38,7 @@ changeTold Pass words = lettered 80 (success (length words ∷ []))
 changeTold (Fail cause spot) words = lettered 82 (refusal cause spot)
 
 unfoldable pub insertTold : List ℕ → Rule → LineTold
-insertTold t rule = changeTold (insertChecks 2 t (under13 rule)) (insertWords 2 t rule)
+insertTold t rule = changeTold (insertChecks 2 t (under13 rule)) (plannedWords 2 t rule)
 
 unfoldable pub deleteTold : List ℕ → ℕ → LineTold
 deleteTold t id = changeTold (deleteChecks 2 t id) (deleteWords 2 t id)

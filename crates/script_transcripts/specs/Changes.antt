@@ -11,7 +11,8 @@ use Rattle.records.specs.Editions.{under13}
 use Rattle.records.specs.declared.Rule.{Rule}
 use Rattle.neighbours.specs.Neighbours.{insertChecks}
 use Rattle.delete_plans.specs.Deletes.{deleteChecks}
-use Rattle.histories.specs.RuleSet.{Change, insert, delete}
+use Rattle.histories.specs.RuleSet.{Change, delete}
+use Rattle.histories.specs.Inserted.{insertChanges}
 use Rattle.histories.specs.Histories.{Reached}
 use Rattle.script_lines.specs.Lines.{nextNumber}
 use Rattle.script_commands.specs.Commands.{commandOf, insertedRule}
@@ -20,11 +21,11 @@ use Rattle.script_commands.specs.declared.Command.the-variants.{Table, Insert, 
 use Rattle.script_answers.specs.Answers.{hitBytes, missBytes}
 use Rattle.script.specs.Script.{lineOutcome}
 
--- the changes accepted since the last good T, the latest first, after one command more: a good T starts anew, an accepted insert and an
--- accepted delete are changes, anything else keeps them
+-- the changes accepted since the last good T, the latest first, after one command more: a good T starts anew, an accepted insert, with
+-- the rule that it replaces, and an accepted delete are changes, anything else keeps them
 abbrev pub historyAfter : List ℕ → List Change → Command → List Change
 historyAfter t history (Table new) = cond (leb 1 (new .slots) && leb (new .slots) 1024) [] history
-historyAfter t history (Insert insertion) = cond (passes (insertChecks 2 t (under13 (insertedRule insertion)))) (insert (insertedRule insertion) ∷ history) history
+historyAfter t history (Insert insertion) = cond (passes (insertChecks 2 t (under13 (insertedRule insertion)))) (insertChanges 2 t (insertedRule insertion) history) history
 historyAfter t history (Delete deletion) = cond (passes (deleteChecks 2 t (deletion .id))) (delete (deletion .id) ∷ history) history
 historyAfter t history (Lookup query) = history
 historyAfter t history Malformed = history

@@ -26,8 +26,9 @@ use Rattle.lookups.specs.Lookup.{lookupAnswer, hitAt, Case, refusedBy, hit, mis
 use Rattle.lookups.specs.LookupLaws.{lookup-cases, lookup-hit, lookup-miss, lookup-refused}
 use Rattle.neighbours.specs.Neighbours.{insertChecks}
 use Rattle.delete_plans.specs.Deletes.{deleteChecks, deleteWords}
-use Rattle.insert_plans.specs.Inserts.{insertWords}
-use Rattle.histories.specs.RuleSet.{Change, insert, delete, ruleSet, highestMatch, ruleReply}
+use Rattle.insert_plans.specs.Inserts.{plannedWords}
+use Rattle.histories.specs.RuleSet.{Change, delete, ruleSet, highestMatch, ruleReply}
+use Rattle.histories.specs.Inserted.{insertChanges}
 use Rattle.histories.specs.Histories.{Reached, emptyTable}
 use Rattle.histories.specs.Demand2Laws.{demand-2-insert, demand-2-delete, carried-whole}
 use Rattle.histories.specs.HistoriesLaws.{reached-sound, reached-lookup, reached-insert, reached-delete}
@@ -120,16 +121,16 @@ delete-none id = rw (none-deletes id)
 module _ (history : List Change) (t : List ℕ) (reached : Reached 2 history t) where
   -- the plan's own words are buffer enough, and as many calls as it has carry it out
   insert-reached : (rule : Rule) → rule .action < 4294967296 → (x : Check) → insertChecks 2 t (under13 rule) ≡ x
-      → Reached 2 (cond (passes (insertChecks 2 t (under13 rule))) (insert rule ∷ history) history) (insertOutcome t rule .table)
+      → Reached 2 (cond (passes (insertChecks 2 t (under13 rule))) (insertChanges 2 t rule history) history) (insertOutcome t rule .table)
   unfolding insertOutcome ranked rankOf
   insert-reached rule small (Fail cause spot) e = rw e reached
   insert-reached rule small Pass e =
-      let words = insertWords 2 t rule in
+      let words = plannedWords 2 t rule in
       let count = length words in
       let accepted = sym (buffer-written words words refl e (omega arith) .0) in
       let after = reached-insert reached (under13 rule) small words count accepted in
       let made = carried-whole (demand-2-insert 2 t (under13 rule) words count small accepted) in
-      let there : Reached 2 (insert rule ∷ history) (applyWords 2 t rule words) = subst (Reached 2 (insert rule ∷ history)) made after in
+      let there : Reached 2 (insertChanges 2 t rule history) (applyWords 2 t rule words) = subst (Reached 2 (insertChanges 2 t rule history)) made after in
       rw e there
 
   delete-reached : (id : ℕ) (x : Check) → deleteChecks 2 t id ≡ x
@@ -153,9 +154,9 @@ table-since history t since slots true e =
 table-since history t since slots false e = rw e since
 
 insert-since : (history : List Change) (t : List ℕ) → Since history t → (rule : Rule) → rule .action < 4294967296
-    → Since (cond (passes (insertChecks 2 t (under13 rule))) (insert rule ∷ history) history) (insertOutcome t rule .table)
+    → Since (cond (passes (insertChecks 2 t (under13 rule))) (insertChanges 2 t rule history) history) (insertOutcome t rule .table)
 insert-since history t (inl (e, f)) rule small =
-    subst (λ (u : List ℕ). Since (cond (passes (insertChecks 2 u (under13 rule))) (insert rule ∷ history) history) (insertOutcome u rule .table)) (sym e)
+    subst (λ (u : List ℕ). Since (cond (passes (insertChecks 2 u (under13 rule))) (insertChanges 2 u rule history) history) (insertOutcome u rule .table)) (sym e)
     (rw (none-inserts rule) (inl (ap (λ (x : Outcome (List ℕ)). x .table) (insert-none rule), f)))
 insert-since history t (inr reached) rule small = inr (insert-reached history t reached rule small (insertChecks 2 t (under13 rule)) refl)
 
@@ -282,7 +283,7 @@ unfolding insertOutcome deleteOutcome
 command-kept t number (Table new) e = table-kept t (new .slots) e
 command-kept t number (Insert insertion) e =
     let rule = insertedRule insertion in
-    change-kept t (insertChecks 2 t (under13 rule)) (insertWords 2 t rule) (applyWords 2 t rule (insertWords 2 t rule)) e
+    change-kept t (insertChecks 2 t (under13 rule)) (plannedWords 2 t rule) (applyWords 2 t rule (plannedWords 2 t rule)) e
 command-kept t number (Delete deletion) e =
     let id = deletion .id in
     change-kept t (deleteChecks 2 t id) (deleteWords 2 t id) (applyWords 2 t noRule (deleteWords 2 t id)) e

@@ -2,9 +2,9 @@
 -- printed; a T by check 1 of the table that it asks for; an L by its lookup.
 use mathlib.Core.Path.{_≡_, refl, sym, ap, ap₂, _∙_, subst}
 use mathlib.Core.Bool.{Bool, true, false, cond, _&&_}
-use mathlib.Core.Logic.{⊎-elim}
+use mathlib.Core.Logic.{_⊎_, inl, inr, ⊎-elim}
 use mathlib.Core.List.{List, [], _∷_, _++_, map, append-assoc}
-use Prim.Native.Nat.{ℕ, suc, _*_, _/_, _%_}
+use Prim.Native.Nat.{ℕ, suc, _*_, _/_, _%_, _<_}
 use native.Mathlib.Omega.{arith}
 use lib.Dec.{leb}
 use lib.ListN.{length, length-map, length-append, length-replicate}
@@ -19,6 +19,7 @@ use Rattle.records.specs.Writes.{applyWords}
 use Rattle.records.specs.Editions.{under13, rankOf, ranked}
 use Rattle.records.specs.Laws.{slot-checks-law, table-checks-law}
 use Rattle.records.specs.EntriesLaws.{shaped-slots}
+use Rattle.records.specs.declared.Rule.{Rule}
 use Rattle.records.specs.declared.Cause.the-variants.{Shape}
 use Rattle.records.specs.declared.Check.the-variants.{Pass, Fail}
 use Rattle.lookups.specs.Lookup.{lookupAnswer, hitAt, Case, refusedBy, hit, miss}
@@ -26,8 +27,11 @@ use Rattle.lookups.specs.LookupLaws.{lookup-cases, lookup-hit, lookup-miss, loo
 use Rattle.neighbours.specs.Neighbours.{insertChecks}
 use Rattle.delete_plans.specs.Deletes.{deleteChecks, deleteWords, hasId, slotOfId}
 use Rattle.delete_plans.specs.DeletesLaws.{delete-planned}
-use Rattle.insert_plans.specs.Inserts.{insertWords}
-use Rattle.insert_plans.specs.InsertableLaws.{insertable-law}
+use Rattle.insert_plans.specs.Inserts.{plannedWords}
+use Rattle.insert_plans.specs.Insertable.{InsertableGiven, ReplacingGiven}
+use Rattle.insert_plans.specs.InsertableLaws.{insertable-law, insertable-fresh}
+use Rattle.insert_plans.specs.InsertsLaws.{planned-fresh, planned-replaced}
+use Rattle.histories.specs.SoundnessLaws.{replacement-word}
 use Rattle.insert_plans.specs.Demand3Laws.{shortest-words}
 use Rattle.histories.specs.Histories.{emptyTable}
 use Rattle.script_lines.specs.Blocks.{Outcome}
@@ -91,18 +95,29 @@ parted-printed words (copies, slot, e) =
       lines = plan-lines words ∙ ap₂ (λ (n : ℕ) (x : List (List ℕ)). ended (countLine n ∷ x)) count (ap (map writeLine) e ∙ parted-lines copies slot);
     }
 
+-- an accepted insert's words are copies and then the put-in, of a replacement the put-in alone
+insert-parted : (t : List ℕ) (rule : Rule) → rule .action < 4294967296
+    → InsertableGiven 2 t (under13 rule) ⊎ ((s : ℕ) × ReplacingGiven 2 t (under13 rule) s) → Parted (map writeOf (plannedWords 2 t rule))
+unfolding Parted ranked rankOf
+insert-parted t rule small (inl p) =
+    let is = planned-fresh 2 t rule (insertable-fresh 2 t rule (p .insertable .new) (p .insertable .untied)) in
+    subst (λ (words : List ℕ). Parted (map writeOf words)) (sym is) (⊎-elim sequence-parted sequence-parted (shortest-words 2 t (under13 rule) small p .class))
+insert-parted t rule small (inr (s, p)) =
+    let is = planned-replaced 2 t rule s (p .replacing) in
+    let puts = replacement-word 2 t rule small s (p .replacing) in
+    subst (λ (words : List ℕ). Parted (map writeOf words)) (sym is) ([], s, ap (λ (x : Write). x ∷ []) puts)
+
 -- An accepted I line prints `P count`, a line for each write of its plan, in order, and makes these writes.
 pub insert-printed : (t : List ℕ) (number : ℕ) (line : List ℕ) (insertion : Insertion) → commandOf line ≡ Insert insertion
     → insertChecks 2 t (under13 (insertedRule insertion)) ≡ Pass
-    → InsertPrinted (insertWords 2 t (insertedRule insertion)) (lineOutcome t number line .printed)
-    × (lineOutcome t number line .table ≡ applyWords 2 t (insertedRule insertion) (insertWords 2 t (insertedRule insertion)))
+    → InsertPrinted (plannedWords 2 t (insertedRule insertion)) (lineOutcome t number line .printed)
+    × (lineOutcome t number line .table ≡ applyWords 2 t (insertedRule insertion) (plannedWords 2 t (insertedRule insertion)))
 unfolding insertOutcome ranked rankOf
 insert-printed t number line insertion e pass =
     let rule = insertedRule insertion in
     let small : Small (Insert insertion) = subst Small e (line-small line) in
-    let class = shortest-words 2 t (under13 rule) small (insertable-law 2 t (under13 rule) .0 pass) .class in
-    let parted = ⊎-elim sequence-parted sequence-parted class in
-    rw (e, pass) (parted-printed (insertWords 2 t rule) parted, refl)
+    let parted = insert-parted t rule small (insertable-law 2 t (under13 rule) .0 pass) in
+    rw (e, pass) (parted-printed (plannedWords 2 t rule) parted, refl)
 
 -- An accepted D line prints `P 1` and `E slot`, the slot of the rule to delete, and empties that slot.
 pub delete-printed : (t : List ℕ) (number : ℕ) (line : List ℕ) (deletion : Deletion) → commandOf line ≡ Delete deletion → deleteChecks 2 t (deletion .id) ≡ Pass

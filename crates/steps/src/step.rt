@@ -66,7 +66,7 @@ fn check_write(
     if let Check::Fail(cause, spot) = put {
         return Check::Fail(cause, spot);
     }
-    if word_fits(table, word, width) {
+    if word_fits(table, rule, edition, word, width) {
         return Check::Pass;
     }
     Check::Fail(Cause::Write, done)

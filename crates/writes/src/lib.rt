@@ -1,6 +1,7 @@
 // One write of a plan: whether it fits the table, and the table with it made.
 // A write is a plan word, taken apart in `plan_words`.
 use pairs::same_id;
+use pairs::same_pattern;
 use plan_words::PlanWrite;
 use plan_words::write_of;
 use records::WIDE_RECORD;
@@ -10,20 +11,21 @@ use slots::put_record;
 use slots::read_record;
 use slots::slot_count;
 use slots::slot_empty;
+use slots::slot_rank;
 ghost use mathlib.Core.Path.{_≡_};
 ghost use mathlib.Core.Bool.{true};
 ghost use Prim.Native.Nat.{_<_};
 ghost use lib.ListN.{length};
 ghost use Rattle.layout.specs.Write.{copy, put, clear};
 ghost use Rattle.plan_words.specs.PlanWords.{writeOf};
-ghost use Rattle.records.specs.Record.{recordWords, recordOf, putSlot};
-ghost use Rattle.records.specs.Order.{slots};
+ghost use Rattle.records.specs.Record.{word, recordWords, slotWords, recordOf, putSlot};
+ghost use Rattle.records.specs.Order.{slots, equalRule};
 ghost use Rattle.records.specs.Entries.{entryAt, vacant};
 ghost use Rattle.records.specs.Widths.{Width};
 ghost use Rattle.records.specs.Editions.{lentRule, ranked, checkGiven};
 ghost use Rattle.records.specs.declared.Check.the-variants.{Pass};
-ghost use Rattle.carrying.specs.Carrying.{putChecks};
-ghost use Rattle.records.specs.Writes.{heldAt, standsElsewhere, freeAt, fitsWrite, fitsWord, applyWord};
+ghost use Rattle.carrying.specs.Carrying.{putChecks, overEqual, fitsCarried};
+ghost use Rattle.records.specs.Writes.{heldAt, standsElsewhere, freeAt, fitsWrite, applyWord};
 
 // Whether another slot holds a slot's id.
 fn held_at(table: &[u64], slot: usize, other: usize, width: usize) -> bool
@@ -61,7 +63,7 @@ fn slot_free(table: &[u64], slot: usize, width: usize) -> bool
     stands_elsewhere(table, slot, width)
 }
 
-// Whether a rule may be put into a slot.
+// Whether a rule may be written to a slot, and none is lost.
 fn put_fits(table: &[u64], to: usize, width: usize) -> bool
     requires { ⌜ Width width ⌝ }
     ensures { λ r. ⌜ r ≡ fitsWrite width (now (table .entry)) (put to) ⌝ }
@@ -94,14 +96,50 @@ fn copy_fits(table: &[u64], from: usize, to: usize, width: usize) -> bool
     false
 }
 
-// Whether the write of a plan word fits.
-pub fn word_fits(table: &[u64], word: u32, width: usize) -> bool
-    requires { ⌜ Width width ⌝ }
-    ensures { λ r. ⌜ r ≡ fitsWord width (now (table .entry)) word ⌝ }
+// Whether a slot holds a rule of the same value, mask and rank as the rule given. Ranks first, as they tell most pairs apart.
+fn equal_to_given(table: &[u64], to: usize, rule: &[u64], edition: u32, width: usize) -> bool
+    requires { ⌜ (Width width) × (to < slots width (now table)) × (length (now rule) ≡ recordWords width) × (checkGiven width (lentRule width edition (now rule)) ≡ Pass) ⌝ }
+    ensures { λ r. ⌜ r ≡ equalRule width (slotWords width (now (table .entry)) to) (word (recordOf width (ranked width (lentRule width edition (now (rule .entry)))))) ⌝ }
+{
+    if slot_rank(table, to, width) != given_rank(rule, edition, width) {
+        return false;
+    }
+    if same_pattern(table, to, rule, 0, width) {
+        return !slot_empty(table, to, width);
+    }
+    false
+}
+
+// Whether a put-in would overwrite such a rule: the slot exists, and holds one.
+fn over_equal(table: &[u64], to: usize, rule: &[u64], edition: u32, width: usize) -> bool
+    requires { ⌜ (Width width) × (length (now rule) ≡ recordWords width) × (checkGiven width (lentRule width edition (now rule)) ≡ Pass) ⌝ }
+    ensures { λ r. ⌜ r ≡ overEqual width (now (table .entry)) (ranked width (lentRule width edition (now (rule .entry)))) to ⌝ }
+{
+    if to < slot_count(table, width) {
+        return equal_to_given(table, to, rule, edition, width);
+    }
+    false
+}
+
+// Whether the rule given may be put into a slot: over an equal one, or as any rule. The equal one first, which needs no search for copies.
+fn rule_fits(table: &[u64], to: usize, rule: &[u64], edition: u32, width: usize) -> bool
+    requires { ⌜ (Width width) × (length (now rule) ≡ recordWords width) × (checkGiven width (lentRule width edition (now rule)) ≡ Pass) ⌝ }
+    ensures { λ r. ⌜ r ≡ fitsCarried width (now (table .entry)) (ranked width (lentRule width edition (now (rule .entry)))) (put to) ⌝ }
+{
+    if over_equal(table, to, rule, edition, width) {
+        return true;
+    }
+    put_fits(table, to, width)
+}
+
+// Whether the write of a plan word fits; a rule that is put in is sound, and its edition one that there is.
+pub fn word_fits(table: &[u64], rule: &[u64], edition: u32, word: u32, width: usize) -> bool
+    requires { ⌜ (Width width) × (length (now rule) ≡ recordWords width) × (putChecks width (lentRule width edition (now rule)) (writeOf word) ≡ Pass) ⌝ }
+    ensures { λ r. ⌜ r ≡ fitsCarried width (now (table .entry)) (ranked width (lentRule width edition (now (rule .entry)))) (writeOf word) ⌝ }
 {
     match write_of(word) {
         PlanWrite::Copy(from, to) => copy_fits(table, from as usize, to as usize, width),
-        PlanWrite::PutIn(to) => put_fits(table, to as usize, width),
+        PlanWrite::PutIn(to) => rule_fits(table, to as usize, rule, edition, width),
         PlanWrite::Clear(slot) => rule_in(table, slot as usize, width),
     }
 }
@@ -138,7 +176,7 @@ fn put_rule(table: &mut [u64], to: usize, rule: &[u64], edition: u32, width: usi
 
 // Makes the write of a plan word that fits; a rule that is put in is sound, and its edition one that there is.
 pub fn make_write(table: &mut [u64], rule: &[u64], edition: u32, word: u32, width: usize)
-    requires { ⌜ (Width width) × (length (now rule) ≡ recordWords width) × (fitsWord width (now table) word ≡ true) ⌝ }
+    requires { ⌜ (Width width) × (length (now rule) ≡ recordWords width) × (fitsCarried width (now table) (ranked width (lentRule width edition (now rule))) (writeOf word) ≡ true) ⌝ }
     requires { ⌜ putChecks width (lentRule width edition (now rule)) (writeOf word) ≡ Pass ⌝ }
     ensures { λ _. ⌜ now (table .exit) ≡ applyWord width (now (table .entry)) (ranked width (lentRule width edition (now (rule .entry)))) word ⌝ }
 {

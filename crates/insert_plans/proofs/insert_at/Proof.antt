@@ -8,7 +8,7 @@ use Rattle.records.specs.Editions.{lentRule, ranked}
 use Rattle.records.specs.Laws.{failed}
 use Rattle.buffers.specs.BuffersLaws.{buffer-refused}
 use Rattle.neighbours.specs.Neighbours.{insertChecks}
-use Rattle.insert_plans.specs.Inserts.{insertWords}
+use Rattle.insert_plans.specs.Inserts.{plannedWords}
 use Rattle.insert_plans.proofs.insert_at.Statement.{statement}
 use Rattle.insert_plans.proofs.insert_at.Tie as tie
 
@@ -25,7 +25,7 @@ returns : tie.Need-returns
 unfolding insertChecks
 returns c =
     let a = c .before .before .before .before .before .before .before .before .before .args in
-    buffer-refused (insertWords (a .mode .width) (now (a .table)) (ranked (a .mode .width) (lentRule (a .mode .width) (a .edition) (now (a .rule))))) (now (a .plan))
+    buffer-refused (plannedWords (a .mode .width) (now (a .table)) (ranked (a .mode .width) (lentRule (a .mode .width) (a .edition) (now (a .rule))))) (now (a .plan))
     (failed _ (c .before .before .before .before .check-listed .ensures .0) (c .before .check .given .1)) refl
 
 enum-told : tie.Need-enum-told

@@ -1,53 +1,100 @@
 -- `insert_plans::plan_listed` meets its contract.
--- 5 or 18 refuses; else the rule is planned with its rank.
-use mathlib.Core.Path.{refl, sym, _∙_}
+-- The front of the working record is the rule's record with its rank, unless the rule is declined.
+use mathlib.Core.Path.{_≡_, sym, ap, _∙_, subst}
+use mathlib.Core.List.{List}
+use Prim.Native.Nat.{ℕ}
+use native.Mathlib.Nat.{sub-zero}
+use native.Mathlib.Omega.{arith}
+use lib.ListN.{length, length-append}
+use lib.Seq.{take-at}
 use denote.Ref.{now}
 use borrow.Author.Needs.{needs}
-use Rattle.records.specs.Laws.{failed, passed}
-use Rattle.records.specs.Editions.{lentRule, ranked}
-use Rattle.buffers.specs.BuffersLaws.{buffer-refused}
-use Rattle.neighbours.specs.Neighbours.{insertChecks}
-use Rattle.insert_plans.specs.Inserts.{insertWords}
+use Rattle.records.specs.Record.{recordWords, slotWords}
+use Rattle.table_checks.specs.SlotsLaws.{table-few}
+use Rattle.neighbours.specs.Neighbours.{FoundIn}
+use Rattle.insert_plans.specs.InsertsLaws.{lent-finite, lent-ranked, lent-found}
 use Rattle.insert_plans.proofs.plan_listed.Statement.{statement}
 use Rattle.insert_plans.proofs.plan_listed.Tie as tie
 
-check-given-requires : tie.Need-check-given-requires
-check-given-requires c κs = search needs
+record-words-requires : tie.Need-record-words-requires
+record-words-requires c κs = search needs
 
-enum-known-given : tie.Need-enum-known-given
-enum-known-given c = search needs
+sub-check-for-insert : tie.Need-sub-check-for-insert
+sub-check-for-insert c = search needs
 
-returns : tie.Need-returns
-unfolding insertChecks
-returns c =
-    let s = c .before .before .before .before .before .before .before .before in
+part-ranked-start : tie.Need-part-ranked-start
+part-ranked-start c = search needs
+
+part-ranked-end : tie.Need-part-ranked-end
+part-ranked-end c = search needs
+
+check-for-insert-requires : tie.Need-check-for-insert-requires
+check-for-insert-requires c κs =
+    let s = c .before .before .before .before .before .before in
+    (s .pre .0 .0, table-few (s .args .mode .width) (now (s .args .table)) (s .pre .0 .1), s .pre .1, search needs)
+
+sub-plan-checked : tie.Need-sub-plan-checked
+sub-plan-checked c = search needs
+
+part-plan-checked-start : tie.Need-part-plan-checked-start
+part-plan-checked-start c = search needs
+
+part-plan-checked-end : tie.Need-part-plan-checked-end
+part-plan-checked-end c =
+    let w = c .before .before .before .before .before .before .before .before .before .args .mode .width in
+    let long : length (c .before .before .check-for-insert .last .1 .1 .1 .0) ≡ recordWords w = search needs in
+    simp length-append (omega (arith, long, c .before .before .before .before .record-words .ensures))
+
+plan-checked-requires : tie.Need-plan-checked-requires
+plan-checked-requires c κs =
+    let s = c .before .before .before .before .before .before .before .before .before .before .before in
     let a = s .args in
     let w = a .mode .width in
-    buffer-refused (insertWords w (now (a .table)) (ranked w (lentRule w (a .edition) (now (a .rule))))) (now (a .plan))
-    (passed refl (s .pre .0 .1) (failed _ (c .before .before .before .check-given .ensures) (c .before .given .given .1))) refl
-
-enum-told : tie.Need-enum-told
-enum-told c = search needs
-
-plan-given-requires : tie.Need-plan-given-requires
-plan-given-requires c κs =
-    let s = c .before .before .before .before .before .before .before .before in
-    (s .pre .0, (s .pre .1, sym (c .before .before .before .check-given .ensures) ∙ c .before .enum-told .given .1))
+    let t = now (a .table) in
+    let lent = now (a .rule) in
+    let called = c .before .before .before .before .check-for-insert in
+    let number = c .before .before .before .before .before .before .record-words in
+    let long : length (called .last .1 .1 .1 .0) ≡ recordWords w = search needs in
+    let front = take-at _ _ _ (long ∙ (sym (number .ensures) ∙ sym (sub-zero (number .result)))) in
+    let ranks = lent-ranked w (a .edition) t lent _ _ (called .ensures .0) (called .ensures .1 .0) in (
+      s .pre .0,
+      (
+        (ap length front ∙ long, subst (λ (l : List ℕ). FoundIn w t (slotWords w l 0) (called .result)) (sym front) (called .ensures .1 .1)),
+        λ pass. lent-finite w (a .edition) t lent _ (s .pre .0 .1) (s .pre .1) (sym (called .ensures .0) ∙ pass) (front ∙ ranks pass),
+      ),
+    )
 
 same-length : tie.Need-same-length
 same-length c = search needs
 
-returns-2 : tie.Need-returns-2
-returns-2 c = search needs
+returns : tie.Need-returns
+returns c =
+    let s = c .before .before .before .before .before .before .before .before .before .before .before .before .before .before in
+    let a = s .args in
+    let w = a .mode .width in
+    let t = now (a .table) in
+    let lent = now (a .rule) in
+    let called = c .before .before .before .before .before .before .before .check-for-insert in
+    let number = c .before .before .before .before .before .before .before .before .before .record-words in
+    let long : length (called .last .1 .1 .1 .0) ≡ recordWords w = search needs in
+    let front = take-at _ _ _ (long ∙ (sym (number .ensures) ∙ sym (sub-zero (number .result)))) in
+    let ranks = lent-ranked w (a .edition) t lent _ _ (called .ensures .0) (called .ensures .1 .0) in
+    let answered = lent-found w (a .edition) t lent _ (now (a .plan)) (s .pre .0 .1) (s .pre .1) _ (called .ensures .0) (λ pass. front ∙ ranks pass) in
+    let planned = c .before .before .plan-checked .ensures in
+    (planned .0 ∙ answered .0, planned .1 ∙ answered .1)
 
 pub plan-listed-spec : {M : Type 1} → statement M
 plan-listed-spec =
     tie.close
     (tie.spec
-    check-given-requires
-    enum-known-given
-    returns
-    enum-told
-    plan-given-requires
+    record-words-requires
+    sub-check-for-insert
+    part-ranked-start
+    part-ranked-end
+    check-for-insert-requires
+    sub-plan-checked
+    part-plan-checked-start
+    part-plan-checked-end
+    plan-checked-requires
     same-length
-    returns-2)
+    returns)

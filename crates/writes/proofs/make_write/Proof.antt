@@ -25,7 +25,7 @@ cast-copy-slot-2 c = search needs
 copy-slot-requires : tie.Need-copy-slot-requires
 copy-slot-requires c κs =
     let s = c .before .before .before .before .before .before .before in
-    let below = write-below (s .args .width) (now (s .args .table)) (s .args .word) (write-taken (c .before .before .before .before .write-of .ensures) (c .before .before .from .given .1)) (s .pre .0 .2) in
+    let below = write-below (s .args .width) (now (s .args .table)) (s .args .word) (write-taken (c .before .before .before .before .write-of .ensures) (c .before .before .from .given .1)) (ranked (s .args .width) (lentRule (s .args .width) (s .args .edition) (now (s .args .rule)))) (s .pre .0 .2) in
     (s .pre .0 .0, below .0, below .1)
 
 enum-known-to : tie.Need-enum-known-to
@@ -37,7 +37,7 @@ cast-put-rule c = search needs
 put-rule-requires : tie.Need-put-rule-requires
 put-rule-requires c κs =
     let s = c .before .before .before .before .before .before .before in
-    let below = write-below (s .args .width) (now (s .args .table)) (s .args .word) (write-taken (c .before .before .before .before .write-of .ensures) (c .before .before .to .given .1)) (s .pre .0 .2) in
+    let below = write-below (s .args .width) (now (s .args .table)) (s .args .word) (write-taken (c .before .before .before .before .write-of .ensures) (c .before .before .to .given .1)) (ranked (s .args .width) (lentRule (s .args .width) (s .args .edition) (now (s .args .rule)))) (s .pre .0 .2) in
     ((s .pre .0 .0, below, s .pre .0 .1), ap (putChecks (s .args .width) (lentRule (s .args .width) (s .args .edition) (now (s .args .rule)))) (write-taken (c .before .before .before .before .write-of .ensures) (c .before .before .to .given .1)) ∙ s .pre .1)
 
 enum-known-slot : tie.Need-enum-known-slot
@@ -49,7 +49,7 @@ cast-clear-slot c = search needs
 clear-slot-requires : tie.Need-clear-slot-requires
 clear-slot-requires c κs =
     let s = c .before .before .before .before .before .before .before in
-    let below = write-below (s .args .width) (now (s .args .table)) (s .args .word) (write-taken (c .before .before .before .before .write-of .ensures) (c .before .before .slot .given .1)) (s .pre .0 .2) in
+    let below = write-below (s .args .width) (now (s .args .table)) (s .args .word) (write-taken (c .before .before .before .before .write-of .ensures) (c .before .before .slot .given .1)) (ranked (s .args .width) (lentRule (s .args .width) (s .args .edition) (now (s .args .rule)))) (s .pre .0 .2) in
     (s .pre .0 .0, below)
 
 same-length : tie.Need-same-length

@@ -1,9 +1,11 @@
 -- `writes::word_fits` meets its contract.
 -- Each kind of write has its test.
-use mathlib.Core.Path.{_∙_}
+use mathlib.Core.Path.{ap, _∙_}
 use denote.Ref.{now}
 use borrow.Author.Needs.{needs}
 use Rattle.plan_words.specs.PlanWordsLaws.{write-taken}
+use Rattle.records.specs.Editions.{lentRule, ranked}
+use Rattle.carrying.specs.Carrying.{putChecks}
 use Rattle.carrying.specs.StepsLaws.{write-fitting}
 use Rattle.writes.proofs.word_fits.Statement.{statement}
 use Rattle.writes.proofs.word_fits.Tie as tie
@@ -26,11 +28,14 @@ copy-fits-requires c κs = search needs
 enum-known-to : tie.Need-enum-known-to
 enum-known-to c = search needs
 
-cast-put-fits : tie.Need-cast-put-fits
-cast-put-fits c = search needs
+cast-rule-fits : tie.Need-cast-rule-fits
+cast-rule-fits c = search needs
 
-put-fits-requires : tie.Need-put-fits-requires
-put-fits-requires c κs = search needs
+rule-fits-requires : tie.Need-rule-fits-requires
+rule-fits-requires c κs =
+    let s = c .before .before .before .before .before .before in
+    let taken = write-taken (c .before .before .before .write-of .ensures) (c .before .to .given .1) in
+    (s .pre .0, s .pre .1, ap (putChecks (s .args .width) (lentRule (s .args .width) (s .args .edition) (now (s .args .rule)))) taken ∙ s .pre .2)
 
 enum-known-slot : tie.Need-enum-known-slot
 enum-known-slot c = search needs
@@ -42,13 +47,22 @@ rule-in-requires : tie.Need-rule-in-requires
 rule-in-requires c κs = search needs
 
 returns : tie.Need-returns
-returns c = c .copy-fits .ensures ∙ write-fitting (c .before .before .before .before .before .before .args .width) (now (c .before .before .before .before .before .before .args .table)) (c .before .before .before .before .before .before .args .word) (write-taken (c .before .before .before .before .write-of .ensures) (c .before .before .from .given .1))
+returns c =
+    let a = c .before .before .before .before .before .before .before .args in
+    c .copy-fits .ensures
+    ∙ write-fitting (a .width) (now (a .table)) (a .word) (write-taken (c .before .before .before .before .write-of .ensures) (c .before .before .from .given .1)) (ranked (a .width) (lentRule (a .width) (a .edition) (now (a .rule))))
 
 returns-2 : tie.Need-returns-2
-returns-2 c = c .put-fits .ensures ∙ write-fitting (c .before .before .before .before .before .before .args .width) (now (c .before .before .before .before .before .before .args .table)) (c .before .before .before .before .before .before .args .word) (write-taken (c .before .before .before .before .write-of .ensures) (c .before .before .to .given .1))
+returns-2 c =
+    let a = c .before .before .before .before .before .before .before .args in
+    c .rule-fits .ensures
+    ∙ write-fitting (a .width) (now (a .table)) (a .word) (write-taken (c .before .before .before .before .write-of .ensures) (c .before .before .to .given .1)) (ranked (a .width) (lentRule (a .width) (a .edition) (now (a .rule))))
 
 returns-3 : tie.Need-returns-3
-returns-3 c = c .rule-in .ensures ∙ write-fitting (c .before .before .before .before .before .before .args .width) (now (c .before .before .before .before .before .before .args .table)) (c .before .before .before .before .before .before .args .word) (write-taken (c .before .before .before .before .write-of .ensures) (c .before .before .slot .given .1))
+returns-3 c =
+    let a = c .before .before .before .before .before .before .before .args in
+    c .rule-in .ensures
+    ∙ write-fitting (a .width) (now (a .table)) (a .word) (write-taken (c .before .before .before .before .write-of .ensures) (c .before .before .slot .given .1)) (ranked (a .width) (lentRule (a .width) (a .edition) (now (a .rule))))
 
 pub word-fits-spec : {M : Type 1} → statement M
 word-fits-spec =
@@ -60,8 +74,8 @@ word-fits-spec =
     cast-copy-fits-2
     copy-fits-requires
     enum-known-to
-    cast-put-fits
-    put-fits-requires
+    cast-rule-fits
+    rule-fits-requires
     enum-known-slot
     cast-rule-in
     rule-in-requires

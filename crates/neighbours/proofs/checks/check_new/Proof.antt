@@ -1,7 +1,13 @@
 -- `neighbours::checks::check_new` meets its contract.
--- Each check is made where those before it pass.
+-- Where 8 or 9 would decline, the rule that is replaced decides.
+use mathlib.Core.Path.{sym, _∙_}
+use Prim.{tt}
+use denote.Ref.{now}
 use borrow.Author.Needs.{needs}
-use Rattle.records.specs.Laws.{failed, passed}
+use Rattle.records.specs.Record.{slotWords}
+use Rattle.records.specs.Laws.{failed}
+use Rattle.neighbours.specs.Neighbours.{newChecks}
+use Rattle.neighbours.specs.NeighboursLaws.{new-passed, new-replaces, new-declined, new-adds}
 use Rattle.neighbours.proofs.checks.check_new.Statement.{statement}
 use Rattle.neighbours.proofs.checks.check_new.Tie as tie
 
@@ -12,28 +18,58 @@ enum-known-known : tie.Need-enum-known-known
 enum-known-known c = search needs
 
 returns : tie.Need-returns
-returns c = failed _ (c .before .before .before .check-known .ensures) (c .before .known .given .1)
+unfolding newChecks
+returns c = (failed _ (c .before .before .before .check-known .ensures) (c .before .known .given .1), tt)
 
 enum-told : tie.Need-enum-told
 enum-told c = search needs
 
-check-tie-requires : tie.Need-check-tie-requires
-check-tie-requires c κs = search needs
+check-tie-full-requires : tie.Need-check-tie-full-requires
+check-tie-full-requires c κs = search needs
 
-enum-known-tie : tie.Need-enum-known-tie
-enum-known-tie c = search needs
+enum-known-room : tie.Need-enum-known-room
+enum-known-room c = search needs
+
+replaced-slot-requires : tie.Need-replaced-slot-requires
+replaced-slot-requires c κs = search needs
+
+slot-count-requires : tie.Need-slot-count-requires
+slot-count-requires c κs = search needs
+
+cast-t13 : tie.Need-cast-t13
+cast-t13 c = search needs
 
 returns-2 : tie.Need-returns-2
-returns-2 c = passed (c .before .before .before .before .before .before .check-known .ensures) (c .before .before .before .before .enum-told .given .1) (failed _ (c .before .before .before .check-tie .ensures) (c .before .tie .given .1))
+returns-2 c =
+    let r = c .before .before .before in
+    let a = r .before .before .before .before .before .before .before .before .before .args in
+    let law = new-replaces (a .mode .width) (now (a .table)) (slotWords (a .mode .width) (now (a .new)) 0)
+    (rw (c .before .before .replaced-slot .ensures, c .before .slot-count .ensures) at (c .if1 .taken))
+    (sym (r .before .before .before .before .before .before .check-known .ensures) ∙ r .before .before .before .before .enum-told .given .1) in
+    (law .0, (c .before .before .replaced-slot .ensures, law .1))
+
+returns-3 : tie.Need-returns-3
+returns-3 c =
+    let r = c .before .before .before in
+    let a = r .before .before .before .before .before .before .before .before .before .args in (
+      sym (r .before .room .given .1) ∙ (r .before .before .before .check-tie-full .ensures
+          ∙ new-declined (a .mode .width) (now (a .table)) (slotWords (a .mode .width) (now (a .new)) 0)
+          (rw (c .before .before .replaced-slot .ensures, c .before .slot-count .ensures) at (c .if1 .left))
+          (sym (r .before .before .before .before .before .before .check-known .ensures) ∙ r .before .before .before .before .enum-told .given .1)),
+      tt,
+    )
 
 enum-told-2 : tie.Need-enum-told-2
 enum-told-2 c = search needs
 
-check-full-requires : tie.Need-check-full-requires
-check-full-requires c κs = search needs
-
-returns-3 : tie.Need-returns-3
-returns-3 c = passed (c .before .before .before .before .before .before .check-known .ensures) (c .before .before .before .before .enum-told .given .1) (passed (c .before .before .before .check-tie .ensures) (c .before .enum-told2 .given .1) (c .check-full .ensures))
+returns-4 : tie.Need-returns-4
+returns-4 c =
+    let a = c .before .before .before .before .before .before .before .before .args in
+    let new = slotWords (a .mode .width) (now (a .new)) 0 in
+    let known = sym (c .before .before .before .before .before .check-known .ensures) ∙ c .before .before .before .enum-told .given .1 in (
+      new-passed (a .mode .width) (now (a .table)) new (c .before .before .check-tie-full .ensures) (c .enum-told2 .given .1) known,
+      new-adds (a .mode .width) (now (a .table)) new (c .before .before .check-tie-full .ensures) (c .enum-told2 .given .1) known,
+    )
 
 pub check-new-spec : {M : Type 1} → statement M
 check-new-spec =
@@ -43,9 +79,12 @@ check-new-spec =
     enum-known-known
     returns
     enum-told
-    check-tie-requires
-    enum-known-tie
+    check-tie-full-requires
+    enum-known-room
+    replaced-slot-requires
+    slot-count-requires
+    cast-t13
     returns-2
+    returns-3
     enum-told-2
-    check-full-requires
-    returns-3)
+    returns-4)

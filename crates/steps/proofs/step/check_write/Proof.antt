@@ -1,5 +1,6 @@
 -- `steps::step::check_write` meets its contract.
 -- The rule is looked at where one is put in, then the write.
+use mathlib.Core.Path.{sym, _∙_}
 use borrow.Author.Needs.{needs}
 use Rattle.carrying.specs.StepsLaws.{write-declined, write-fits, write-unfit}
 use Rattle.steps.proofs.step.check_write.Statement.{statement}
@@ -18,7 +19,9 @@ enum-told : tie.Need-enum-told
 enum-told c = search needs
 
 word-fits-requires : tie.Need-word-fits-requires
-word-fits-requires c κs = search needs
+word-fits-requires c κs =
+    let s = c .before .before .before .before .before in
+    (s .pre .0, s .pre .1, sym (c .before .before .check-put .ensures) ∙ c .enum-told .given .1)
 
 returns-2 : tie.Need-returns-2
 returns-2 c = write-fits _ _ _ _ _ (c .before .before .before .before .check-put .ensures) (c .before .before .enum-told .given .1) (c .before .word-fits .ensures) (c .if1 .taken)
