@@ -61,11 +61,17 @@
  * are made one at a time, from the first word to the last, on the table it was drawn for, with the rule and the edition
  * it was drawn for. A key's reply is id and action, or a miss; its slot may change as rules move.
  *
- * Of an insert's plan no write goes over a rule that has no other copy, and the table is in order after each
- * write. Every key keeps its reply until the last write. After that each old rule stands in one slot and the
- * new one too, and every key has the reply of these rules: that of the highest-ranked match among them, or a
- * miss. In the middle of the plan one of the old rules may stand in two slots: no planning call takes such a
- * table, nor does tcam_save; tcam_lookup, tcam_slot_record and tcam_carry_out do.
+ * A RULE SENT AGAIN. Two rules are equal when they have the same value, mask and rank; ids and actions are not looked
+ * at, and an empty slot is equal to no rule. As in OpenFlow, an insert of a rule of a new id that is equal to one
+ * present replaces that one: the plan is one write, which puts the new rule over the old one, even in a table without
+ * an empty slot. The old rule then counts as deleted. Under edition 10 all rules without wildcards have one rank,
+ * whatever their priorities; a rule put in under 10 is not equal to the same one given under 13 if it has no wildcards.
+ *
+ * Of an insert's plan no write goes over a rule that has no other copy, but for one that is replaced, and the table
+ * is in order after each write. Every key keeps its reply until the last write. After that each old rule, but for one
+ * that is replaced, stands in one slot and the new one too, and every key has the reply of these rules: that of the
+ * highest-ranked match among them, or a miss. In the middle of the plan one of the old rules may stand in two slots:
+ * no planning call takes such a table, nor does tcam_save; tcam_lookup, tcam_slot_record and tcam_carry_out do.
  *
  * A delete's plan is one write. It empties the slot of a rule that has no other copy. Before it every key has
  * its old reply. After it the table is in order, each other rule stands in its one slot as before, and every
@@ -131,7 +137,7 @@
  *     tcam_lookup             288       288
  *     tcam_slot_record        128       128
  *     tcam_plan_delete     24,640    24,640
- *     tcam_carry_out          304       304
+ *     tcam_carry_out          320       320
  *     tcam_plan_insert     30,976    30,976, or 10,752 and 96 for each word of the plan, where that is more
  *     tcam_save            24,704    24,704
  *     tcam_load            74,112   123,264
@@ -200,8 +206,8 @@ enum tcam_cause {
     TCAM_RULE = 5,       /* the rule given is unsound: plan_insert, carry_out. The id to delete is 0: plan_delete */
     TCAM_KNOWN = 6,      /* the id to insert is present. plan_insert */
     TCAM_UNKNOWN = 7,    /* the id to delete is absent. plan_delete */
-    TCAM_TIE = 8,        /* the rule overlaps one of equal rank. plan_insert */
-    TCAM_FULL = 9,       /* no slot is empty. plan_insert */
+    TCAM_TIE = 8,        /* the rule overlaps one of equal rank, and replaces none. plan_insert */
+    TCAM_FULL = 9,       /* no slot is empty, and the rule replaces none. plan_insert */
     TCAM_CROSSED = 10,   /* a rule that depends on the new one stands before one that precedes it. plan_insert */
     TCAM_SHORT = 11,     /* the plan or image buffer is too short. plan_insert, plan_delete, save */
     TCAM_WRITE = 12,     /* the progress record or the next write does not fit. carry_out */
@@ -271,10 +277,16 @@ uint32_t tcam_slot_record(const uint64_t *table, size_t words, uint32_t width, u
  *   count             cell for the number of words that the call wrote
  *   spot              cell for a refusal's spot
  *
- * Result TCAM_OK: the plan is the words 0 to *count - 1 of the buffer. The new rule goes to a slot; the rule
- * that stands there goes to another, the one that stands there to a third, and so on to an empty slot. This is
- * the chain, and all of it goes toward higher slots or all toward lower ones. The plan copies its rules, the
- * far end first, so that each slot is free when its turn comes; the last word puts the new rule in.
+ * Result TCAM_OK: the plan is the words 0 to *count - 1 of the buffer.
+ *
+ * Where the table has a rule of the new one's value, mask and rank, the new one replaces it: *count is 1, and word 0
+ * puts the new rule into the slot of that rule, even where no slot is empty. The next two paragraphs are of all other
+ * rules.
+ *
+ * The new rule goes to a slot; the rule that stands there goes to another, the one that stands there to a third, and so
+ * on to an empty slot. This is the chain, and all of it goes toward higher slots or all toward lower ones. The plan
+ * copies its rules, the far end first, so that each slot is free when its turn comes; the last word puts the new rule
+ * in.
  *
  * *count is at least 1 and at most the number of slots, so that a buffer of as many words as the table has
  * slots always does. It is the least number of writes in this class of sequences: those that copy rules
@@ -303,6 +315,7 @@ uint32_t tcam_slot_record(const uint64_t *table, size_t words, uint32_t width, u
  *                 refused even where some sequence of writes would do. *spot is the highest slot with a rule
  *                 that precedes the new one.
  *   TCAM_SHORT    plan_words is less than the count. *spot is the count: the words needed.
+ * TCAM_TIE, TCAM_FULL and TCAM_CROSSED are asked only of a rule that replaces none.
  */
 uint32_t tcam_plan_insert(const uint64_t *table, size_t words, uint32_t width, const uint64_t *rule, size_t rule_words,
                           uint32_t edition, uint32_t *plan, size_t plan_words, uint32_t *count, uint32_t *spot);
@@ -375,8 +388,9 @@ static const uint64_t tcam_no_rule[TCAM_RECORD_WORDS(TCAM_WIDTH_320)] = {0};
  *   TCAM_EDITION it puts the rule in, and edition is neither 10 nor 13. The spot is 0.
  *   TCAM_WRITE   it does not fit. The spot is the writes done so far. A copy fits if both slots exist and
  *                differ, slot `from` is not empty, and slot `to` is empty or its id stands in another slot
- *                too. A put-in fits under the same terms for `to`. An emptying write fits if the slot exists
- *                and is not empty.
+ *                too. A put-in fits under the same terms for `to`, and also if slot `to` holds a rule of the
+ *                value, mask and rank of the one that is put in, whatever its id. An emptying write fits if the
+ *                slot exists and is not empty.
  *
  * What is said of plans above asks for a plan that is carried out from its start, with its own rule and edition, on the
  * table it was drawn for. Of any other plan, rule, edition or progress record no more is said than stands here: one

@@ -2,7 +2,7 @@
  * Carries plans out as firmware would, at each width, one write per call through a lent progress record, and checks every
  * result, table and record: first cases whose answers are written here, then plans of the library with lookups between the
  * writes, then random plans and records. Every call is also compared with a reference written from document 01, "Carrying out",
- * and document 02's 2026-07.
+ * and document 02's 2026-07 and 2026-03.
  *
  *     carry_test [seed [calls]]
  */
@@ -61,10 +61,11 @@ static int ref_held(uint32_t slots, uint32_t slot)
     return slot < slots && !is_empty(table + SLOTS(slot));
 }
 
-static int ref_fits(uint32_t slots, uint32_t from, uint32_t to)
+/* `new_record` is the rule that is put in, with its rank. */
+static int ref_fits(uint32_t slots, uint32_t from, uint32_t to, const uint64_t *new_record)
 {
     if (from == 65535)
-        return ref_free(slots, to);
+        return ref_free(slots, to) || (to < slots && equal(table + SLOTS(to), new_record));
     if (from == 65534)
         return ref_held(slots, to);
     return from != to && ref_held(slots, from) && ref_free(slots, to);
@@ -93,7 +94,7 @@ static uint64_t ref_step(void)
             return REFUSED(18, 0);
         set_ranked(record, &rule);
     }
-    if (!ref_fits(slots_of(words), from, to))
+    if (!ref_fits(slots_of(words), from, to, record))
         return REFUSED(12, done);
     if (from < 65534)
         memcpy(record, table + SLOTS(from), SLOTS(1) * sizeof *record);
@@ -576,9 +577,97 @@ static void one_slot(void)
     unfit(EMPTYING(0));
     next_write(PUT(0), 0);
     writes(0, rule_record);
+    next_write(PUT(0), 0);
+    writes(0, rule_record); /* the same rule again: it is equal to itself */
+    rule.priority++;
     unfit(PUT(0));
     next_write(EMPTYING(0), 0);
     writes(0, no_words);
+}
+
+/* A rule goes over one of its value, mask and rank, whatever their ids; [1/30 11 a7, 2/20 1 a8] has no empty slot. */
+static void sent_again(void)
+{
+    record_words again;
+    uint32_t slot, id, action, spot;
+    pattern_words key = {TOP};
+    HERE;
+    empty_table(2);
+    rule = rule_of(1, 30, "11", 7);
+    set_record(table, &rule);
+    rule = rule_of(2, 20, "1", 8);
+    set_record(table + SLOTS(1), &rule);
+    rule = rule_of(9, 20, "1", 5);
+    set_record(again, &rule);
+    unfit(PUT(0));
+    unfit(PUT(2));
+    unfit(COPY(0, 1));
+    next_write(PUT(1), 0);
+    writes(1, again);
+    CHECK(tcam_lookup(table, words, width, key, width, &slot, &id, &action, &spot) == TCAM_OK);
+    CHECK(slot == 1 && id == 9 && action == 5);
+    HERE; /* once more, and under an id that the other slot has */
+    next_write(PUT(1), 3);
+    writes(1, again);
+    rule.id = 1;
+    set_record(again, &rule);
+    next_write(PUT(1), 3);
+    writes(1, again);
+}
+
+/* Another rank, another mask or another value does not do, nor does a copy; each bit counts. */
+static void nearly_sent_again(void)
+{
+    const struct rule given = made_rule(9, 20, "1");
+    for (uint32_t bit = 1; bit < 64 * width; bit++) {
+        HERE;
+        empty_table(3);
+        hold(0, 1, 30, "11");
+        hold(1, 2, 20, "1");
+        hold(2, 3, 20, "1"); /* a second rule of this value, mask and rank, as no table in order has it */
+        rule = given;
+        rule.mask[bit / 64] |= TOP >> bit % 64;
+        unfit(PUT(1));
+        rule.value[bit / 64] |= TOP >> bit % 64;
+        unfit(PUT(1));
+    }
+    HERE;
+    unfit(COPY(1, 2));
+    unfit(COPY(2, 1));
+    rule = made_rule(9, 19, "1");
+    unfit(PUT(1));
+    rule = made_rule(9, 21, "1");
+    unfit(PUT(1));
+    rule = made_rule(9, 20, "0");
+    unfit(PUT(1));
+    rule = made_rule(9, 20, "");
+    unfit(PUT(1));
+    rule = given;
+    set_record(rule_record, &rule);
+    next_write(PUT(2), 1);
+    writes(2, rule_record);
+    next_write(PUT(1), 1);
+    writes(1, rule_record);
+}
+
+/* The rank decides that the edition gives, and not the priority. */
+static void sent_again_under_either_edition(void)
+{
+    for (size_t index = 0; index < 2 * COUNT_OF(editions); index++) {
+        struct rule exact = without_wildcards(made_rule(1, index % 2 == 0 ? 65536 : 500, ""));
+        int fits = editions[index / 2] == (index % 2 == 0 ? TCAM_EDITION_10 : TCAM_EDITION_13);
+        HERE;
+        empty_table(1);
+        set_record(table, &exact);
+        edition = editions[index / 2];
+        rule = without_wildcards(made_rule(3, 500, ""));
+        set_ranked(rule_record, &rule);
+        if (!fits)
+            unfit(PUT(0));
+        next_write(PUT(0), 0);
+        if (fits)
+            writes(0, rule_record);
+    }
 }
 
 /* ---- Plans of the library ---- */
@@ -686,10 +775,16 @@ static void carry_to_the_end(uint32_t count, void (*changes)(void))
     }
 }
 
+/* A rule that is replaced counts as deleted. */
 static void rule_comes(void)
 {
-    record_words record;
+    record_words record, other;
     set_ranked(record, &rule);
+    for (uint32_t index = 0; index < held_count; index++) {
+        set_record(other, &held[index]);
+        if (equal(other, record))
+            held[index] = held[--held_count];
+    }
     held[held_count] = rule;
     held[held_count++].priority = rank_of(record);
 }
@@ -877,7 +972,7 @@ static void move_to_last_word(struct rule *moved)
 /* Inserts and deletes at random, each insert under an edition of its own, carried out to the end, over some tables. */
 static void random_plans(void)
 {
-    unsigned long came = 0, went = 0, raised = 0, writes_of[4] = {0, 0, 0, 0};
+    unsigned long came = 0, went = 0, raised = 0, replaced = 0, writes_of[4] = {0, 0, 0, 0};
     case_line = 0;
     made_how = "planned table";
     for (turn = 0; turn < 60; turn++) {
@@ -899,14 +994,23 @@ static void random_plans(void)
             if (below(4) == 0)
                 rule = without_wildcards(rule);
             edition = editions[below(2)];
+            if (held_count > 0 && below(6) == 0) { /* sent again, under the edition that gives it its rank */
+                rule = held[below(held_count)];
+                rule.id = round;
+                rule.action = 1000 + round;
+                edition = rule.priority == 65536 ? TCAM_EDITION_10 : TCAM_EDITION_13;
+                rule.priority %= 65536;
+            }
+            uint32_t before = held_count;
             if (insert(&count) == TCAM_OK) {
                 came++;
+                replaced += held_count == before;
                 raised += held[held_count - 1].priority == 65536;
                 writes_of[count < 3 ? count : 3]++;
             }
         }
     }
-    CHECK(came > 500 && went > 300 && raised > 50);
+    CHECK(came > 500 && went > 300 && raised > 50 && replaced > 100);
     CHECK(writes_of[1] > 100 && writes_of[2] > 50 && writes_of[3] > 20);
 }
 
@@ -921,10 +1025,11 @@ static uint32_t random_end(uint32_t slots)
 /* A table of a few rules, some of them damaged, a rule and a plan. */
 static void make_call(uint32_t slots)
 {
+    int ids_differ = below(3) == 0, sent_again = below(3) == 0;
     empty_table(slots);
     for (uint32_t slot = 0; slot < slots; slot++)
         if (below(3) != 0)
-            hold(slot, 1 + below(4), below(3), "1");
+            hold(slot, ids_differ ? 1 + slot : 1 + below(4), below(3), "1");
     if (below(4) == 0) { /* a rule without wildcards, given under 1.0 */
         struct rule exact = without_wildcards(made_rule(1 + below(4), 65536, "1"));
         set_record(table + SLOTS(below(slots)), &exact);
@@ -936,6 +1041,8 @@ static void make_call(uint32_t slots)
     if (below(40) == 0)
         rule_words = below((uint32_t)ROOM(1) + 3);
     rule = made_rule(below(8), below(10) == 0 ? 65535 + below(2) : 7, "01");
+    if (sent_again) /* equal to rules of the table, or nearly so */
+        rule = made_rule(1 + below(7), below(3), below(8) == 0 ? "11" : "1");
     if (below(10) == 0)
         rule.value[below(width)] |= 1;
     if (below(40) == 0)
@@ -946,6 +1053,8 @@ static void make_call(uint32_t slots)
     room = below(4);
     for (uint32_t index = 0; index < room; index++)
         plan[index] = COPY(below(3) == 0 ? 65534 + below(2) : random_end(slots), random_end(slots));
+    if (sent_again && room > 0)
+        plan[below(room)] = PUT(below(slots));
     progress.total = below(6) == 0 ? below(6) : room;
     progress.done = below(6) == 0 ? below(6) : below(progress.total + 1);
 }
@@ -954,14 +1063,16 @@ static unsigned long most; /* calls at each width */
 
 static void random_calls(void)
 {
-    unsigned long seen[TCAM_ROOM + 1] = {0}, wrote[3] = {0, 0, 0}, finished = 0;
+    unsigned long seen[TCAM_ROOM + 1] = {0}, wrote[3] = {0, 0, 0}, replaced = 0, finished = 0;
     case_line = 0;
     made_how = "random table";
     for (turn = 0; turn < most; turn++) {
         make_call(1 + below(5));
         for (int again = 0; again < 3; again++) {
             uint32_t from = progress.done < room ? plan[progress.done] / 65536 : 0;
+            int goes_over = from == 65535 && !ref_free(slots_of(words), plan[progress.done] % 65536);
             uint64_t result = step();
+            replaced += goes_over && result == TCAM_WROTE;
             if (result == TCAM_WROTE)
                 wrote[from == 65535 ? 2 : from == 65534 ? 1 : 0]++;
             else if (result == TCAM_FINISHED)
@@ -978,6 +1089,7 @@ static void random_calls(void)
     CHECK(finished > most / 10);
     for (int kind = 0; kind < 3; kind++)
         CHECK(wrote[kind] > most / 200);
+    CHECK(replaced > most / 500);
 }
 
 /* The two halves of a result. */
@@ -994,8 +1106,9 @@ int main(int count, char **arguments)
 {
     static void (*const cases[])(void) = {
         halves, shapes, other_rules, other_widths, records, records_of_progress, unsound_rules, other_editions, ranks,
-        ranks_of_records, records_given_again, absent_slots, unfit_writes, other_copies, one_slot, five_slots,
-        plans_in_the_middle, upgrade, long_plan, random_plans, random_calls,
+        ranks_of_records, records_given_again, absent_slots, unfit_writes, other_copies, one_slot, sent_again,
+        nearly_sent_again, sent_again_under_either_edition, five_slots, plans_in_the_middle, upgrade, long_plan,
+        random_plans, random_calls,
     };
     most = begin(count, arguments, 100000) / 2;
     open_pages(&plan_pages, (MOST_ROOM + PLAN_GUARDS) * sizeof(uint32_t));

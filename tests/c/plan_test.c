@@ -1,8 +1,8 @@
 /*
  * Plans inserts and deletes as firmware would, at each width, carries the plans out, and checks every answer, every lent buffer
  * and every table on the way: first cases whose plans are written here, then all tables of a few slots and random ones.
- * Their plans come from a reference written from document 01 and document 02's 2026-07, and their counts from a search of the
- * comparison class.
+ * Their plans come from a reference written from document 01 and document 02's 2026-07 and 2026-03, and their counts from a search
+ * of the comparison class.
  *
  *     plan_test [seed [tables]]
  */
@@ -160,7 +160,16 @@ static void find_plan(const uint64_t *table, int slots, int a, int b, struct tol
     }
 }
 
-/* Checks 1 to 10 of an insert, with 18 after 5, and its plan. */
+/* The lowest slot whose rule a new one replaces; `slots` where there is none. */
+static uint32_t replaced_slot(const uint64_t *table, uint32_t slots, const uint64_t *new_record)
+{
+    uint32_t slot = 0;
+    while (slot < slots && !equal(table + SLOTS(slot), new_record))
+        slot++;
+    return slot;
+}
+
+/* Checks 1 to 10 of an insert, with 18 after 5 and a replacement after 6, and its plan. */
 static void ref_insert(const uint64_t *table, size_t words, const struct rule *rule, struct told *told)
 {
     record_words record;
@@ -183,6 +192,12 @@ static void ref_insert(const uint64_t *table, size_t words, const struct rule *r
             refuse(told, 6, slot);
             return;
         }
+    uint32_t replaced = replaced_slot(table, slots, record);
+    if (replaced < slots) {
+        told->count = 1;
+        told->plan[0] = PUT(replaced);
+        return;
+    }
     for (uint32_t slot = 0; slot < slots; slot++) {
         const uint64_t *held = table + SLOTS(slot);
         if (!is_empty(held) && rank_of(held) == rank_of(record) && overlap(held, record)) {
@@ -363,7 +378,7 @@ static uint64_t first_reply(const uint64_t *table, uint32_t slots, const uint64_
     return 0;
 }
 
-/* The reply by highest rank, of the old rules and the new one. */
+/* The reply by highest rank, of the old rules and the new one; one that the new one replaces has its rank, and gives way to it. */
 static uint64_t best_reply(const uint64_t *table, uint32_t slots, const uint64_t *new_record, const uint64_t *key)
 {
     const uint64_t *best = matches(new_record, key) ? new_record : NULL;
@@ -415,19 +430,19 @@ static uint32_t times_held(const uint64_t *table, uint32_t slots, const uint64_t
 
 static uint64_t carried[ROOM(TCAM_MAX_SLOTS)];
 
-/* After an insert: each rule of the table before stands once, and so does the new one. */
+/* After an insert: each rule of the table before stands once, but for the one that is replaced, and so does the new one. */
 static void check_held_once(const uint64_t *old, uint32_t slots, const uint64_t *new_record)
 {
     int held_once = times_held(carried, slots, new_record) == 1;
-    uint32_t old_empty = 0, empty = 0;
+    uint32_t old_empty = 0, empty = 0, replaced = replaced_slot(old, slots, new_record);
     for (uint32_t slot = 0; slot < slots; slot++) {
         old_empty += is_empty(old + SLOTS(slot)) != 0;
         empty += is_empty(carried + SLOTS(slot)) != 0;
         if (!is_empty(old + SLOTS(slot)))
-            held_once &= times_held(carried, slots, old + SLOTS(slot)) == 1;
+            held_once &= times_held(carried, slots, old + SLOTS(slot)) == (slot != replaced);
     }
     CHECK(held_once);
-    CHECK(empty + 1 == old_empty);
+    CHECK(empty + (replaced == slots) == old_empty);
 }
 
 /* Carries out the plan of an insert, on `carried`, and checks the table after every write. */
@@ -458,7 +473,7 @@ static void carry_out_insert(const uint64_t *old, uint32_t slots, const struct r
         if (!last && from > to)
             toward_lower = 1;
         CHECK(!(toward_higher && toward_lower));
-        CHECK(is_free(carried, slots, to));
+        CHECK(is_free(carried, slots, to) || (last && equal(carried + SLOTS(to), new_record)));
         memcpy(carried + SLOTS(to), last ? new_record : carried + SLOTS(from), SLOTS(1) * sizeof *carried);
         CHECK(slots > 16 ? in_order_at(carried, slots, to) : in_order(carried, slots));
         for (uint32_t key = 0; key < keys->count; key++)
@@ -657,6 +672,14 @@ static void wanted(uint32_t number, uint32_t spot, const uint32_t *writes, size_
         want.plan[index] = writes[index];
 }
 
+/* A rule that replaces another is none that the comparison class is for. */
+static int replaces(const uint64_t *held, uint32_t slots, const struct rule *rule)
+{
+    record_words record;
+    set_ranked(record, rule);
+    return replaced_slot(held, slots, record) < slots;
+}
+
 /* An insert with this plan, carried out; if it is to stay, the case's table is the new one afterwards. */
 static void insert_case(int line, uint32_t slots, struct rule rule, int stay, const uint32_t *writes, size_t count)
 {
@@ -671,7 +694,7 @@ static void insert_case(int line, uint32_t slots, struct rule rule, int stay, co
         return;
     sample_keys(&keys, table, slots, &rule, slots > 100 ? 8 : MOST_KEYS);
     carry_out_insert(table, slots, &rule, plan.words, cells.now[COUNT], &keys);
-    if (slots <= CLASS_SLOTS)
+    if (slots <= CLASS_SLOTS && !replaces(table, slots, &rule))
         CHECK(least_in_class(table, slots, &rule) == count);
     if (stay)
         memcpy(table, carried, SLOTS(slots) * sizeof *table);
@@ -787,7 +810,7 @@ static void last_word_decides(void)
     look_up(__LINE__, 3, TOP, 0, 2, 2, 8);
     look_up(__LINE__, 3, TOP | TOP >> 1, 1, 0, 1, 7);
     REFUSED(SLOTS(3), last_bit(4, 25, 0, 9), TCAM_FULL, 0); /* and no tie */
-    REFUSED(SLOTS(3), last_bit(4, 25, 1, 9), TCAM_TIE, 1);
+    PLANNED(3, last_bit(4, 25, 1, 9), PUT(1));              /* over rule 3, to which it is equal */
     DELETED(3, 2, 2);
     PLANNED(3, last_bit(4, 25, 0, 9), PUT(2));
 
@@ -1149,8 +1172,73 @@ static void known_and_tied(void)
     REFUSED(SLOTS(6), rule_of(6, 7, "0000", 1), TCAM_KNOWN, 2);
     REFUSED(SLOTS(6), rule_of(8, 20, "0000", 1), TCAM_KNOWN, 5);
     REFUSED(SLOTS(6), rule_of(99, 19, "0", 1), TCAM_TIE, 3);
-    REFUSED(SLOTS(6), rule_of(99, 19, "01", 1), TCAM_TIE, 5);
+    REFUSED(SLOTS(6), rule_of(99, 19, "011", 1), TCAM_TIE, 5);
     REFUSED(SLOTS(6), rule_of(99, 20, "", 1), TCAM_TIE, 0);
+    REFUSED(SLOTS(6), rule_of(8, 19, "01", 1), TCAM_KNOWN, 5);
+    PLANNED(6, rule_of(99, 19, "01", 1), PUT(5)); /* the same rule again, with another id */
+}
+
+/* [1/30 11 a7, 2/20 1 a8], which is full. */
+static void two_rules(void)
+{
+    HOLD({0, 1, 30, "11", 7}, {1, 2, 20, "1", 8});
+}
+
+/* A rule sent again, with another id: one put-in over the one present, even where no slot is empty. */
+static void sent_again(void)
+{
+    uint32_t words[3] = {77, 78, 79}, count = 80, spot = 81;
+    const struct rule again = rule_of(9, 20, "1", 5);
+    record_words given;
+    for (size_t index = 0; index < COUNT_OF(editions); index++) {
+        edition = editions[index];
+        two_rules();
+        PLANNED(2, again, PUT(1));
+        REFUSED(SLOTS(2), rule_of(2, 20, "1", 5), TCAM_KNOWN, 1);
+        REFUSED(SLOTS(2), rule_of(1, 20, "1", 5), TCAM_KNOWN, 0);
+        REFUSED(SLOTS(2), rule_of(9, 20, "10", 5), TCAM_TIE, 1);
+        REFUSED(SLOTS(2), rule_of(9, 20, "", 5), TCAM_TIE, 1);
+        REFUSED(SLOTS(2), rule_of(9, 25, "1", 5), TCAM_FULL, 0);
+        REFUSED(SLOTS(2), rule_of(9, 20, "0", 5), TCAM_FULL, 0);
+        PLANNED(3, again, PUT(1));
+        INSERTED(2, again, PUT(1));
+        look_up(__LINE__, 2, TOP, 0, 1, 9, 5);
+        look_up(__LINE__, 2, TOP | TOP >> 1, 0, 0, 1, 7);
+        KEPT(SLOTS(2), 2, TCAM_UNKNOWN, 0); /* rule 2 is gone */
+        INSERTED(2, rule_of(2, 20, "1", 6), PUT(1));
+        look_up(__LINE__, 2, TOP, 0, 1, 2, 6);
+    }
+    HERE; /* no word, and more than one */
+    two_rules();
+    set_record(given, &again);
+    CHECK(tcam_plan_insert(table, SLOTS(2), width, given, SLOTS(1), edition, words, 0, &count, &spot) == TCAM_SHORT);
+    CHECK(words[0] == 77 && count == 80 && spot == 1);
+    spot = 81;
+    CHECK(tcam_plan_insert(table, SLOTS(2), width, given, SLOTS(1), edition, words, 3, &count, &spot) == TCAM_OK);
+    CHECK(words[0] == PUT(1) && words[1] == 78 && words[2] == 79 && count == 1 && spot == 81);
+
+    /* an empty slot is equal to nothing, nor to a rule of zeros but for its id */
+    clear();
+    PLANNED(2, rule_of(9, 0, "", 0), PUT(0));
+    put(1, rule_of(1, 0, "", 0));
+    PLANNED(2, rule_of(9, 0, "", 0), PUT(1));
+}
+
+/* Every bit of value and mask is compared. */
+static void nearly_sent_again(void)
+{
+    for (uint32_t bit = 0; bit < 64 * width; bit++) {
+        uint64_t one = TOP >> bit % 64;
+        clear();
+        put(1, of_word(1, 20, bit / 64, one, one));
+        PLANNED(2, of_word(9, 20, bit / 64, one, one), PUT(1));
+        PLANNED(2, of_word(9, 20, bit / 64, 0, one), PUT(0));
+        REFUSED(SLOTS(2), of_word(9, 20, 0, 0, 0), TCAM_TIE, 1);
+        put(0, of_word(2, 30, bit / 64, 0, one));
+        PLANNED(2, of_word(9, 20, bit / 64, one, one), PUT(1));
+        REFUSED(SLOTS(2), of_word(9, 20, bit / 64, 0, one), TCAM_FULL, 0);
+        REFUSED(SLOTS(2), of_word(9, 21, bit / 64, one, one), TCAM_FULL, 0);
+    }
 }
 
 /* 10: the highest slot that precedes. */
@@ -1311,14 +1399,15 @@ static void tied_ranks(void)
     clear();
     put(0, for_key_zero(1, 65536, 1));
     edition = TCAM_EDITION_10;
-    REFUSED(SLOTS(3), for_key_zero(3, 500, 1), TCAM_TIE, 0);
+    PLANNED(3, for_key_zero(3, 500, 1), PUT(0)); /* no tie: the same rule again */
     PLANNED(3, for_two_keys(3, 65535, 0, 1), PUT(1));
     edition = TCAM_EDITION_13;
     PLANNED(3, for_key_zero(3, 7, 1), PUT(1));
     PLANNED(3, for_key_zero(3, 65535, 1), PUT(1));
 
     put(0, for_key_zero(1, 7, 1));
-    REFUSED(SLOTS(3), for_key_zero(3, 7, 1), TCAM_TIE, 0);
+    PLANNED(3, for_key_zero(3, 7, 1), PUT(0));
+    REFUSED(SLOTS(3), for_two_keys(3, 7, 64 * width - 1, 1), TCAM_TIE, 0);
     edition = TCAM_EDITION_10;
     INSERTED(3, for_key_zero(3, 7, 1), COPY(0, 1), PUT(0));
     REFUSED(SLOTS(3), for_two_keys(4, 7, 0, 1), TCAM_TIE, 1);
@@ -1383,6 +1472,7 @@ static void other_editions(void)
         REFUSED(SLOTS(6), for_key_zero(99, 7, 1), TCAM_EDITION, 0);
         REFUSED(SLOTS(6), rule_of(6, 7, "0000", 1), TCAM_EDITION, 0);  /* a known id */
         REFUSED(SLOTS(6), rule_of(99, 20, "", 1), TCAM_EDITION, 0);    /* a tie */
+        REFUSED(SLOTS(6), rule_of(99, 20, "0", 1), TCAM_EDITION, 0);   /* a rule sent again */
         REFUSED(SLOTS(6), rule_of(99, 65536, "1", 1), TCAM_RULE, 0);
         REFUSED(SLOTS(6), for_key_zero(99, 65536, 1), TCAM_RULE, 0);
         REFUSED(SLOTS(6), rule_of(0, 7, "1", 1), TCAM_RULE, 0);
@@ -1525,7 +1615,7 @@ static void long_tables_of_few_rules(void)
 #define CAUSES (TCAM_ROOM + 1)
 static struct {
     unsigned long refused[CAUSES], planned, of_count[TCAM_MAX_SLOTS + 1], whole, up, equal, choice_tie, hop_tie, on_dependant,
-        around_dependant, raised, below_raised, searched, deleted, not_deleted[CAUSES];
+        around_dependant, raised, below_raised, replaced, replaced_in_full, searched, deleted, not_deleted[CAUSES];
 } seen;
 
 /* Rank 65,536 in a table, and of a rule that is put in. */
@@ -1537,11 +1627,24 @@ static int has_exact_rank(const uint64_t *records, uint32_t count)
     return 0;
 }
 
+static int has_empty_slot(const uint64_t *held, uint32_t slots)
+{
+    for (uint32_t slot = 0; slot < slots; slot++)
+        if (is_empty(held + SLOTS(slot)))
+            return 1;
+    return 0;
+}
+
 static void count_insert(const uint64_t *held, uint32_t slots, const struct rule *rule, const struct told *told)
 {
     record_words record;
     if (told->number != TCAM_OK) {
         seen.refused[told->number < CAUSES ? told->number : 0]++;
+        return;
+    }
+    if (replaces(held, slots, rule)) {
+        seen.replaced++;
+        seen.replaced_in_full += !has_empty_slot(held, slots);
         return;
     }
     seen.planned++;
@@ -1583,7 +1686,7 @@ static void made_insert(const struct lent *lent, uint32_t slots, const struct ru
     if (cells.now[COUNT] > plan.room)
         return;
     carry_out_insert(lent->original, slots, rule, plan.words, cells.now[COUNT], keys);
-    if (slots <= CLASS_SLOTS) {
+    if (slots <= CLASS_SLOTS && !replaces(lent->original, slots, rule)) {
         CHECK(least_in_class(lent->original, slots, rule) == cells.now[COUNT]);
         seen.searched++;
     }
@@ -1858,6 +1961,31 @@ static size_t damage(uint32_t slots, struct rule *rule)
     return words;
 }
 
+/* The rules of the table in its first slots: it has so many slots then, and none is empty. */
+static uint32_t close_ranks(uint32_t slots)
+{
+    uint32_t rules = 0;
+    for (uint32_t slot = 0; slot < slots; slot++)
+        if (!is_empty(table + SLOTS(slot)))
+            swap_slots(rules++, slot);
+    return rules;
+}
+
+/* One of the table's rules sent again, under either edition, or one that nearly is; the table may be full. */
+static uint32_t send_again(uint32_t slots, uint32_t rules, struct rule *rule)
+{
+    const struct rule *present = &made[below(rules)].rule;
+    const uint32_t id = rule->id;
+    *rule = *present;
+    rule->id = id;
+    rule->action = below(100);
+    if (rule->priority == 65536)
+        rule->priority = below(65536);
+    if (below(4) == 0)
+        rule->priority ^= 1;
+    return below(2) == 0 ? close_ranks(slots) : slots;
+}
+
 static void random_table(uint32_t slots)
 {
     struct space space;
@@ -1866,6 +1994,8 @@ static void random_table(uint32_t slots)
     random_space(&space);
     uint32_t rules = make_table(&space, slots, &id_kind);
     struct rule rule = made[rules].rule;
+    if (rules > 0 && below(8) == 0)
+        slots = send_again(slots, rules, &rule);
     edition = editions[below(2)];
     space_keys(&keys, &space);
     size_t words = below(2) == 0 ? SLOTS(slots) : damage(slots, &rule);
@@ -1911,6 +2041,8 @@ static void check_plans(unsigned long tables)
     CHECK(seen.around_dependant > tables / 100);
     CHECK(seen.raised > tables / 100);
     CHECK(seen.below_raised > tables / 100);
+    CHECK(seen.replaced > tables / 20);
+    CHECK(seen.replaced_in_full > tables / 50);
     CHECK(seen.searched > tables / 5);
     CHECK(seen.deleted > tables / 4);
 }
@@ -1947,9 +2079,9 @@ int main(int count, char **words)
     static void (*const cases[])(void) = {
         names, script, last_word_decides, other_rules, other_widths, edge_tables, short_buffers, absent_ids,
         priorities_at_ends, mask_zero, choices, displaced_rules, rules_apart, rules_apart_in_words, wrong_lengths,
-        long_lengths, unsound_records, ids_twice, disordered, unsound_rules, known_and_tied, crossed, fault_sets,
-        either_edition, tied_ranks, masks_not_full, ranks_of_records, other_editions, priorities_given,
-        long_chains, long_tables_apart, long_tables_of_few_rules, all_tables, random_tables, longer_tables,
+        long_lengths, unsound_records, ids_twice, disordered, unsound_rules, known_and_tied, sent_again,
+        nearly_sent_again, crossed, fault_sets, either_edition, tied_ranks, masks_not_full, ranks_of_records,
+        other_editions, priorities_given, long_chains, long_tables_apart, long_tables_of_few_rules, all_tables, random_tables, longer_tables,
     };
     tables_made = begin(count, words, 102000) / 2;
     open_pages(&plan_pages, (MOST_ROOM + PLAN_GUARDS) * sizeof(uint32_t));

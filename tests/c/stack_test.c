@@ -25,8 +25,8 @@ static const struct limits {
     size_t write;       /* for each word of the plan */
     size_t save, load;
 } limits[] = {
-    {TCAM_WIDTH_128, 288, 128, 24640, 304, 30976, 10752, 96, 24704, 74112},
-    {TCAM_WIDTH_320, 288, 128, 24640, 304, 30976, 10752, 96, 24704, 123264},
+    {TCAM_WIDTH_128, 288, 128, 24640, 320, 30976, 10752, 96, 24704, 74112},
+    {TCAM_WIDTH_320, 288, 128, 24640, 320, 30976, 10752, 96, 24704, 123264},
 };
 static const struct limits *limit;
 
@@ -190,10 +190,10 @@ static void try_insert(const char *what, uint32_t hole, uint32_t priority, uint3
 }
 
 /* One step of a plan of one word, where that write is next. */
-static void try_carry(const char *what, uint32_t word, uint64_t want)
+static void try_carry(const char *what, uint32_t word, uint32_t priority, uint64_t want)
 {
     make_chain(1023);
-    make_rule(rule, 5000, 1);
+    make_rule(rule, 5000, priority);
     plan[0] = word;
     room = 1;
     progress = (tcam_progress){0, 1};
@@ -214,6 +214,7 @@ static void measure_plans(void)
     size_t bytes = used(run_plan_delete);
     check(result == TCAM_OK && count == 1, "tcam_plan_delete", bytes, limit->plan_delete);
     try_insert("tcam_plan_insert, 1 write", 1023, 1, 1);
+    try_insert("tcam_plan_insert, a rule sent again", 1023, 57956, 1);
     try_insert("tcam_plan_insert, 2 writes", 1023, 57957, 2);
     try_insert("tcam_plan_insert, 3 writes", 1023, 57959, 3);
     try_insert("tcam_plan_insert, 204 writes", 1023, 58361, 204); /* the longest plan that takes no more than one of 1 write */
@@ -229,10 +230,11 @@ static void measure_plans(void)
 
 static void measure_writes(void)
 {
-    try_carry("tcam_carry_out, a copy", 1022u * 65536 + 1023, TCAM_WROTE);
-    try_carry("tcam_carry_out, a put-in", 65535u * 65536 + 1023, TCAM_WROTE);
-    try_carry("tcam_carry_out, an emptying", 65534u * 65536 + 1022, TCAM_WROTE);
-    try_carry("tcam_carry_out, no fit", 65535u * 65536 + 1022, TCAM_WRITE);
+    try_carry("tcam_carry_out, a copy", 1022u * 65536 + 1023, 1, TCAM_WROTE);
+    try_carry("tcam_carry_out, a put-in", 65535u * 65536 + 1023, 1, TCAM_WROTE);
+    try_carry("tcam_carry_out, a put-in over an equal rule", 65535u * 65536 + 1022, 57956, TCAM_WROTE);
+    try_carry("tcam_carry_out, an emptying", 65534u * 65536 + 1022, 1, TCAM_WROTE);
+    try_carry("tcam_carry_out, no fit", 65535u * 65536 + 1022, 1, TCAM_WRITE);
 }
 
 static void measure_images(void)

@@ -194,6 +194,15 @@ static inline int overlap(const uint64_t *a, const uint64_t *b)
     return 1;
 }
 
+/* Whether two slots hold rules of the same value, mask and rank; an empty slot is equal to nothing. */
+static inline int equal(const uint64_t *a, const uint64_t *b)
+{
+    for (uint32_t word = 0; word < 2 * width; word++)
+        if (a[word] != b[word])
+            return 0;
+    return rank_of(a) == rank_of(b) && !is_empty(a) && !is_empty(b);
+}
+
 /* Whether a key matches a rule, word by word. */
 static inline int matches(const uint64_t *record, const uint64_t *key)
 {

@@ -9,7 +9,7 @@ use reference::carry::{carry_out, Carried, Progress};
 use reference::given::Given;
 use reference::image::{load, save};
 use reference::lookup::{lookup, slot_record, Found};
-use reference::plan::{plan_delete, plan_insert};
+use reference::plan::{plan_delete, plan_insert, replaced_slot};
 use reference::table::{first_out_of_order, read_slots, record_words, Refusal, Rule, Slot};
 
 /// Tables of up to this many slots are tested for order after every write; larger ones now and then, and around the last write.
@@ -217,17 +217,50 @@ fn reply_of_rules<'a>(rules: impl Iterator<Item = &'a Rule>, key: Bits) -> Optio
     rules.filter(|rule| rule.matches(key)).max_by_key(|rule| rule.rank).map(|rule| (rule.id, rule.action))
 }
 
-/// Plans, then carries out write by write. Before the last write each key has its old reply, after it its new one.
+/// An insert or a delete in full; after an insert the same rule is sent again, under another id and with another action.
 fn check_in_full(library: &Guarded, input: &Input, tally: &mut Tally) -> Result<(), Mismatch> {
-    let Some(writes) = check_plan(library, input, tally)? else { return Ok(()) };
-    let slots = read_slots(&input.table, input.width).expect("a planned table is sound");
-    let old_rules: Vec<Rule> = slots.into_iter().flatten().collect();
-    let is_delete = input.call == Call::DeleteInFull;
-    let mut new_rules: Vec<Rule> = old_rules.iter().filter(|rule| !is_delete || rule.id != input.id).copied().collect();
-    if !is_delete {
-        let given = Given::of_record(&input.rule, input.width);
-        new_rules.push(given.ranked(input.width, input.edition).expect("a planned rule is sound"));
+    let Some(table) = check_change(library, input, tally)? else { return Ok(()) };
+    if input.call == Call::DeleteInFull {
+        return Ok(());
     }
+    let again = sent_again(input, table);
+    match check_change(library, &again, tally)? {
+        Some(_) => Ok(()),
+        None => Err(Mismatch::of("a rule sent again is declined".to_string(), &again.table, &again.rule)),
+    }
+}
+
+/// The input's rule given once more on the table that its plan has left; a word of the plan buffer is enough.
+fn sent_again(input: &Input, table: Vec<u64>) -> Input {
+    let (width, slot_words) = (input.width, record_words(input.width));
+    let is_known = |id: &u64| table.chunks(slot_words).any(|record| record[2 * width] >> 32 == *id);
+    let id = (1..).find(|id| !is_known(id)).expect("a table has few ids");
+    let mut again = input.clone();
+    again.rule[2 * width] = id << 32 | !input.rule[2 * width] & 0xffff_ffff;
+    again.room = 1 + input.room % 2;
+    again.table = table;
+    again
+}
+
+/// The rules that count once the input's change is made: without the deleted one or the replaced one, and with the new one.
+fn rules_after(input: &Input, slots: &[Slot]) -> Vec<Rule> {
+    let rules = slots.iter().flatten().copied();
+    if input.call == Call::DeleteInFull {
+        return rules.filter(|rule| rule.id != input.id).collect();
+    }
+    let given = Given::of_record(&input.rule, input.width);
+    let new = given.ranked(input.width, input.edition).expect("a planned rule is sound");
+    let replaced = replaced_slot(slots, &new).and_then(|slot| slots[slot]);
+    rules.filter(|rule| Some(*rule) != replaced).chain([new]).collect()
+}
+
+/// Plans, then carries out write by write, and gives the last table. Before the last write each key has its old reply, after it its
+/// new one.
+fn check_change(library: &Guarded, input: &Input, tally: &mut Tally) -> Result<Option<Vec<u64>>, Mismatch> {
+    let Some(writes) = check_plan(library, input, tally)? else { return Ok(None) };
+    let slots = read_slots(&input.table, input.width).expect("a planned table is sound");
+    let new_rules = rules_after(input, &slots);
+    let old_rules: Vec<Rule> = slots.into_iter().flatten().collect();
     let mut state = input.clone();
     state.call = Call::CarryOut;
     state.plan = initial_words(input.room);
@@ -252,7 +285,7 @@ fn check_in_full(library: &Guarded, input: &Input, tally: &mut Tally) -> Result<
     if state.done != state.total {
         return Err(Mismatch::of("finished too early".to_string(), state.done, state.total));
     }
-    Ok(())
+    Ok(Some(state.table))
 }
 
 /// Order and replies between two writes.

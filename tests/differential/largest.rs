@@ -29,6 +29,8 @@ enum Edge {
     Known,
     /// The new rule overlaps that of the last slot at equal rank.
     Tie,
+    /// The new rule has value, mask and rank of that of the last slot; no slot is empty.
+    Replaced,
     /// Only the last slot's rule precedes the new one, and one that depends on the new one stands before it.
     Crossed,
     /// Only the last slot is empty, and the new rule goes there.
@@ -58,6 +60,7 @@ const KINDS: &[(Call, Edge)] = &[
     (Call::PlanInsert, Edge::Order),
     (Call::PlanInsert, Edge::Known),
     (Call::PlanInsert, Edge::Tie),
+    (Call::PlanInsert, Edge::Replaced),
     (Call::PlanInsert, Edge::Crossed),
     (Call::PlanInsert, Edge::PutIn),
     (Call::Lookup, Edge::Record),
@@ -70,6 +73,7 @@ const KINDS: &[(Call, Edge)] = &[
     (Call::CarryOut, Edge::Wanted),
     (Call::CarryOut, Edge::Record),
     (Call::CarryOut, Edge::PutIn),
+    (Call::CarryOut, Edge::Replaced),
     (Call::CarryOut, Edge::Copied),
     (Call::CarryOut, Edge::WrittenOver),
     (Call::CarryOut, Edge::Down { nearly: false }),
@@ -190,6 +194,7 @@ fn last_slot(random: &mut Random, mut input: Input, edge: Edge) -> Input {
     spoil(random, &mut table, edge, (input.width, other));
     match edge {
         Edge::Known => new.id = last.id,
+        Edge::Tie => tie(random, &mut table, &mut new, (input.width, place)),
         Edge::Crossed => cross(random, &mut table, &mut new, (input.width, place)),
         _ => {}
     }
@@ -213,7 +218,7 @@ fn fill_in(random: &mut Random, input: &mut Input, edge: Edge, table: &[Slot], (
             input.plan = vec![match edge {
                 Edge::Copied => write_word(other as u32, LAST),
                 Edge::WrittenOver => write_word(other as u32 ^ 1, other),
-                Edge::PutIn => write_word(PUT_IN, LAST),
+                Edge::PutIn | Edge::Replaced => write_word(PUT_IN, LAST),
                 _ => write_word(EMPTYING, LAST),
             }];
             input.total = 1;
@@ -289,6 +294,15 @@ fn spoil_pattern(random: &mut Random, rule: &mut Rule, width: usize) {
     if rule.rank == EXACT_RANK {
         rule.value &= rule.mask;
     }
+}
+
+/// Gives the new rule, which has the last slot's pattern, one cared-for bit more or less, outside the numbers, and both the same
+/// priority for their rank.
+fn tie(random: &mut Random, table: &mut [Slot], new: &mut Rule, (width, place): (usize, usize)) {
+    new.mask ^= bit_of(random, width, group_number(place, EVERY_GROUP), true);
+    new.value &= new.mask;
+    new.rank = new.rank.min(PRIORITY_MOST);
+    table[LAST].as_mut().expect("every slot has a rule").rank = new.rank;
 }
 
 /// Takes one bit of the numbers out of the new rule, which has the last slot's pattern, so that it overlaps a second rule; the last

@@ -3,6 +3,7 @@
 // a call that a signal ends and one that runs on are shown by the smallest input found (--shrink K looks for the latter two).
 // Counts go to standard output, and what is wrong to standard error.
 
+mod alike;
 mod apart;
 mod compare;
 mod exact;

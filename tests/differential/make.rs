@@ -3,6 +3,7 @@
 // In larger tables they also stand apart, so that the maps of 160 slots and more tell most pairs.
 // Half of the inputs have values of two words, half of five; in some, words and width don't fit each other.
 // In half of the tables some rules are exact, with every mask bit set, or nearly so, among those that are not.
+// In a quarter of the inputs the rule is one of the table sent again, or nearly so; a third of these tables is full.
 
 use crate::exact::{edition, exact_or_nearly, Edged};
 use crate::input::{Call, Input};
@@ -68,6 +69,8 @@ struct Maker<'a> {
     /// two of them are often alike.
     exact_of_eight: usize,
     elsewhere: Bits,
+    /// Whether the rule is one of the table sent again, or nearly so.
+    again: bool,
 }
 
 /// One input of this many is at an edge of the largest table.
@@ -90,7 +93,8 @@ fn make_any(random: &mut Random, width: usize) -> Input {
     let bits = bit_positions(random, width);
     let exact_of_eight = random.pick(&[0, 0, 0, 0, 1, 2, 4, 7]);
     let elsewhere = if random.one_in(2) { random.bits(width) } else { Bits::NONE };
-    let mut maker = Maker { random, width, style, bits, exact_of_eight, elsewhere };
+    let again = random.one_in(4);
+    let mut maker = Maker { random, width, style, bits, exact_of_eight, elsewhere, again };
     let call = maker.random.pick(CALLS);
     if call == Call::InsertInFull || call == Call::DeleteInFull {
         return maker.in_full(call, slots, fence_after);
@@ -100,6 +104,9 @@ fn make_any(random: &mut Random, width: usize) -> Input {
     let new = maker.new_rule(&table);
     if matches!(call, Call::Lookup | Call::SlotRecord | Call::CarryOut) && maker.random.one_in(2) {
         maker.add_copies(&mut table);
+    }
+    if call == Call::CarryOut && maker.random.one_in(4) {
+        maker.add_equal(&mut table, &new);
     }
     let mut input = Input::new(call, width, words_of(&table, width), fence_after);
     (input.rule, input.id) = (new.record(width), new.id);
@@ -314,6 +321,9 @@ impl Maker<'_> {
 
     /// Which slots hold a rule: none, all, all but one or two, a block, or each by chance.
     fn occupied(&mut self, slots: usize) -> Vec<bool> {
+        if self.again && self.random.one_in(3) {
+            return vec![true; slots];
+        }
         match self.random.below(16) {
             0 => vec![false; slots],
             1 => vec![true; slots],
@@ -342,6 +352,9 @@ impl Maker<'_> {
     /// A rule to insert: mostly of the table's style and of a priority that leaves it uncrossed somewhere; often with the pattern of
     /// a rule present, where that is exact.
     fn new_rule(&mut self, table: &[Slot]) -> Given {
+        if let Some(rule) = self.present_rule(table).filter(|_| self.again) {
+            return self.sent_again(table, rule);
+        }
         let place = self.random.below(table.len() + 2);
         let (value, mask) = match self.present_rule(table) {
             Some(rule) if rule.mask == Bits::all(self.width) && self.random.one_in(3) => (rule.value, rule.mask),
@@ -363,6 +376,27 @@ impl Maker<'_> {
             rule.value ^= self.any_bit();
         }
         rule
+    }
+
+    /// A rule of the table with another id, which replaces it if the edition gives it the same rank; or one that differs from it in
+    /// the priority, in a bit of the mask or of the value, or not even in the id.
+    fn sent_again(&mut self, table: &[Slot], rule: Rule) -> Given {
+        let Rule { id, rank, value, mask, .. } = rule;
+        let priority = if rank == EXACT_RANK { self.random.below(65_536) as u64 } else { rank };
+        let mut given = Given { id: self.new_id(table), priority, value, mask, action: self.random.word() as u32 };
+        let bit = self.any_bit();
+        match self.random.below(10) {
+            0 => given.priority = (priority + 1).min(PRIORITY_MOST),
+            1 => given.priority = priority.saturating_sub(1),
+            2 => {
+                given.mask ^= bit;
+                given.value &= given.mask;
+            }
+            3 => given.value ^= bit & mask,
+            4 => given.id = id,
+            _ => {}
+        }
+        given
     }
 
     fn new_id(&mut self, table: &[Slot]) -> u32 {
@@ -416,6 +450,18 @@ impl Maker<'_> {
             if table[to].is_none() || self.random.one_in(3) {
                 table[to] = table[from];
             }
+        }
+    }
+
+    /// A rule's value, mask and rank in another slot too, under that one's id or a new one: no sound table has two such rules. It is
+    /// one with the new rule's pattern, if there is one.
+    fn add_equal(&mut self, table: &mut [Slot], new: &Given) {
+        let id = self.new_id(table);
+        let is_alike = |rule: &Rule| rule.value == new.value && rule.mask == new.mask;
+        let alike: Vec<Slot> = table.iter().copied().filter(|entry| entry.as_ref().is_some_and(is_alike)).collect();
+        if let Some(rule) = self.present_rule(if alike.is_empty() { table } else { &alike }) {
+            let to = self.random.below(table.len());
+            table[to] = Some(Rule { id: table[to].map_or(id.max(1), |other| other.id), ..rule });
         }
     }
 
@@ -523,6 +569,9 @@ impl Maker<'_> {
                 input.plan = plan;
             }
         }
+        if self.again {
+            self.writes_over_equal(input, slots);
+        }
         for _ in 0..self.random.below(5) {
             let from = match self.random.below(4) {
                 0 => PUT_IN,
@@ -548,6 +597,28 @@ impl Maker<'_> {
                 input.total = words as u32;
                 input.done = self.random.below(words + 1) as u32;
             }
+        }
+    }
+
+    /// Put-ins and copies into a slot whose rule has the value of the input's, and its mask or its rank or both, or emptyings of it.
+    fn writes_over_equal(&mut self, input: &mut Input, slots: usize) {
+        let given = rule_of(&input.rule, self.width);
+        let is_alike = |rule: &Rule| rule.value == given.value && (rule.mask == given.mask || rule.rank == given.rank);
+        let rules = input.table.chunks_exact(record_words(self.width)).map(|record| rule_of(record, self.width));
+        let alike: Vec<usize> =
+            rules.enumerate().filter(|(_, rule)| rule.id != 0 && is_alike(rule)).map(|(slot, _)| slot).collect();
+        if alike.is_empty() {
+            return;
+        }
+        for _ in 0..self.random.between(1, 2) {
+            let to = self.random.pick(&alike);
+            let from = match self.random.below(9) {
+                0..=4 => PUT_IN,
+                5 => EMPTYING,
+                6 | 7 => self.random.pick(&alike) as u32,
+                _ => (self.slot_number(slots) & 0xffff) as u32,
+            };
+            input.plan.push(write_word(from, to));
         }
     }
 

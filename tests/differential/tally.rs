@@ -2,6 +2,7 @@
 // A run that never reached one of the answers listed here, at one of the widths, has tested less than it says, and fails.
 // A rule is named exact here where every mask bit is set; its rank under 1.0 is 65,536.
 
+use crate::alike::{alike, ANOTHER_MASK, ANOTHER_RANK, EQUAL};
 use crate::exact::OTHER_EDITIONS;
 use crate::input::{Call, Input};
 use crate::largest::{LAST, LONG};
@@ -54,7 +55,7 @@ fn wanted() -> Vec<(Call, String)> {
     let table = [RECORD, TWICE, ORDER];
     want(Call::Lookup, &["hit", "miss", "1 key words"], &[RECORD]);
     want(Call::SlotRecord, &["record", "empty part", "empty part, 1", "empty part, 2"], &[]);
-    want(Call::PlanInsert, &["one write", "down", "up"], &table);
+    want(Call::PlanInsert, &["one write", "down", "up", "replacement"], &table);
     want(Call::PlanInsert, &["1 rule words"], &[RULE, EDITION, KNOWN, TIE, FULL, CROSSED, SHORT]);
     want(Call::PlanDelete, &["emptying"], &table);
     want(Call::PlanDelete, &[], &[RULE, UNKNOWN, SHORT]);
@@ -70,6 +71,7 @@ fn wanted() -> Vec<(Call, String)> {
     want(Call::Load, &["loaded", "14 at 0", "14 at 2", "14 at an id", "14 at a slot", "14 at an offset", "14 at a body"], &[]);
     want(Call::Load, &["14 at 2, the other width's length"], &[TWICE, ORDER]);
     wanted.extend(wanted_of_editions());
+    wanted.extend(wanted_of_replacements());
     wanted.extend(wanted_of_large());
     wanted.extend(wanted_of_largest());
     wanted
@@ -79,7 +81,7 @@ fn wanted() -> Vec<(Call, String)> {
 const HELD: [(Call, &[&str]); 7] = [
     (Call::Lookup, &["hit", "miss"]),
     (Call::SlotRecord, &["record", "empty part"]),
-    (Call::PlanInsert, &["one write", "down", "up", "6", "8", "9", "10", "18"]),
+    (Call::PlanInsert, &["one write", "down", "up", "replacement", "6", "8", "9", "10", "18"]),
     (Call::PlanDelete, &["emptying", "7"]),
     (Call::CarryOut, &["copied", "put in", "emptied", "finished"]),
     (Call::Save, &["saved"]),
@@ -95,9 +97,9 @@ fn wanted_of_editions() -> Vec<(Call, String)> {
         want(call, &["2, 65,536 not exact", "2, 65,537 exact"]);
     }
     want(Call::Lookup, &["hit, rank 65,536"]);
-    // no rule precedes one of rank 65,536: it is never crossed, and no plan for it goes up
-    want(Call::PlanInsert, &["one write, rank 65,536", "down, rank 65,536", "8, rank 65,536"]);
-    for kind in ["one write", "down", "up", "8"] {
+    // no rule precedes one of rank 65,536: it is never crossed, and no plan for it goes up; the one that it would tie with is equal
+    want(Call::PlanInsert, &["one write, rank 65,536", "down, rank 65,536", "replacement, rank 65,536"]);
+    for kind in ["one write", "down", "up", "replacement", "8"] {
         want(Call::PlanInsert, &[&format!("{kind}, exact under 13"), &format!("{kind}, nearly exact")]);
     }
     want(Call::PlanInsert, &["5, 65,536 exact", "5, another edition", "18, id present"]);
@@ -111,6 +113,26 @@ fn wanted_of_editions() -> Vec<(Call, String)> {
     wanted
 }
 
+/// The answers that are counted apart too where the rule is equal to one of the table, or nearly so.
+const ALIKE: [(Call, &str, &[&str]); 6] = [
+    (Call::PlanInsert, EQUAL, &["6", "11", "18"]),
+    (Call::PlanInsert, ANOTHER_RANK, &["one write", "down", "up", "9", "10"]),
+    (Call::PlanInsert, ANOTHER_MASK, &["8"]),
+    (Call::CarryOut, EQUAL, &["put in", "emptied", "12 copy", "18"]),
+    (Call::CarryOut, ANOTHER_RANK, &["12 put-in"]),
+    (Call::CarryOut, ANOTHER_MASK, &["12 put-in"]),
+];
+
+/// What every run must reach of rules sent again, and of rules that are nearly equal to one of the table.
+fn wanted_of_replacements() -> Vec<(Call, String)> {
+    let mut wanted = vec![(Call::PlanInsert, full("replacement"))];
+    for (call, like, kinds) in ALIKE {
+        wanted.extend(kinds.iter().map(|kind| (call, with(kind, like))));
+    }
+    wanted.push((Call::CarryOut, ranked_highest(&with("put in", EQUAL))));
+    wanted
+}
+
 /// The answers that every run must reach on tables of many slots.
 fn wanted_of_large() -> Vec<(Call, String)> {
     let mut wanted = Vec::new();
@@ -119,7 +141,11 @@ fn wanted_of_large() -> Vec<(Call, String)> {
         wanted.extend(numbers.iter().map(|number| (call, large(&number.to_string()))));
     };
     want_large(Call::Lookup, &["hit", "miss"], &[RECORD]);
-    want_large(Call::PlanInsert, &["one write", "down", "up"], &[RECORD, TWICE, ORDER, RULE, KNOWN, TIE, FULL, CROSSED, SHORT]);
+    want_large(
+        Call::PlanInsert,
+        &["one write", "down", "up", "replacement"],
+        &[RECORD, TWICE, ORDER, RULE, KNOWN, TIE, FULL, CROSSED, SHORT],
+    );
     want_large(Call::PlanDelete, &["emptying"], &[UNKNOWN]);
     want_large(Call::CarryOut, &["copied", "put in", "emptied", "finished"], &[]);
     want_large(Call::Save, &["saved"], &[SHORT]);
@@ -145,9 +171,9 @@ fn wanted_of_largest() -> Vec<(Call, String)> {
     };
     want(Call::Lookup, &["hit"], &[RECORD]);
     want(Call::SlotRecord, &["record"], &[]);
-    want(Call::PlanInsert, &["one write"], &[RECORD, TWICE, ORDER, KNOWN, TIE, CROSSED]);
+    want(Call::PlanInsert, &["one write", "replacement"], &[RECORD, TWICE, ORDER, KNOWN, TIE, CROSSED]);
     want(Call::PlanDelete, &["emptying"], &[RECORD, TWICE, ORDER]);
-    want(Call::CarryOut, &["copied", "put in", "emptied"], &[RECORD]);
+    want(Call::CarryOut, &["copied", "put in", &with("put in", EQUAL), "emptied"], &[RECORD]);
     want(Call::Save, &["saved"], &[RECORD, TWICE, ORDER]);
     want(Call::Load, &["loaded"], &[TWICE, ORDER]);
     wanted
@@ -156,6 +182,16 @@ fn wanted_of_largest() -> Vec<(Call, String)> {
 /// The name of an answer on a table that has a rule of rank 65,536.
 fn held(kind: &str) -> String {
     format!("{kind}, 65,536 held")
+}
+
+/// The name of an answer to a rule that is like one of the table.
+fn with(kind: &str, like: &str) -> String {
+    format!("{kind}, {like}")
+}
+
+/// The name of an answer on a table without an empty slot.
+fn full(kind: &str) -> String {
+    format!("{kind}, full")
 }
 
 /// The name of an answer where the rule that is given gets rank 65,536.
@@ -225,6 +261,23 @@ impl Tally {
         }
     }
 
+    /// An answer to a rule that is like one of the table; that of a put-in over an equal rule, by its slot and its rank too.
+    fn count_alike(&mut self, call: Call, kind: &str, input: &Input) {
+        if !ALIKE.iter().any(|(of, _, kinds)| *of == call && kinds.contains(&kind)) {
+            return;
+        }
+        let Some(like) = alike(call, input) else { return };
+        if kind == "put in" && like == EQUAL {
+            let kind = with(kind, like);
+            self.count_at(call, &kind, input.plan[input.done as usize] as usize % 65_536);
+            if let Some(apart) = given_apart(&kind, input) {
+                self.add(call, apart);
+            }
+        } else if ALIKE.iter().any(|(of, counted, kinds)| (*of, *counted) == (call, like) && kinds.contains(&kind)) {
+            self.add(call, with(kind, like));
+        }
+    }
+
     /// An answer that the slot decides.
     pub fn count_at(&mut self, call: Call, kind: &str, slot: usize) {
         self.count(call, kind);
@@ -256,6 +309,7 @@ impl Tally {
         if let Some(apart) = refused_apart(call, input, refusal) {
             self.add(call, apart);
         }
+        self.count_alike(call, &kind, input);
         if refusal.number == EDITION && OTHER_EDITIONS.contains(&input.edition) {
             self.add(call, of_edition(input.edition));
         }
@@ -271,6 +325,7 @@ impl Tally {
         let lengths = self.lengths.entry(self.width).or_default();
         lengths[(writes.len() - 1).min(9)] += 1;
         let kind = match writes {
+            [_] if rule_at(input, to).id != 0 => "replacement",
             [_] => "one write",
             [copy, ..] if copy / 65_536 < copy % 65_536 => "down",
             _ => "up",
@@ -278,7 +333,11 @@ impl Tally {
         if let Some(apart) = given_apart(kind, input) {
             self.add(call, apart);
         }
-        if kind == "one write" {
+        self.count_alike(call, kind, input);
+        if kind == "replacement" && (0..self.slots).all(|slot| rule_at(input, slot).id != 0) {
+            self.add(call, full(kind));
+        }
+        if writes.len() == 1 {
             return self.count_at(call, kind, to);
         }
         self.count(call, kind);
@@ -303,7 +362,9 @@ impl Tally {
             (Err(_), EMPTYING) => "12 emptying",
             (Err(_), _) => "12 copy",
         };
-        self.count_at(Call::CarryOut, kind, next as usize % 65_536);
+        let to = next as usize % 65_536;
+        self.count_at(Call::CarryOut, kind, to);
+        self.count_alike(Call::CarryOut, kind, input);
         let apart = match kind {
             _ if !is_edition(input.edition) => Some(another_edition(kind)),
             "put in" => given_apart(kind, input),
@@ -450,7 +511,12 @@ fn refused_apart(call: Call, input: &Input, refusal: Refusal) -> Option<String> 
         }
         EDITION => {
             let slots = read_slots(&input.table, input.width).expect("checks 1 and 2 come before");
-            (!fits(&slots, input.plan[input.done as usize])).then(|| format!("{number}, does not fit"))
+            let given = Given::of_record(&input.rule, input.width);
+            let fits_under = |edition: u32| {
+                let new = given.ranked(input.width, edition).expect("check 5 comes before");
+                fits(&slots, input.plan[input.done as usize], Some(&new))
+            };
+            (!fits_under(EDITION_10) && !fits_under(EDITION_13)).then(|| format!("{number}, does not fit"))
         }
         _ => None,
     }

@@ -3,7 +3,7 @@
 
 use crate::given::Given;
 use crate::plan::{EMPTYING, PUT_IN};
-use crate::table::{check_shape, check_words, read_slots, record_words, refuse, words_of, Refusal, Slot, WRITE};
+use crate::table::{check_shape, check_words, read_slots, record_words, refuse, words_of, Refusal, Rule, Slot, WRITE};
 
 #[derive(Clone, Copy, Debug, PartialEq, Eq)]
 pub struct Progress {
@@ -41,7 +41,7 @@ pub fn carry_out(
         PUT_IN => Some(Given::of_record(rule, width).ranked(width, edition)?),
         _ => None,
     };
-    if !fits(&slots, write) {
+    if !fits(&slots, write, put_in.as_ref()) {
         return refuse(WRITE, progress.done as usize);
     }
     slots[write as usize % 65_536] = match write / 65_536 {
@@ -54,10 +54,11 @@ pub fn carry_out(
     Ok(Carried::Wrote)
 }
 
-pub fn fits(slots: &[Slot], write: u32) -> bool {
+/// Whether a write fits; `new` is the rule that it puts in, if it puts one in.
+pub fn fits(slots: &[Slot], write: u32, new: Option<&Rule>) -> bool {
     let (from, to) = (write / 65_536, write as usize % 65_536);
     match from {
-        PUT_IN => may_be_overwritten(slots, to),
+        PUT_IN => may_be_overwritten(slots, to) || new.is_some_and(|new| is_replaced(slots, to, new)),
         EMPTYING => is_occupied(slots, to),
         _ => from as usize != to && is_occupied(slots, from as usize) && may_be_overwritten(slots, to),
     }
@@ -65,6 +66,11 @@ pub fn fits(slots: &[Slot], write: u32) -> bool {
 
 fn is_occupied(slots: &[Slot], slot: usize) -> bool {
     slot < slots.len() && slots[slot].is_some()
+}
+
+/// "The carry-out lets a put-in overwrite a rule with the same value, mask and priority", whatever its id.
+fn is_replaced(slots: &[Slot], slot: usize, new: &Rule) -> bool {
+    slot < slots.len() && slots[slot].is_some_and(|rule| rule.equals(new))
 }
 
 /// The slot exists, and is empty or its id stands in another slot too.

@@ -34,7 +34,7 @@ pub fn at_each_width<T: PartialEq + std::fmt::Debug>(answer: impl Fn(usize) -> T
 }
 
 /// The same, under each edition.
-fn at_each<T: PartialEq + std::fmt::Debug>(answer: impl Fn(usize, u32) -> T) -> T {
+pub fn at_each<T: PartialEq + std::fmt::Debug>(answer: impl Fn(usize, u32) -> T) -> T {
     at_each_width(|width| {
         let [under_10, under_13] = [EDITION_10, EDITION_13].map(|edition| answer(width, edition));
         assert_eq!(under_10, under_13, "under 1.0 and under 1.3, at {width} words");
@@ -208,7 +208,7 @@ fn lookup_takes_the_lowest_slot_even_out_of_order() {
 }
 
 /// One call of carrying out, with what it answers, the slots after it and how far it gets.
-fn carried(slots: &[Slot], plan: &[u32], new: &Rule, done: u32, total: u32) -> (Result<Carried, Refusal>, Vec<Slot>, u32) {
+pub fn carried(slots: &[Slot], plan: &[u32], new: &Rule, done: u32, total: u32) -> (Result<Carried, Refusal>, Vec<Slot>, u32) {
     at_each(|width, edition| {
         let mut words = words_of(slots, width);
         let mut progress = Progress { done, total };

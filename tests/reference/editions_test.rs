@@ -73,7 +73,8 @@ fn each_rule_has_its_own_edition() {
 fn a_second_rule_beside_one_of_rank_65_536() {
     for width in WIDTHS {
         let slots = [Some(exact(width, 1, 65_536)), None, None];
-        assert_eq!(planned(width, &slots, &exact(width, 3, 500), EDITION_10), refused(TIE, 0));
+        let replaced = (vec![put(0)], vec![Some(65_536), None, None]);
+        assert_eq!(planned(width, &slots, &exact(width, 3, 500), EDITION_10), Ok(replaced));
         let below = (vec![put(1)], vec![Some(65_536), Some(7), None]);
         assert_eq!(planned(width, &slots, &exact(width, 3, 7), EDITION_13), Ok(below));
         // apart from E, at the same rank
@@ -183,7 +184,8 @@ fn other_editions_are_declined_after_5_and_before_6() {
             assert_eq!(ask(&[present, None], &Rule { id: 0, ..new }), refused(RULE, 0));
         }
         assert_eq!(ask(&[present, None], &rule(1, 20, "1")), refused(EDITION, 0)); // before 6
-        assert_eq!(ask(&[present, None], &rule(2, 30, "1")), refused(EDITION, 0)); // before 8
+        assert_eq!(ask(&[present, None], &rule(2, 30, "1")), refused(EDITION, 0)); // before a replacement
+        assert_eq!(ask(&[present, None], &rule(2, 30, "11")), refused(EDITION, 0)); // before 8
         assert_eq!(ask(&[present], &rule(2, 20, "1")), refused(EDITION, 0)); // before 9
         let crossed = [Some(rule(2, 3, "10")), Some(rule(1, 9, "11")), None];
         assert_eq!(ask(&crossed, &rule(3, 5, "1")), refused(EDITION, 0)); // before 10

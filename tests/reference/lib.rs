@@ -17,6 +17,8 @@ mod editions_test;
 #[cfg(test)]
 mod image_test;
 #[cfg(test)]
+mod replacement_test;
+#[cfg(test)]
 mod script_test;
 #[cfg(test)]
 mod widths_test;

@@ -156,11 +156,20 @@ pub fn plan_insert(words: &[u64], width: usize, rule: &[u64], edition: u32, room
     Ok(writes)
 }
 
-/// Checks 6 to 10 and the plan's words, for a sound table and a sound rule.
+/// The slot of the rule that a new one replaces: the lowest that holds an equal one. A sound table has no two.
+pub fn replaced_slot(slots: &[Slot], new: &Rule) -> Option<usize> {
+    slots.iter().position(|entry| entry.is_some_and(|rule| rule.equals(new)))
+}
+
+/// Checks 6 to 10 and the plan's words, for a sound table and a sound rule. "When an unknown id has a present rule's value, mask and
+/// priority, the plan is one put-in at that slot", and 8 to 10 aren't asked.
 fn insert_writes(slots: &[Slot], new: &Rule) -> Result<Vec<u32>, Refusal> {
     let slot_where = |test: &dyn Fn(&Rule) -> bool| slots.iter().position(|entry| entry.as_ref().is_some_and(test));
     if let Some(slot) = slot_where(&|rule| rule.id == new.id) {
         return refuse(KNOWN, slot);
+    }
+    if let Some(slot) = replaced_slot(slots, new) {
+        return Ok(vec![write_word(PUT_IN, slot)]);
     }
     if let Some(slot) = slot_where(&|rule| rule.overlaps(new) && rule.rank == new.rank) {
         return refuse(TIE, slot);

@@ -89,5 +89,5 @@ fn unsound_rules() {
 fn a_rule_without_wildcards_has_no_rank_above_its_priority() {
     let exact = "0".repeat(128);
     let input = format!("T 3\nI 1 7 {exact} 1\nI 2 65535 * 2\nL 0\nI 3 65536 {exact} 3\nI 4 7 {exact} 4\n");
-    assert_eq!(output_of(input.as_bytes()), "N 3\nP 1\nW - 0\nP 2\nW 0 1\nW - 0\nA 0 2 2\nR 5 0\nR 8 1\n");
+    assert_eq!(output_of(input.as_bytes()), "N 3\nP 1\nW - 0\nP 2\nW 0 1\nW - 0\nA 0 2 2\nR 5 0\nP 1\nW - 1\n");
 }

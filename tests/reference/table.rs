@@ -78,6 +78,11 @@ impl Rule {
         other.precedes(self)
     }
 
+    /// "A present rule's value, mask and priority", which is the rank: ids and actions aren't looked at.
+    pub fn equals(&self, other: &Rule) -> bool {
+        self.value == other.value && self.mask == other.mask && self.rank == other.rank
+    }
+
     pub fn record(&self, width: usize) -> Vec<u64> {
         words_of(&[Some(*self)], width)
     }

@@ -53,7 +53,10 @@ fn rules_apart_by_the_last_bit_do_not_tie() {
     let apart = last_bit_rule(4, 25, false, 9).record(5);
     assert_eq!(plan_insert(&words, 5, &apart, EDITION_13, 3), refused(FULL, 0));
     let equal = last_bit_rule(4, 25, true, 9).record(5);
-    assert_eq!(plan_insert(&words, 5, &equal, EDITION_13, 3), refused(TIE, 1));
+    assert_eq!(plan_insert(&words, 5, &equal, EDITION_13, 3), Ok(vec![put(1)]));
+    let mut overlapping = last_bit_rule(4, 25, true, 9);
+    overlapping.mask |= Bits::at(0);
+    assert_eq!(plan_insert(&words, 5, &overlapping.record(5), EDITION_13, 3), refused(TIE, 1));
 }
 
 #[test]

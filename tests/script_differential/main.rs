@@ -4,6 +4,7 @@
 mod make;
 
 use reference::script::run_script;
+use std::collections::BTreeSet;
 use std::io::{Read, Write};
 use std::process::{Command, Stdio};
 use support::random::Random;
@@ -23,7 +24,7 @@ fn main() {
         place.map_or(otherwise, |place| flags[place + 1].parse().expect("a flag takes a number"))
     };
     let (scripts, seed) = (number("--scripts", SCRIPTS), number("--seed", SEED));
-    let (mut lines, mut long_plans, mut refusals) = (0, 0, [0u64; 15]);
+    let (mut lines, mut long_plans, mut replacements, mut refusals) = (0, 0, 0, [0u64; 15]);
     for number in 0..scripts {
         let script = make::script(&mut Random::new(seed, number));
         let expected = run_script(&script);
@@ -33,14 +34,16 @@ fn main() {
         }
         lines += script.split(|&byte| byte == b'\n').count();
         long_plans += count_long_plans(&expected);
+        replacements += count_replacements(&expected);
         count_refusals(&expected, &mut refusals);
     }
     println!(
         "script differential: {scripts} scripts of {lines} lines in all, seed {seed}; {long_plans} plans of {LONG} writes and more; \
-         refusals by number: {:?}",
+         {replacements} rules replaced; refusals by number: {:?}",
         &refusals[1..]
     );
     assert!(long_plans > 0 || scripts < 100, "no plan had {LONG} writes");
+    assert!(replacements > 0 || scripts < 100, "no rule was replaced");
     let reached = [1, 5, 6, 7, 8, 9, 10, 13].iter().all(|&number| refusals[number] > 0);
     assert!(reached || scripts < 100, "a refusal that a script can meet was never met");
 }
@@ -55,6 +58,22 @@ fn be_the_program() {
 fn count_long_plans(output: &[u8]) -> usize {
     let output = String::from_utf8_lossy(output);
     output.lines().filter(|line| line.strip_prefix("P ").is_some_and(|count| count.parse::<usize>().unwrap() >= LONG)).count()
+}
+
+/// The inserts that replace a rule: a plan of one write, to a slot that was not empty.
+fn count_replacements(output: &[u8]) -> usize {
+    let mut occupied: BTreeSet<String> = BTreeSet::new();
+    let (mut replacements, mut is_one_write) = (0, false);
+    for line in String::from_utf8_lossy(output).lines() {
+        match *line.split(' ').collect::<Vec<&str>>() {
+            ["N", _] => occupied.clear(),
+            ["P", count] => is_one_write = count == "1",
+            ["W", _, to] => replacements += usize::from(!occupied.insert(to.to_string()) && is_one_write),
+            ["E", slot] => drop(occupied.remove(slot)),
+            _ => {}
+        }
+    }
+    replacements
 }
 
 fn count_refusals(output: &[u8], refusals: &mut [u64; 15]) {

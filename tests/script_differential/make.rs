@@ -1,5 +1,5 @@
 // How scripts are made: tables, inserts, deletes and lookups over few bits and few priorities, and lines that are malformed.
-// Ids are small, so that known and absent ones, ties, crossings and full tables are frequent.
+// Ids are small, so that known and absent ones, ties, crossings and full tables are frequent. Rules are often sent again.
 
 use support::random::Random;
 
@@ -27,12 +27,13 @@ fn scale(random: &mut Random) -> Scale {
 
 pub fn script(random: &mut Random) -> Vec<u8> {
     let mut script = Vec::new();
+    let mut sent = Vec::new();
     let scale = scale(random);
     for place in 0..random.between(0, scale.lines) {
         let mut line = match random.below(40) {
             0 if scale.lines < 100 || random.one_in(20) => table(random, &scale),
             _ if place == 0 && !random.one_in(8) => table(random, &scale),
-            1..=22 => insert(random, &scale),
+            1..=22 => insert(random, &scale, &mut sent),
             23..=27 => format!("D {}", some_id(random, &scale)).into_bytes(),
             _ => lookup(random, scale.bits),
         };
@@ -74,11 +75,16 @@ fn pattern(random: &mut Random, scale: &Scale) -> String {
     (0..length).map(|_| random.pick(symbols)).collect()
 }
 
-fn insert(random: &mut Random, scale: &Scale) -> Vec<u8> {
+/// Every fifth insert has priority and pattern of an earlier one, which are kept in `sent`.
+fn insert(random: &mut Random, scale: &Scale, sent: &mut Vec<(u64, String)>) -> Vec<u8> {
     let priority =
         if random.one_in(30) { random.pick(&[0, 65_535, 65_536, 4_294_967_295]) } else { random.below(scale.priorities) as u64 };
     let action = if random.one_in(10) { random.word() & 0xffff_ffff } else { random.below(9) as u64 };
-    format!("I {} {priority} {} {action}", some_id(random, scale), pattern(random, scale)).into_bytes()
+    let again = random.one_in(5) && !sent.is_empty();
+    let (priority, pattern) = if again { sent[random.below(sent.len())].clone() } else { (priority, pattern(random, scale)) };
+    let line = format!("I {} {priority} {pattern} {action}", some_id(random, scale));
+    sent.push((priority, pattern));
+    line.into_bytes()
 }
 
 fn lookup(random: &mut Random, bits: usize) -> Vec<u8> {

@@ -1,6 +1,7 @@
 // The library's calls as include/tcam.h declares them, for the test programs that link target/staticlib/libtcam.a.
-// Beside them stands one plain form of the planning of inserts, for programs that need no guarded buffers.
+// Beside them stand plain forms of the planning of inserts and of carrying out, for programs that need no guarded buffers.
 
+use reference::carry::Progress;
 use reference::table::{record_words, Refusal};
 
 #[repr(C)]
@@ -57,4 +58,16 @@ pub fn plan_insert(table: &[u64], width: usize, rule: &[u64], edition: u32) -> R
     }
     plan.truncate(count as usize);
     Ok(plan)
+}
+
+/// One write of a plan, made by the library: its result, and the progress as it is then.
+pub fn carry_out(table: &mut [u64], width: usize, rule: &[u64], edition: u32, plan: &[u32], progress: &mut Progress) -> u64 {
+    let mut record = ProgressRecord { done: progress.done, total: progress.total };
+    let result = unsafe {
+        let (words, rule_words, plan_words) = (table.len(), rule.len(), plan.len());
+        let (table, rule, plan) = (table.as_mut_ptr(), rule.as_ptr(), plan.as_ptr());
+        tcam_carry_out(table, words, width as u32, rule, rule_words, edition, plan, plan_words, &mut record)
+    };
+    *progress = Progress { done: record.done, total: record.total };
+    result
 }
