@@ -1,4 +1,4 @@
-// What our calls took before rules had an edition: the counts of before.txt, beside which those of now are judged.
+// What our calls took before a rule could be sent again: the counts of before.txt, beside which those of now are judged.
 // They are what `--record` printed at the landing before.
 
 use crate::cases::{PAIR_CALLS, SMALL_KINDS};
@@ -10,9 +10,9 @@ use reference::bits::WIDTHS;
 
 const COUNTS: &str = include_str!("before.txt");
 
-/// The tables that there were; one with rules of rank 65,536 was refused.
+/// The tables that there were; a rule sent again was declined.
 pub fn kinds(width: usize) -> impl Iterator<Item = Kind> {
-    every_kind(width).filter(|&kind| kind != Kind::Exact)
+    every_kind(width).filter(|kind| !kind.is_sent_again())
 }
 
 /// The numbers of slots at which a call on a table is counted.

@@ -117,12 +117,25 @@ fn edit_rule(input: &mut Input, random: &mut Random) {
             if !random.one_in(3) {
                 input.rule[owner] = own;
             }
-            input.rule[rank] = (input.rule[rank] + random.below(2) as u64) & 0xffff_ffff;
+            nearly(&mut input.rule, width, random);
         }
         _ => {
             input.rule[..owner].fill(0);
             input.rule[rank] = random.below(65_536) as u64;
         }
+    }
+}
+
+/// Leaves a rule as it is, or gives it the next rank, or one mask bit less: the first is sent again, and the last ties.
+fn nearly(rule: &mut [u64], width: usize, random: &mut Random) {
+    let word = random.below(width);
+    match random.below(3) {
+        0 => rule[2 * width + 1] = (rule[2 * width + 1] + 1) & 0xffff_ffff,
+        1 => {
+            rule[width + word] &= rule[width + word].saturating_sub(1);
+            rule[word] &= rule[width + word];
+        }
+        _ => {}
     }
 }
 
@@ -138,10 +151,11 @@ fn edit_id(input: &mut Input, random: &mut Random) {
 
 fn edit_plan(input: &mut Input, random: &mut Random) {
     let slots = input.table.len() / record_words(input.width) + 1;
-    match random.below(5) {
+    match random.below(6) {
         0 => input.total = input.done,
         1 => input.done = input.total + random.below(2) as u32,
         2 => input.total = input.plan.len() as u32 + random.below(2) as u32,
+        3 if input.rule.len() == record_words(input.width) && slots > 1 => put_over(input, random.below(slots - 1), random),
         _ => {
             let slot = random.below(slots) as u32;
             let from = random.pick(&[65_535, 65_534, slot, slot]);
@@ -149,6 +163,17 @@ fn edit_plan(input: &mut Input, random: &mut Random) {
             (input.done, input.total) = (0, 1);
         }
     }
+}
+
+/// Puts the rule in over that of a slot, as which it is given with its own id, or nearly.
+fn put_over(input: &mut Input, slot: usize, random: &mut Random) {
+    let (words, owner) = (record_words(input.width), 2 * input.width);
+    let own = input.rule[owner];
+    input.rule.copy_from_slice(&input.table[words * slot..words * (slot + 1)]);
+    input.rule[owner] = own;
+    nearly(&mut input.rule, input.width, random);
+    input.plan = vec![65_535 << 16 | slot as u32];
+    (input.done, input.total) = (0, 1);
 }
 
 fn edit_image(image: &mut Vec<u8>, width: usize, random: &mut Random) {

@@ -4,7 +4,7 @@
 use crate::hostile::sample_step;
 use crate::tables::{every_kind, make, Kind, Size};
 use reference::bits::Bits;
-use reference::plan::plan_insert;
+use reference::plan::{plan_insert, write_word, PUT_IN};
 use reference::table::{read_sound_table, Rule, Slot, EXACT_RANK};
 
 pub struct Properties {
@@ -20,12 +20,16 @@ pub struct Properties {
     pub full_masks: usize,
     pub ranked_highest: usize,
     pub writes: usize,
+    /// Whether the new rule goes over the last one of the table.
+    pub replaces: bool,
 }
 
 pub fn properties(kind: Kind, (width, slots): Size) -> Properties {
     let table = make(kind, width, slots);
     let entries = read_sound_table(&table.words, width).expect("a sound table");
     let sampled_alike = are_sampled_alike(&entries);
+    let plan = plan_insert(&table.words, width, &table.new.record(width), table.edition, slots).unwrap_or_default();
+    let replaces = entries[slots - 1].is_some() && plan == [write_word(PUT_IN, slots - 1)];
     let rules: Vec<Rule> = entries.into_iter().flatten().collect();
     let mut counted = Properties {
         rules: rules.len(),
@@ -36,7 +40,8 @@ pub fn properties(kind: Kind, (width, slots): Size) -> Properties {
         sampled_alike,
         full_masks: rules.iter().filter(|rule| rule.mask == Bits::all(width)).count(),
         ranked_highest: rules.iter().filter(|rule| rule.rank == EXACT_RANK).count(),
-        writes: plan_insert(&table.words, width, &table.new.record(width), table.edition, slots).map_or(0, |plan| plan.len()),
+        writes: plan.len(),
+        replaces,
     };
     for (place, rule) in rules.iter().enumerate() {
         for earlier in &rules[..place] {
@@ -62,9 +67,11 @@ pub fn hold(kind: Kind, (width, slots): Size) -> bool {
     let (overlapping, apart) = (share(counted.overlapping), share(counted.apart_by_word[0]));
     let all_apart_by = |word: usize| counted.apart_by_word[word] == counted.pairs;
     let of_kind = match kind {
-        Kind::Sparse | Kind::HalfEmpty => overlapping < 0.001 && apart > 0.99 && !counted.falling,
+        Kind::Sparse | Kind::HalfEmpty | Kind::SentAgain | Kind::FullSentAgain => {
+            overlapping < 0.001 && apart > 0.99 && !counted.falling
+        }
         Kind::Sorted => overlapping < 0.001 && apart > 0.99 && counted.falling,
-        Kind::Dense => overlapping > 0.99 && counted.falling,
+        Kind::Dense | Kind::DenseSentAgain => overlapping > 0.99 && counted.falling,
         Kind::DenseDown | Kind::DenseUp => overlapping > 0.99 && counted.falling && 10 * counted.writes > 8 * slots,
         Kind::Prefixes => counted.overlapping > 0 && overlapping < 0.01 && apart > 0.99,
         Kind::Undecided => counted.overlapping == 0 && apart > 0.45 && apart < 0.55 && !counted.falling,
@@ -78,10 +85,14 @@ pub fn hold(kind: Kind, (width, slots): Size) -> bool {
         Kind::Unsampled => overlapping < 0.02 && counted.sampled_alike && counted.falling,
         Kind::Exact => counted.overlapping == 0 && apart > 0.99 && counted.full_masks == counted.rules,
     };
-    let rules = if kind == Kind::HalfEmpty { slots / 2 } else { slots - 1 };
+    let rules = match kind {
+        Kind::HalfEmpty => slots / 2,
+        Kind::FullSentAgain => slots,
+        _ => slots - 1,
+    };
     let ranked_highest = if kind == Kind::Exact { rules } else { 0 };
     let of_masks = (counted.full_masks > 0) == kind.has_full_masks() && counted.ranked_highest == ranked_highest;
-    of_kind && of_masks && counted.rules == rules && counted.writes > 0
+    of_kind && of_masks && counted.rules == rules && counted.writes > 0 && counted.replaces == kind.is_sent_again()
 }
 
 pub fn print((width, slots): Size) {

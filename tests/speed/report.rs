@@ -124,9 +124,9 @@ fn print_worst(found: &Found) {
     println!();
 }
 
-/// Ours beside what it was before rules had an edition, each call and table.
+/// Ours beside what it was before a rule could be sent again, each call and table.
 fn print_before(found: &Found) {
-    println!("### Beside what it was before editions: now / before, the worst of the sizes\n");
+    println!("### Beside what it was before rules could be sent again: now / before, the worst of the sizes\n");
     println!("Tables with full masks are not judged.\n");
     println!("| Table | full masks | {} |", CALLS.map(Call::name).join(" | "));
     println!("|---|---|{}", "---|".repeat(CALLS.len()));
@@ -179,7 +179,8 @@ fn print_parts(found: &Found) {
     println!("### Cost per part of a planned insert, {} slots: ours (ratio to safe Rust)\n", grouped(LARGEST as u64));
     println!("| Table | checks 1, 2 | check 3 | check 4 | checks 5 to 11, windows, costs, choice | chain and words | whole |");
     println!("|---|---|---|---|---|---|---|");
-    for kind in every_kind(found.width) {
+    // a replacement has no chain: its one word takes what a buffer without a word takes
+    for kind in every_kind(found.width).filter(|kind| !kind.is_sent_again()) {
         let of = |measured: Measured, version: usize| found.of(LARGEST, kind, measured, version);
         let ends = [Measured::Records, Measured::Ids, Measured::Order, Measured::Short, Measured::Whole(Call::PlanInsert)];
         let part =

@@ -45,9 +45,15 @@ pub enum Kind {
     LastWord,
     /// Rules that care for all bits, each of rank 65,536, and a new one of this kind: all inserted under 1.0.
     Exact,
+    /// A sparse table whose last rule is sent again: the plan is one put-in over it.
+    SentAgain,
+    /// The same in a dense table.
+    DenseSentAgain,
+    /// The same in a sparse table without an empty slot.
+    FullSentAgain,
 }
 
-const KINDS: [Kind; 11] = [
+const KINDS: [Kind; 14] = [
     Kind::Sparse,
     Kind::Dense,
     Kind::DenseDown,
@@ -59,6 +65,9 @@ const KINDS: [Kind; 11] = [
     Kind::LastWord,
     Kind::HalfEmpty,
     Kind::Exact,
+    Kind::SentAgain,
+    Kind::DenseSentAgain,
+    Kind::FullSentAgain,
 ];
 
 /// The kinds at a width, the hostile ones apart.
@@ -96,12 +105,20 @@ impl Kind {
             Kind::MoreBits => "19 of 320 bits",
             Kind::Unsampled => "sampled slots alike",
             Kind::Exact => "exact, under 1.0",
+            Kind::SentAgain => "sparse, a rule sent again",
+            Kind::DenseSentAgain => "dense, a rule sent again",
+            Kind::FullSentAgain => "full, a rule sent again",
         }
     }
 
     /// Whether some rule of the table, the new one apart, has every mask bit set.
     pub fn has_full_masks(self) -> bool {
         matches!(self, Kind::OneHot | Kind::Unsampled | Kind::Exact)
+    }
+
+    /// Whether the new rule replaces the last one of the table.
+    pub fn is_sent_again(self) -> bool {
+        matches!(self, Kind::SentAgain | Kind::DenseSentAgain | Kind::FullSentAgain)
     }
 
     /// Under 1.3 a new rule with every mask bit set, as some tables have one, gets its priority for its rank.
@@ -117,6 +134,7 @@ impl Kind {
             Kind::HalfEmpty => slot % 2 == 1,
             Kind::DenseDown => slot == slots - 1,
             Kind::DenseUp => slot == 0,
+            Kind::FullSentAgain => false,
             _ => slot == slots / 2,
         }
     }
@@ -150,7 +168,10 @@ pub fn make(kind: Kind, width: usize, slots: usize) -> RuleTable {
     }
     let entry = |(slot, rule): (usize, &Rule)| if kind.is_empty_at(slots, slot) { None } else { Some(*rule) };
     let entries: Vec<Slot> = rules.iter().enumerate().map(entry).collect();
-    let new = new_rule(kind, (width, slots), &mut random);
+    let new = match entries.last() {
+        Some(Some(last)) if kind.is_sent_again() => sent_again(last, slots),
+        _ => new_rule(kind, (width, slots), &mut random),
+    };
     RuleTable { width, words: words_of(&entries, width), new, edition: kind.edition() }
 }
 
@@ -205,9 +226,13 @@ fn undecided_mask() -> Bits {
 
 fn any_rule(kind: Kind, (width, slots): Size, slot: usize, random: &mut Random) -> Rule {
     let (wanted, mask, rank) = match kind {
-        Kind::Sparse | Kind::HalfEmpty => (drawn(width, random), drawn(width, random), random.below(LEVELS) as u64),
+        Kind::Sparse | Kind::HalfEmpty | Kind::SentAgain | Kind::FullSentAgain => {
+            (drawn(width, random), drawn(width, random), random.below(LEVELS) as u64)
+        }
         Kind::Sorted => (drawn(width, random), drawn(width, random), falling(slot)),
-        Kind::Dense | Kind::DenseDown | Kind::DenseUp => (drawn(width, random), dense_mask(width, random), falling(slot)),
+        Kind::Dense | Kind::DenseDown | Kind::DenseUp | Kind::DenseSentAgain => {
+            (drawn(width, random), dense_mask(width, random), falling(slot))
+        }
         Kind::Prefixes => {
             let length = random.between(8, 32);
             (drawn(width, random), prefix(length), 100 * length as u64)
@@ -221,11 +246,23 @@ fn any_rule(kind: Kind, (width, slots): Size, slot: usize, random: &mut Random) 
     Rule { id: id_of_place(slot), rank, value: wanted & mask, mask, action: slot as u32 ^ 0x5a5a }
 }
 
+/// A rule of the table as it is sent again, with an id and an action of its own.
+fn sent_again(rule: &Rule, slots: usize) -> Given {
+    Given { id: new_id(slots), priority: rule.rank, value: rule.value, mask: rule.mask, action: 5 }
+}
+
+/// An id that no table of so many slots has.
+fn new_id(slots: usize) -> u32 {
+    id_of_place(slots + 7)
+}
+
 fn new_rule(kind: Kind, (width, slots): Size, random: &mut Random) -> Given {
-    let id = id_of_place(slots + 7);
+    let id = new_id(slots);
     let (wanted, mask, priority) = match kind {
-        Kind::Sparse | Kind::Sorted | Kind::HalfEmpty | Kind::Exact => (drawn(width, random), Bits::all(width), 30_001),
-        Kind::Dense => (Bits::NONE, Bits::NONE, falling(slots / 2) + 1),
+        Kind::Sparse | Kind::Sorted | Kind::HalfEmpty | Kind::Exact | Kind::SentAgain | Kind::FullSentAgain => {
+            (drawn(width, random), Bits::all(width), 30_001)
+        }
+        Kind::Dense | Kind::DenseSentAgain => (Bits::NONE, Bits::NONE, falling(slots / 2) + 1),
         Kind::DenseDown => (Bits::NONE, Bits::NONE, falling(0) + 1),
         Kind::DenseUp => (Bits::NONE, Bits::NONE, falling(slots) + 1),
         Kind::Prefixes => (drawn(width, random), prefix(20), 2000),

@@ -91,15 +91,25 @@ static void write_plan(const uint16_t *costs, size_t slots, choice made, uint32_
     plan[made.cost] = (uint32_t)PUT_IN << 16 | slot_at(slots, made.up, made.position);
 }
 
-/* Checks 6 to 9. */
-static check check_rule(const uint64_t *table, size_t slots, const uint64_t *new)
+/* Check 6. */
+static check check_known(const uint64_t *table, size_t slots, const uint64_t *new)
 {
     size_t known = slot_of_id(table, slots, id_of(new));
-    if (known < slots)
-        return fail(KNOWN, known);
-    for (size_t slot = 0; slot < slots; slot++)
-        if (tied(table + slot * WORDS, new))
-            return fail(TIE, slot);
+    return known < slots ? fail(KNOWN, known) : pass();
+}
+
+/* The lowest slot that ties with a new rule, or the number of slots. */
+static size_t tied_slot(const uint64_t *table, size_t slots, const uint64_t *new)
+{
+    size_t slot = 0;
+    while (slot < slots && !tied(table + slot * WORDS, new))
+        slot++;
+    return slot;
+}
+
+/* Check 9. */
+static check check_full(const uint64_t *table, size_t slots)
+{
     for (size_t slot = 0; slot < slots; slot++)
         if (id_of(table + slot * WORDS) == 0)
             return pass();
@@ -136,22 +146,49 @@ static check plan_between(const uint64_t *table, size_t slots, const uint16_t *n
     return pass();
 }
 
-static check plan_new(const uint64_t *table, size_t words, const uint64_t *rule, size_t rule_words, uint32_t edition,
-                      uint32_t *plan, size_t plan_words, uint32_t *count)
+/* Check 11, and a plan of one write. */
+static check plan_one(uint32_t from, size_t slot, uint32_t *plan, size_t plan_words, uint32_t *count)
 {
-    uint16_t near[NEAR_MOST];
-    uint64_t new[WORDS];
-    size_t slots = words / WORDS, after, dependant;
-    check made = rule_words == WORDS ? check_listed(table, words, near) : fail(SHAPE, 0);
-    if (made.number == OK)
-        made = check_given(rule, edition, new);
-    if (made.number == OK)
-        made = check_rule(table, slots, new);
+    if (plan_words < 1)
+        return fail(SHORT, 1);
+    plan[0] = from << 16 | (uint32_t)slot;
+    *count = 1;
+    return pass();
+}
+
+/* Checks 9 to 11 of a rule that ties with none, and the words. */
+static check plan_beside(const uint64_t *table, size_t slots, const uint16_t *near, const uint64_t *new, uint32_t *plan,
+                         size_t plan_words, uint32_t *count)
+{
+    size_t after, dependant;
+    check made = check_full(table, slots);
     if (made.number == OK)
         made = check_crossed(table, slots, new, &after, &dependant);
     if (made.number == OK)
         made = plan_between(table, slots, near, after, dependant, plan, plan_words, count);
     return made;
+}
+
+static check plan_new(const uint64_t *table, size_t words, const uint64_t *rule, size_t rule_words, uint32_t edition,
+                      uint32_t *plan, size_t plan_words, uint32_t *count)
+{
+    uint16_t near[NEAR_MOST];
+    uint64_t new[WORDS];
+    size_t slots = words / WORDS;
+    check made = rule_words == WORDS ? check_listed(table, words, near) : fail(SHAPE, 0);
+    if (made.number == OK)
+        made = check_given(rule, edition, new);
+    if (made.number == OK)
+        made = check_known(table, slots, new);
+    if (made.number != OK)
+        return made;
+    size_t tie = tied_slot(table, slots, new);
+    /* a rule that is equal to the new one is its only tie */
+    if (tie < slots && is_equal(table + tie * WORDS, new))
+        return plan_one(PUT_IN, tie, plan, plan_words, count);
+    if (tie < slots)
+        return fail(TIE, tie);
+    return plan_beside(table, slots, near, new, plan, plan_words, count);
 }
 
 uint32_t CALL(plan_insert)(const uint64_t *table, size_t words, const uint64_t *rule, size_t rule_words, uint32_t edition,
@@ -163,7 +200,8 @@ uint32_t CALL(plan_insert)(const uint64_t *table, size_t words, const uint64_t *
     return made.number;
 }
 
-static check plan_emptying(const uint64_t *table, size_t words, uint32_t id, uint32_t *plan, size_t plan_words)
+static check plan_emptying(const uint64_t *table, size_t words, uint32_t id, uint32_t *plan, size_t plan_words,
+                           uint32_t *count)
 {
     check sound = check_table(table, words);
     if (sound.number != OK)
@@ -173,19 +211,14 @@ static check plan_emptying(const uint64_t *table, size_t words, uint32_t id, uin
     size_t slot = slot_of_id(table, words / WORDS, id);
     if (slot == words / WORDS)
         return fail(UNKNOWN, 0);
-    if (plan_words < 1)
-        return fail(SHORT, 1);
-    plan[0] = (uint32_t)EMPTYING << 16 | (uint32_t)slot;
-    return pass();
+    return plan_one(EMPTYING, slot, plan, plan_words, count);
 }
 
 uint32_t CALL(plan_delete)(const uint64_t *table, size_t words, uint32_t id, uint32_t *plan, size_t plan_words, uint32_t *count,
                            uint32_t *spot)
 {
-    check made = plan_emptying(table, words, id, plan, plan_words);
-    if (made.number == OK)
-        *count = 1;
-    else
+    check made = plan_emptying(table, words, id, plan, plan_words, count);
+    if (made.number != OK)
         *spot = made.spot;
     return made.number;
 }

@@ -27,10 +27,16 @@ static bool is_occupied(const uint64_t *table, size_t slots, size_t slot)
     return slot < slots && !is_empty(table + slot * WORDS);
 }
 
-static bool fits(const uint64_t *table, size_t slots, size_t from, size_t to)
+/* The slot exists, and holds a rule of the new one's rank, value and mask. */
+static bool is_replaced(const uint64_t *table, size_t slots, size_t slot, const uint64_t *new)
+{
+    return slot < slots && is_equal(table + slot * WORDS, new);
+}
+
+static bool fits(const uint64_t *table, size_t slots, size_t from, size_t to, const uint64_t *new)
 {
     if (from == PUT_IN)
-        return is_free(table, slots, to);
+        return is_replaced(table, slots, to, new) || is_free(table, slots, to);
     if (from == EMPTYING)
         return is_occupied(table, slots, to);
     return from != to && is_occupied(table, slots, from) && is_free(table, slots, to);
@@ -57,7 +63,7 @@ uint64_t CALL(carry_out)(uint64_t *table, size_t words, const uint64_t *rule, si
     check given = from == PUT_IN ? check_given(rule, edition, new) : pass();
     if (given.number != OK)
         return refusal(given.number, given.spot);
-    if (!fits(table, words / WORDS, from, to))
+    if (!fits(table, words / WORDS, from, to, new))
         return refusal(WRITE, progress->done);
     const uint64_t *record = from == PUT_IN ? new : from == EMPTYING ? vacant : table + from * WORDS;
     memcpy(table + to * WORDS, record, WORDS * sizeof *record);

@@ -139,6 +139,17 @@ static inline bool precedes(const uint64_t *first, const uint64_t *second)
     return first[RANK] > second[RANK] && overlap(first, second) && distinct(first, second);
 }
 
+/* Whether a record holds a rule of the new one's rank, value and mask; of most records the rank tells. */
+static inline bool is_equal(const uint64_t *record, const uint64_t *new)
+{
+    if (record[RANK] != new[RANK])
+        return false;
+    for (size_t word = 0; word < 2 * WIDTH; word++)
+        if (record[word] != new[word])
+            return false;
+    return id_of(record) != 0;
+}
+
 /* Checks 5 and 18 of a rule that is given; where they pass, its record with its rank is in the lent one. */
 static inline check check_given(const uint64_t *rule, uint32_t edition, uint64_t *ranked)
 {

@@ -1,10 +1,10 @@
 // Planning an insert or a delete: the checks of each in their order, then the words.
 // A and B are found once.
 
-use crate::answers::{refuse, Record, Refusal, CROSSED, EMPTYING, FULL, KNOWN, RULE, SHORT, TIE, UNKNOWN};
+use crate::answers::{refuse, Record, Refusal, CROSSED, EMPTYING, FULL, KNOWN, PUT_IN, RULE, SHORT, TIE, UNKNOWN};
 use crate::checks::{check_listed, check_table, new_list};
 use crate::planner::{choose, costs_along, write_plan};
-use crate::records::{id_of, precedes, ranked, tied};
+use crate::records::{id_of, is_equal, precedes, ranked, tied};
 
 pub fn plan_insert<const W: usize>(table: &[u64], rule: &[u64], edition: u32, plan: &mut [u32]) -> Result<u32, Refusal> {
     let given = Record::<W>::one(rule)?;
@@ -12,6 +12,13 @@ pub fn plan_insert<const W: usize>(table: &[u64], rule: &[u64], edition: u32, pl
     let records = check_listed(table, &mut near)?;
     let slots = records.len();
     let new = ranked(given, edition)?;
+    if let Some(slot) = slot_of_id(records, id_of(&new)) {
+        return refuse(KNOWN, slot);
+    }
+    // a rule that is equal to the new one is its only tie
+    if let Some(slot) = records.iter().position(|record| tied(record, &new)) {
+        return if is_equal(&records[slot], &new) { plan_one(PUT_IN, slot, plan) } else { refuse(TIE, slot) };
+    }
     let (after, dependant) = check_new(records, &new)?;
     let down = costs_along(records, &near, false);
     let up = costs_along(records, &near, true);
@@ -24,14 +31,8 @@ pub fn plan_insert<const W: usize>(table: &[u64], rule: &[u64], edition: u32, pl
     Ok(count as u32)
 }
 
-/// Checks 6 to 10; A + 1, and B.
+/// Checks 9 and 10; A + 1, and B.
 fn check_new<const W: usize>(records: &[Record<W>], new: &Record<W>) -> Result<(usize, usize), Refusal> {
-    if let Some(slot) = slot_of_id(records, id_of(new)) {
-        return refuse(KNOWN, slot);
-    }
-    if let Some(slot) = records.iter().position(|record| tied(record, new)) {
-        return refuse(TIE, slot);
-    }
     if !records.iter().any(|record| id_of(record) == 0) {
         return refuse(FULL, 0);
     }
@@ -56,9 +57,14 @@ pub fn plan_delete<const W: usize>(table: &[u64], id: u32, plan: &mut [u32]) -> 
     let Some(slot) = slot_of_id(records, id) else {
         return refuse(UNKNOWN, 0);
     };
+    plan_one(EMPTYING, slot, plan)
+}
+
+/// Check 11, and a plan of one write.
+fn plan_one(from: u32, slot: usize, plan: &mut [u32]) -> Result<u32, Refusal> {
     if plan.is_empty() {
         return refuse(SHORT, 1);
     }
-    plan[0] = EMPTYING << 16 | slot as u32;
+    plan[0] = from << 16 | slot as u32;
     Ok(1)
 }

@@ -3,7 +3,7 @@
 
 use crate::answers::{refuse, Progress, Record, Refusal, EMPTYING, PUT_IN, WRITE};
 use crate::checks::check_slots;
-use crate::records::{id_of, is_empty, ranked};
+use crate::records::{id_of, is_empty, is_equal, ranked};
 
 /// Whether a write was made; if not, the plan is finished.
 pub fn carry_out<const W: usize>(
@@ -25,7 +25,7 @@ pub fn carry_out<const W: usize>(
     let from = plan[done] >> 16;
     let to = (plan[done] & 0xffff) as usize;
     let new = if from == PUT_IN { ranked(given, edition)? } else { Record::EMPTY };
-    if !fits(records, from, to) {
+    if !fits(records, from, to, &new) {
         return refuse(WRITE, done);
     }
     let record = match from {
@@ -37,9 +37,9 @@ pub fn carry_out<const W: usize>(
     Ok(true)
 }
 
-fn fits<const W: usize>(records: &[Record<W>], from: u32, to: usize) -> bool {
+fn fits<const W: usize>(records: &[Record<W>], from: u32, to: usize, new: &Record<W>) -> bool {
     match from {
-        PUT_IN => is_free(records, to),
+        PUT_IN => is_replaced(records, to, new) || is_free(records, to),
         EMPTYING => is_occupied(records, to),
         _ => from as usize != to && is_occupied(records, from as usize) && is_free(records, to),
     }
@@ -47,6 +47,11 @@ fn fits<const W: usize>(records: &[Record<W>], from: u32, to: usize) -> bool {
 
 fn is_occupied<const W: usize>(records: &[Record<W>], slot: usize) -> bool {
     slot < records.len() && !is_empty(&records[slot])
+}
+
+/// The slot exists, and holds a rule of the new one's rank, value and mask.
+fn is_replaced<const W: usize>(records: &[Record<W>], slot: usize, new: &Record<W>) -> bool {
+    slot < records.len() && is_equal(&records[slot], new)
 }
 
 /// The slot exists, and is empty or its id stands in another slot too.

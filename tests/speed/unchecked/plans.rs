@@ -1,10 +1,10 @@
 // Planning an insert or a delete: the checks of each in their order, then the words.
 // A and B are found once.
 
-use crate::answers::{refuse, Record, Refusal, CROSSED, EMPTYING, FULL, KNOWN, RULE, SHORT, SLOTS_MOST, TIE, UNKNOWN};
+use crate::answers::{refuse, Record, Refusal, CROSSED, EMPTYING, FULL, KNOWN, PUT_IN, RULE, SHORT, SLOTS_MOST, TIE, UNKNOWN};
 use crate::checks::{check_listed, check_table};
 use crate::planner::{choose, fill_costs, write_plan};
-use crate::records::{id_of, precedes, put, ranked, tied};
+use crate::records::{id_of, is_equal, precedes, put, ranked, tied};
 
 pub fn plan_insert<const W: usize>(table: &[u64], rule: &[u64], edition: u32, plan: &mut [u32]) -> Result<u32, Refusal> {
     let given = Record::<W>::one(rule)?;
@@ -12,6 +12,19 @@ pub fn plan_insert<const W: usize>(table: &[u64], rule: &[u64], edition: u32, pl
     let records = check_listed(table, &mut near)?;
     let slots = records.len();
     let new = ranked(given, edition)?;
+    let known = slot_of_id(records, id_of(&new));
+    if known < slots {
+        return refuse(KNOWN, known);
+    }
+    // a rule that is equal to the new one is its only tie
+    let tie = first_slot(records, |record| tied(record, &new));
+    if tie < slots {
+        return if is_equal(unsafe { records.get_unchecked(tie) }, &new) {
+            plan_one(PUT_IN, tie, plan)
+        } else {
+            refuse(TIE, tie)
+        };
+    }
     let (after, dependant) = check_new(records, &new)?;
     let mut ends = [0; SLOTS_MOST];
     let mut down = [0; SLOTS_MOST];
@@ -39,17 +52,9 @@ fn first_slot<const W: usize>(records: &[Record<W>], test: impl Fn(&Record<W>) -
     slot
 }
 
-/// Checks 6 to 10; A + 1, and B.
+/// Checks 9 and 10; A + 1, and B.
 fn check_new<const W: usize>(records: &[Record<W>], new: &Record<W>) -> Result<(usize, usize), Refusal> {
     let slots = records.len();
-    let known = slot_of_id(records, id_of(new));
-    if known < slots {
-        return refuse(KNOWN, known);
-    }
-    let tie = first_slot(records, |record| tied(record, new));
-    if tie < slots {
-        return refuse(TIE, tie);
-    }
     if first_slot(records, |record| id_of(record) == 0) == slots {
         return refuse(FULL, 0);
     }
@@ -78,9 +83,14 @@ pub fn plan_delete<const W: usize>(table: &[u64], id: u32, plan: &mut [u32]) -> 
     if slot == records.len() {
         return refuse(UNKNOWN, 0);
     }
+    plan_one(EMPTYING, slot, plan)
+}
+
+/// Check 11, and a plan of one write.
+fn plan_one(from: u32, slot: usize, plan: &mut [u32]) -> Result<u32, Refusal> {
     if plan.is_empty() {
         return refuse(SHORT, 1);
     }
-    unsafe { put(plan, 0, EMPTYING << 16 | slot as u32) };
+    unsafe { put(plan, 0, from << 16 | slot as u32) };
     Ok(1)
 }

@@ -100,6 +100,13 @@ pub fn tied<const W: usize>(first: &Record<W>, second: &Record<W>) -> bool {
     first.rank == second.rank && overlap(first, second) && distinct(first, second)
 }
 
+/// Whether a record holds a rule of the new one's rank, value and mask; of most records the rank tells.
+#[inline(always)]
+pub fn is_equal<const W: usize>(record: &Record<W>, new: &Record<W>) -> bool {
+    let same_word = |word: usize| record.value[word] == new.value[word] && record.mask[word] == new.mask[word];
+    record.rank == new.rank && (0..W).all(same_word) && id_of(record) != 0
+}
+
 #[inline(always)]
 pub fn precedes<const W: usize>(first: &Record<W>, second: &Record<W>) -> bool {
     first.rank > second.rank && overlap(first, second) && distinct(first, second)
