@@ -99,8 +99,7 @@ pub record SecondDemand (w : ℕ) : Type 0 where
   -- each key is answered by the highest-ranked match of the table's rules, or by a miss
   pub answered : (rules : List Rule) (t : List ℕ) → RulesOf w rules t → AllReplied w t rules
   -- within the plan of an insert, which adds the rule and takes away the one that it replaces (Replacements), carried out with the edition that it was
-  -- planned with, and of a delete, which is carried out with any record of as many
-  -- words and any edition
+  -- planned with, and of a delete, which is carried out with any record of as many words and any edition
   pub insert : (rules : List Rule) (t : List ℕ) → RulesOf w rules t → (e : ℕ) (rule : List ℕ)
       → (plan after : List ℕ) (count count′ spot spot′ : ℕ) → InsertLeft w e t rule 0 plan after count count′ spot spot′
       → DuringPlan w e t after rule count′ rules (rulesInserted w t (ranked w (lentRule w e rule)) rules)
