@@ -35,30 +35,30 @@ checkId id = cond (eqb id 0) (Fail RuleCause 0) Pass
 unfoldable pub checkUnknown : ℕ → List ℕ → ℕ → Check
 checkUnknown w t id = cond (ltb (slotOfId w t id) (slots w t)) Pass (Fail Unknown 0)
 
-unfoldable pub deleteChecks : ℕ → List ℕ → ℕ → Check
-deleteChecks w t id = orElse (tableChecks w t) (orElse (checkId id) (checkUnknown w t id))
+unfoldable pub deleteChecks : ℕ → Bool → List ℕ → ℕ → Check
+deleteChecks w u t id = orElse (tableChecks w u t) (orElse (checkId id) (checkUnknown w t id))
 
 -- document 01: a delete is one emptying write
 abbrev pub deleteWords : ℕ → List ℕ → ℕ → List ℕ
 deleteWords w t id = writeWord (clear (slotOfId w t id)) ∷ []
 
 -- the answer with a buffer of so many words, and the buffer afterwards
-abbrev pub deleteAnswer : ℕ → List ℕ → ℕ → ℕ → Told
-deleteAnswer w t id room = bufferAnswer (deleteChecks w t id) 1 room
+abbrev pub deleteAnswer : ℕ → Bool → List ℕ → ℕ → ℕ → Told
+deleteAnswer w u t id room = bufferAnswer (deleteChecks w u t id) 1 room
 
-abbrev pub deletePlan : ℕ → List ℕ → ℕ → List ℕ → List ℕ
-deletePlan w t id plan = bufferAfter (deleteChecks w t id) (deleteWords w t id) plan
+abbrev pub deletePlan : ℕ → Bool → List ℕ → ℕ → List ℕ → List ℕ
+deletePlan w u t id plan = bufferAfter (deleteChecks w u t id) (deleteWords w t id) plan
 
 -- document 02: the call; another width is 1
-abbrev pub deleteCall : ℕ → List ℕ → ℕ → ℕ → Told
-deleteCall w t id room = unless (checkWidth w) (deleteAnswer w t id room)
+abbrev pub deleteCall : ℕ → Bool → List ℕ → ℕ → ℕ → Told
+deleteCall w u t id room = unless (checkWidth w) (deleteAnswer w u t id room)
 
-abbrev pub deleteCallPlan : ℕ → List ℕ → ℕ → List ℕ → List ℕ
-deleteCallPlan w t id plan = leaves (checkWidth w) (deletePlan w t id plan) plan
+abbrev pub deleteCallPlan : ℕ → Bool → List ℕ → ℕ → List ℕ → List ℕ
+deleteCallPlan w u t id plan = leaves (checkWidth w) (deletePlan w u t id plan) plan
 
 -- What a delete that passes its checks plans: the table is sound, the slot holds the rule, its one word empties that slot, and the write fits.
-pub record DeletePlanned (w : ℕ) (t : List ℕ) (id : ℕ) : Type 0 where
-  pub table : tableChecks w t ≡ Pass
+pub record DeletePlanned (w : ℕ) (u : Bool) (t : List ℕ) (id : ℕ) : Type 0 where
+  pub table : tableChecks w u t ≡ Pass
   pub exists : slotOfId w t id < slots w t
   pub holds : hasId w t id (slotOfId w t id) ≡ true
   pub fits : fitsWord w t (writeWord (clear (slotOfId w t id))) ≡ true

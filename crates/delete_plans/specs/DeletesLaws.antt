@@ -1,6 +1,6 @@
 -- End theorems on the planning of deletes: what an accepted one plans, and the code's tests of the id.
 use mathlib.Core.Path.{_≡_, ap}
-use mathlib.Core.Bool.{true}
+use mathlib.Core.Bool.{Bool, true}
 use mathlib.Core.List.{List}
 use Prim.Native.Nat.{ℕ, _<_, _≤_}
 use native.Mathlib.Omega.{arith}
@@ -39,19 +39,19 @@ unfolding checkUnknown
 id-absent w t id slot e h = rw (← e, le-ltb slot (slots w t) h)
 
 -- where the checks pass the slot is one of at most 1,024
-pub delete-small : (w : ℕ) (t : List ℕ) (id : ℕ) → deleteChecks w t id ≡ Pass → slotOfId w t id ≤ 1024
+pub delete-small : (w : ℕ) (u : Bool) (t : List ℕ) (id : ℕ) → deleteChecks w u t id ≡ Pass → slotOfId w t id ≤ 1024
 unfolding deleteChecks slotOfId
-delete-small w t id e =
+delete-small w u t id e =
     let l = least-law (hasId w t id) (slots w t) 0 in
-    let few = table-few w t (or-else-pass (tableChecks w t) (orElse (checkId id) (checkUnknown w t id)) .0 e .0) in
+    let few = table-few w u t (or-else-pass (tableChecks w u t) (orElse (checkId id) (checkUnknown w t id)) .0 e .0) in
     omega (arith, l .high)
 
-pub delete-planned : (w : ℕ) (t : List ℕ) (id : ℕ) → deleteChecks w t id ≡ Pass → DeletePlanned w t id
+pub delete-planned : (w : ℕ) (u : Bool) (t : List ℕ) (id : ℕ) → deleteChecks w u t id ≡ Pass → DeletePlanned w u t id
 unfolding deleteChecks slotOfId checkUnknown hasId
-delete-planned w t id e = record { table = checks .0; exists = exists; holds = holds; fits = fits; after = λ rule. ap (applyWrite w t rule) write }
+delete-planned w u t id e = record { table = checks .0; exists = exists; holds = holds; fits = fits; after = λ rule. ap (applyWrite w t rule) write }
   where
-    checks : (tableChecks w t ≡ Pass) × (orElse (checkId id) (checkUnknown w t id) ≡ Pass)
-    checks = or-else-pass (tableChecks w t) (orElse (checkId id) (checkUnknown w t id)) .0 e
+    checks : (tableChecks w u t ≡ Pass) × (orElse (checkId id) (checkUnknown w t id) ≡ Pass)
+    checks = or-else-pass (tableChecks w u t) (orElse (checkId id) (checkUnknown w t id)) .0 e
 
     exists : slotOfId w t id < slots w t
     exists = ltb-true (slotOfId w t id) (slots w t) (pass-law Unknown 0 _ .0 (or-else-pass (checkId id) (checkUnknown w t id) .0 (checks .1) .1))
@@ -60,7 +60,7 @@ delete-planned w t id e = record { table = checks .0; exists = exists; holds = h
     holds = least-law (hasId w t id) (slots w t) 0 .hit (omega (arith, exists))
 
     write : writeOf (writeWord (clear (slotOfId w t id))) ≡ clear (slotOfId w t id)
-    write = write-of-word (clear (slotOfId w t id)) (omega (arith, exists, table-few w t (checks .0)))
+    write = write-of-word (clear (slotOfId w t id)) (omega (arith, exists, table-few w u t (checks .0)))
 
     fits : fitsWord w t (writeWord (clear (slotOfId w t id))) ≡ true
     fits = rw (write, lt-ltb (slotOfId w t id) (slots w t) exists) (and-right (eqb (ident w (slotWords w t (slotOfId w t id))) id) _ holds)

@@ -50,7 +50,7 @@ fn slot_of_id(table: &[u64], id: u64, width: usize) -> usize
 // Checks 1 to 4, 5 for id 0, and 7.
 fn check_delete(table: &[u64], id: u32, mode: Mode) -> Check
     requires { ⌜ Width (mode .width) ⌝ }
-    ensures { λ r. ⌜ r ≡ deleteChecks (mode .width) (now (table .entry)) id ⌝ }
+    ensures { λ r. ⌜ r ≡ deleteChecks (mode .width) (mode .uncounted) (now (table .entry)) id ⌝ }
 {
     let sound = check_table(table, mode);
     if let Check::Fail(cause, spot) = sound {
@@ -68,8 +68,8 @@ fn check_delete(table: &[u64], id: u32, mode: Mode) -> Check
 // The plan of a delete at a width that there is.
 fn delete_at(table: &[u64], id: u32, plan: &mut [u32], mode: Mode) -> PlanAnswer
     requires { ⌜ Width (mode .width) ⌝ }
-    ensures { λ r. ⌜ planTold r ≡ deleteAnswer (mode .width) (now (table .entry)) id (length (now (plan .entry))) ⌝ }
-    ensures { λ _. ⌜ now (plan .exit) ≡ deletePlan (mode .width) (now (table .entry)) id (now (plan .entry)) ⌝ }
+    ensures { λ r. ⌜ planTold r ≡ deleteAnswer (mode .width) (mode .uncounted) (now (table .entry)) id (length (now (plan .entry))) ⌝ }
+    ensures { λ _. ⌜ now (plan .exit) ≡ deletePlan (mode .width) (mode .uncounted) (now (table .entry)) id (now (plan .entry)) ⌝ }
 {
     let check = check_delete(table, id, mode);
     if let Check::Fail(cause, spot) = check {
@@ -81,8 +81,8 @@ fn delete_at(table: &[u64], id: u32, plan: &mut [u32], mode: Mode) -> PlanAnswer
 
 // The plan of a delete: one emptying word, or a refusal that leaves the buffer as it was.
 pub fn plan_delete(table: &[u64], id: u32, plan: &mut [u32], mode: Mode) -> PlanAnswer
-    ensures { λ r. ⌜ planTold r ≡ deleteCall (mode .width) (now (table .entry)) id (length (now (plan .entry))) ⌝ }
-    ensures { λ _. ⌜ now (plan .exit) ≡ deleteCallPlan (mode .width) (now (table .entry)) id (now (plan .entry)) ⌝ }
+    ensures { λ r. ⌜ planTold r ≡ deleteCall (mode .width) (mode .uncounted) (now (table .entry)) id (length (now (plan .entry))) ⌝ }
+    ensures { λ _. ⌜ now (plan .exit) ≡ deleteCallPlan (mode .width) (mode .uncounted) (now (table .entry)) id (now (plan .entry)) ⌝ }
 {
     let known = check_width(mode.width);
     if let Check::Fail(cause, spot) = known {

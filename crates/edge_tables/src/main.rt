@@ -61,7 +61,13 @@ fn show_lookup(table: &[u64], key: [u64; 2]) {
 
 // Makes checks 1 to 4 and prints the answer.
 fn show_checks(table: &[u64]) {
-    match check_table(table, Mode { width: NARROW }) {
+    match check_table(
+        table,
+        Mode {
+            width: NARROW,
+            uncounted: false,
+        },
+    ) {
         Check::Pass => {
             io::write_all(1, b"C\n");
         }
@@ -220,7 +226,15 @@ fn show_insert(table: &[u64], given: Rule) {
 
 fn show_delete(table: &[u64], id: u32) {
     let mut plan = [7u32; 2];
-    let answer = plan_delete(table, id, &mut plan, Mode { width: NARROW });
+    let answer = plan_delete(
+        table,
+        id,
+        &mut plan,
+        Mode {
+            width: NARROW,
+            uncounted: false,
+        },
+    );
     show_plan(answer, &plan);
 }
 
@@ -230,7 +244,15 @@ fn short_buffers(table: &[u64], given: Rule) {
     let answer = plan_rule(table, given, &mut one);
     show_plan(answer, &one);
     let mut none = [7u32; 0];
-    let deleted = plan_delete(table, 2, &mut none, Mode { width: NARROW });
+    let deleted = plan_delete(
+        table,
+        2,
+        &mut none,
+        Mode {
+            width: NARROW,
+            uncounted: false,
+        },
+    );
     show_plan(deleted, &none);
 }
 
@@ -317,7 +339,16 @@ fn other_words(table: &[u64]) {
 fn wide_plans(table: &[u64]) {
     let new = [0u64, 0, 0, 0, 1, 0, 0, 0, 0, 1, 12884901897, 25];
     let mut plan = [7u32; 2];
-    let answer = plan_insert(table, &new, EDITION_13, &mut plan, Mode { width: WIDE });
+    let answer = plan_insert(
+        table,
+        &new,
+        EDITION_13,
+        &mut plan,
+        Mode {
+            width: WIDE,
+            uncounted: false,
+        },
+    );
     show_plan(answer, &plan);
     let mut other = [7u32; 2];
     let refusal = plan_insert(
@@ -325,7 +356,10 @@ fn wide_plans(table: &[u64]) {
         &new[0..11],
         EDITION_13,
         &mut other,
-        Mode { width: WIDE },
+        Mode {
+            width: WIDE,
+            uncounted: false,
+        },
     );
     show_plan(refusal, &other);
 }

@@ -50,7 +50,7 @@ use Rattle.carrying.specs.Calls.{State, afterCalls, callAnswer, Lent}
 use Rattle.carrying.specs.StepsLaws.{fits-carried, progress-within, accepted-progress}
 use Rattle.carrying.specs.CallsLaws.{lent-part, calls-lent, answer-lent}
 use Rattle.histories.specs.RuleSet.{Member, without, setReply}
-use Rattle.histories.specs.Holding.{Replies, Holding}
+use Rattle.histories.specs.Holding.{observed, Replies, Holding}
 use Rattle.histories.specs.RepliesLaws.{insert-keeps-reply}
 use Rattle.histories.specs.SoundnessLaws.{insert-between-checks, insert-after-checks, delete-after-checks}
 use Rattle.histories.specs.SoundnessLaws.{replacement-word, replacement-held, replacement-checks}
@@ -63,9 +63,12 @@ use Rattle.histories.specs.Demand2.{Demand2}
 
 -- a plan whose writes fit in their turn, keep the replies until the last and leave the changed rules
 module _
-    (w : ℕ) (t : List ℕ) (given : Given) (words plan : List ℕ) (turn : InTurn w t given words plan)
-    (keeps : (k : ℕ) → k < length words → (key : Words) → reply w (applyWords w t (ranked w given) (take k words)) key ≡ reply w t key)
-    (change : List Rule → List Rule) (leaves : (rules : List Rule) → Holding w rules t → Holding w (change rules) (applyWords w t (ranked w given) words)) where
+    (w : ℕ) (u : Bool) (t : List ℕ) (given : Given) (words plan : List ℕ) (turn : InTurn w t given words plan)
+    (stands : (k : ℕ) → k < length words → (x : List ℕ)
+    → Held (vacant w) (entryOccupied w) (entries w (applyWords w t (ranked w given) (take k words))) x ↔ Held (vacant w) (entryOccupied w) (entries w t) x)
+    (keeps : (k : ℕ) → k < length words → (key : Words)
+    → observed u (reply w (applyWords w t (ranked w given) (take k words)) key) ≡ observed u (reply w t key))
+    (change : List Rule → List Rule) (leaves : (rules : List Rule) → Holding w u rules t → Holding w u (change rules) (applyWords w t (ranked w given) words)) where
   stays : (k : ℕ) → length words ≤ k → afterCalls w t plan given (length words) k ≡ afterCalls w t plan given (length words) (length words)
   stays k h =
       let a = calls-rest w t given words plan turn k h in
@@ -74,10 +77,10 @@ module _
       let f = a .1 ∙ sym (b .1) in
       λ i. record { table = e i; done = f i }
 
-  left : (rules : List Rule) → Holding w rules t → (k : ℕ) → length words ≤ k → Holding w (change rules) (afterCalls w t plan given (length words) k .table)
-  left rules h k l = subst (Holding w (change rules)) (sym (calls-rest w t given words plan turn k l .0)) (leaves rules h)
+  left : (rules : List Rule) → Holding w u rules t → (k : ℕ) → length words ≤ k → Holding w u (change rules) (afterCalls w t plan given (length words) k .table)
+  left rules h k l = subst (Holding w u (change rules)) (sym (calls-rest w t given words plan turn k l .0)) (leaves rules h)
 
-  pub demand-2 : Demand2 w t plan given words (length words) change
+  pub demand-2 : Demand2 w u t plan given words (length words) change
   demand-2 = record {
     number = refl;
     made = λ k h. calls-state w t given words plan turn k h .0;
@@ -85,10 +88,12 @@ module _
     counted = λ k h. calls-state w t given words plan turn k h .1;
     finished = λ k h. calls-finished w t given words plan turn k (omega (arith, h));
     rests = stays;
-    kept = λ k h key. subst (λ (u : List ℕ). Replies w u key (reply w t key)) (sym (calls-state w t given words plan turn k (omega arith) .0))
-        (looked-up w (applyWords w t (ranked w given) (take k words)) key (reply w t key) (turn .checks k (omega arith)) (keeps k (omega (arith, h)) key));
+    stand = λ k h x. subst (λ (v : List ℕ). Held (vacant w) (entryOccupied w) (entries w v) x ↔ Held (vacant w) (entryOccupied w) (entries w t) x)
+        (sym (calls-state w t given words plan turn k (omega arith) .0)) (stands k h x);
+    kept = λ k h key. subst (λ (v : List ℕ). Replies w u v key (reply w t key)) (sym (calls-state w t given words plan turn k (omega arith) .0))
+        (looked-up w u (applyWords w t (ranked w given) (take k words)) key (reply w t key) (turn .checks k (omega arith)) (keeps k (omega (arith, h)) key));
     holds = λ rules h. left rules h (length words) (omega arith);
-    changed = λ rules h k l key. holding-lookup w (change rules) (afterCalls w t plan given (length words) k .table) (left rules h k (omega (arith, l))) key;
+    changed = λ rules h k l key. holding-lookup w u (change rules) (afterCalls w t plan given (length words) k .table) (left rules h k (omega (arith, l))) key;
   }
 
 -- a rule that passes 5 and 18 may be put in by any write
@@ -98,26 +103,26 @@ put-passes w given e (put to) = e
 put-passes w given e (clear to) = refl
 
 -- the plan of an accepted insert
-module _ (w : ℕ) (t : List ℕ) (given : Given) (small : given .rule .action < 4294967296) (premises : InsertableGiven w t given) where
+module _ (w : ℕ) (u : Bool) (t : List ℕ) (given : Given) (small : given .rule .action < 4294967296) (premises : InsertableGiven w u t given) where
   abbrev rule : Rule
   rule = ranked w given
 
   words : List ℕ
-  words = insertWords w t rule
+  words = insertWords w u t rule
 
-  planned : ShortestPlan w t rule (insertAnswer w t given (length words)) words (insertPlan w t given words)
+  planned : ShortestPlan w u t rule (insertAnswer w u t given (length words)) words (insertPlan w u t given words)
   unfolding words
-  planned = shortest-words w t given small premises
+  planned = shortest-words w u t given small premises
 
   checked : (k : ℕ) → k ≤ length words → slotChecks w (applyWords w t rule (take k words)) ≡ Pass
   unfolding words
   checked k h = pick (decLt k (length words))
     where
       pick : Dec (k < length words) → slotChecks w (applyWords w t rule (take k words)) ≡ Pass
-      pick (yes l) = insert-between-checks w t given small premises k l
+      pick (yes l) = insert-between-checks w u t given small premises k l
       pick (no l) =
           ap (λ (ns : List ℕ). slotChecks w (applyWords w t rule ns)) (take-all k words (omega arith))
-          ∙ table-checks-law w (applyWords w t rule words) .0 (insert-after-checks w t given small premises) .0
+          ∙ table-checks-law w u (applyWords w t rule words) .0 (insert-after-checks w u t given small premises) .0
 
   insert-turn : (plan rest : List ℕ) → plan ≡ words ++ rest → InTurn w t given words plan
   unfolding words
@@ -125,15 +130,15 @@ module _ (w : ℕ) (t : List ℕ) (given : Given) (small : given .rule .action <
     rest = rest;
     front = e;
     fits = λ k h. fits-carried w (applyWords w t rule (take k words)) rule (writeOf (getD words k 0))
-        (⊎-elim (λ c. c .fits k h) (λ c. c .fits k h) (class-words-law w t rule words .0 (planned .class)));
+        (⊎-elim (λ c. c .fits k h) (λ c. c .fits k h) (class-words-law w u t rule words .0 (planned .class)));
     put = λ k h. put-passes w given (given-law w given .1 (premises .sound, premises .edition)) (writeOf (getD words k 0));
     checks = checked;
   }
 
-  insert-leaves : (rules : List Rule) → Holding w rules t → Holding w (rule ∷ rules) (applyWords w t rule words)
+  insert-leaves : (rules : List Rule) → Holding w u rules t → Holding w u (rule ∷ rules) (applyWords w t rule words)
   unfolding words
   insert-leaves rules h = record {
-    checks = insert-after-checks w t given small premises;
+    checks = insert-after-checks w u t given small premises;
     held = λ x. (λ m. forth x (planned .placed .held x .0 m), λ m. planned .placed .held x .1 (back x m));
     actions = few;
   }
@@ -152,14 +157,26 @@ module _ (w : ℕ) (t : List ℕ) (given : Given) (small : given .rule .action <
       few r (inl e) = let f : r .action ≡ rule .action = ap (λ (s : Rule). s .action) e in omega (arith, small, ranked-action w given)
       few r (inr m) = h .actions r m
 
-  insert-carries : (plan rest : List ℕ) → plan ≡ words ++ rest → Demand2 w t plan given words (length words) (λ rules. rule ∷ rules)
+  insert-carries : (plan rest : List ℕ) → plan ≡ words ++ rest → Demand2 w u t plan given words (length words) (λ rules. rule ∷ rules)
   unfolding words
   insert-carries plan rest e =
-      demand-2 w t given words plan (insert-turn plan rest e) (λ k h key. insert-keeps-reply w t given small premises key k h)
+      demand-2 w u t given words plan (insert-turn plan rest e) (λ k h. planned .between k h .held)
+      (λ k h key. insert-keeps-reply w u t given small premises key k h)
       (λ rules. rule ∷ rules) insert-leaves
 
+-- before the first write, of a plan of one word the last too, the table is as it was
+same-held : (w : ℕ) (t : List ℕ) (rule : Rule) (words : List ℕ) (k : ℕ) → k < 1 → (x : List ℕ)
+    → Held (vacant w) (entryOccupied w) (entries w (applyWords w t rule (take k words))) x ↔ Held (vacant w) (entryOccupied w) (entries w t) x
+same-held w t rule words zero h x = (λ m. m, λ m. m)
+same-held w t rule words (suc k) h x = absurd (omega arith)
+
+same-reply : (w : ℕ) (u : Bool) (t : List ℕ) (rule : Rule) (words : List ℕ) (k : ℕ) → k < 1 → (key : Words)
+    → observed u (reply w (applyWords w t rule (take k words)) key) ≡ observed u (reply w t key)
+same-reply w u t rule words zero h key = refl
+same-reply w u t rule words (suc k) h key = absurd (omega arith)
+
 -- the one write of a replacement
-module _ (w : ℕ) (t : List ℕ) (given : Given) (small : given .rule .action < 4294967296) (s : ℕ) (premises : ReplacingGiven w t given s) where
+module _ (w : ℕ) (u : Bool) (t : List ℕ) (given : Given) (small : given .rule .action < 4294967296) (s : ℕ) (premises : ReplacingGiven w u t given s) where
   abbrev sent : Rule
   sent = ranked w given
 
@@ -167,10 +184,10 @@ module _ (w : ℕ) (t : List ℕ) (given : Given) (small : given .rule .action <
   action32 = omega (arith, small, ranked-action w given)
 
   puts : writeOf (writeWord (put s)) ≡ put s
-  puts = replacement-word w t sent action32 s (premises .replacing)
+  puts = replacement-word w u t sent action32 s (premises .replacing)
 
-  old-checks : (slotChecks w t ≡ Pass) × (checkTwice w t ≡ Pass) × (checkOrder w t ≡ Pass)
-  old-checks = table-checks-law w t .0 (premises .replacing .table)
+  old-checks : (slotChecks w t ≡ Pass) × (checkTwice w t ≡ Pass) × (checkOrder w u t ≡ Pass)
+  old-checks = table-checks-law w u t .0 (premises .replacing .table)
 
   replacement-turn : (plan rest : List ℕ) → plan ≡ replacementWords s ++ rest → InTurn w t given (replacementWords s) plan
   unfolding overEqual
@@ -178,7 +195,7 @@ module _ (w : ℕ) (t : List ℕ) (given : Given) (small : given .rule .action <
     where
       over : overEqual w t sent s ≡ true
       over =
-          let equal = equal-law w (slotWords w t s) (word (recordOf w sent)) .1 (premises .replacing .equal) in
+          let equal = equal-law w (slotWords w t s) (word (recordOf w sent)) .1 (premises .replacing .replaced .equal) in
           and-both (ltb s (slots w t)) (equalRule w (slotWords w t s) (word (recordOf w sent))) (lt-ltb s (slots w t) (premises .replacing .inside)) equal
 
       fits : (k : ℕ) → k < 1 → fitsCarried w (applyWords w t sent (take k (replacementWords s))) sent (writeOf (getD (replacementWords s) k 0)) ≡ true
@@ -191,22 +208,22 @@ module _ (w : ℕ) (t : List ℕ) (given : Given) (small : given .rule .action <
 
       checked : (k : ℕ) → k ≤ 1 → slotChecks w (applyWords w t sent (take k (replacementWords s))) ≡ Pass
       checked zero h = old-checks .0
-      checked (suc zero) h = table-checks-law w _ .0 (replacement-checks w t sent action32 s (premises .replacing)) .0
+      checked (suc zero) h = table-checks-law w u _ .0 (replacement-checks w u t sent action32 s (premises .replacing)) .0
       checked (suc (suc k)) h = absurd (omega arith)
 
   abbrev replaced-id : ℕ
   replaced-id = ident w (slotWords w t s)
 
-  replacement-leaves : (rules : List Rule) → Holding w rules t → Holding w (sent ∷ without replaced-id rules) (applyWords w t sent (replacementWords s))
+  replacement-leaves : (rules : List Rule) → Holding w u rules t → Holding w u (sent ∷ without replaced-id rules) (applyWords w t sent (replacementWords s))
   replacement-leaves rules h = record {
-    checks = replacement-checks w t sent action32 s (premises .replacing);
-    held = λ x. let held = replacement-held w t sent action32 s (premises .replacing) x in (λ m. forth x (held .0 m), λ m. held .1 (back x m));
+    checks = replacement-checks w u t sent action32 s (premises .replacing);
+    held = λ x. let held = replacement-held w u t sent action32 s (premises .replacing) x in (λ m. forth x (held .0 m), λ m. held .1 (back x m));
     actions = few;
   }
     where
       others : (x : List ℕ) → (Held (vacant w) (entryOccupied w) (entries w t) x × (entrySame w x (getD (entries w t) s (vacant w)) ≡ false))
           ↔ ((r : Rule) × Member r (without replaced-id rules) × (recordOf w r ≡ x))
-      others = held-others w rules t h s replaced-id (premises .replacing .inside) (premises .replacing .equal .first) refl
+      others = held-others w u rules t h s replaced-id (premises .replacing .inside) (premises .replacing .replaced .equal .first) refl
 
       forth : (x : List ℕ) → (Held (vacant w) (entryOccupied w) (entries w t) x × (entrySame w x (getD (entries w t) s (vacant w)) ≡ false))
           ⊎ ((entryOccupied w (recordOf w sent) ≡ true) × (recordOf w sent ≡ x)) → (r : Rule) × Member r (sent ∷ without replaced-id rules) × (recordOf w r ≡ x)
@@ -216,7 +233,7 @@ module _ (w : ℕ) (t : List ℕ) (given : Given) (small : given .rule .action <
       back : (x : List ℕ) → ((r : Rule) × Member r (sent ∷ without replaced-id rules) × (recordOf w r ≡ x))
           → (Held (vacant w) (entryOccupied w) (entries w t) x × (entrySame w x (getD (entries w t) s (vacant w)) ≡ false))
           ⊎ ((entryOccupied w (recordOf w sent) ≡ true) × (recordOf w sent ≡ x))
-      back x (r, inl f, e) = inr (premises .replacing .equal .second, ap (recordOf w) (sym f) ∙ e)
+      back x (r, inl f, e) = inr (premises .replacing .replaced .equal .second, ap (recordOf w) (sym f) ∙ e)
       back x (r, inr m, e) = inl (others x .1 (r, m, e))
 
       few : (r : Rule) → Member r (sent ∷ without replaced-id rules) → r .action < 4294967296
@@ -224,55 +241,52 @@ module _ (w : ℕ) (t : List ℕ) (given : Given) (small : given .rule .action <
       few r (inr m) = h .actions r (without-law replaced-id rules r .0 m .0)
 
   replacement-carries : (plan rest : List ℕ) → plan ≡ replacementWords s ++ rest
-      → Demand2 w t plan given (replacementWords s) 1 (λ rules. sent ∷ without replaced-id rules)
+      → Demand2 w u t plan given (replacementWords s) 1 (λ rules. sent ∷ without replaced-id rules)
   replacement-carries plan rest e =
-      demand-2 w t given (replacementWords s) plan (replacement-turn plan rest e) first (λ rules. sent ∷ without replaced-id rules) replacement-leaves
-    where
-      first : (k : ℕ) → k < 1 → (key : Words) → reply w (applyWords w t sent (take k (replacementWords s))) key ≡ reply w t key
-      first zero h key = refl
-      first (suc k) h key = absurd (omega arith)
+      demand-2 w u t given (replacementWords s) plan (replacement-turn plan rest e) (same-held w t sent (replacementWords s)) (same-reply w u t sent (replacementWords s))
+      (λ rules. sent ∷ without replaced-id rules) replacement-leaves
 
 -- demand 2 of an insert: the rule is added, with its rank, and the one that it replaces taken away
-pub demand-2-insert : (w : ℕ) (t : List ℕ) (given : Given) (plan : List ℕ) (count : ℕ) → given .rule .action < 4294967296
-    → insertAnswer w t given (length plan) ≡ success (count ∷ [])
-    → Demand2 w t (insertPlan w t given plan) given (plannedWords w t (ranked w given)) count (rulesInserted w t (ranked w given))
+pub demand-2-insert : (w : ℕ) (u : Bool) (t : List ℕ) (given : Given) (plan : List ℕ) (count : ℕ) → given .rule .action < 4294967296
+    → insertAnswer w u t given (length plan) ≡ success (count ∷ [])
+    → Demand2 w u t (insertPlan w u t given plan) given (plannedWords w u t (ranked w given)) count (rulesInserted w u t (ranked w given))
 unfolding words
-demand-2-insert w t given plan count small e =
-    subst (λ (n : ℕ). Demand2 w t (insertPlan w t given plan) given (plannedWords w t rule) n (rulesInserted w t rule)) (sym (accepted .1))
-    (⊎-elim fresh replaced (insertable-law w t given .0 (accepted .0)))
+demand-2-insert w u t given plan count small e =
+    subst (λ (n : ℕ). Demand2 w u t (insertPlan w u t given plan) given (plannedWords w u t rule) n (rulesInserted w u t rule)) (sym (accepted .1))
+    (⊎-elim fresh replaced (insertable-law w u t given .0 (accepted .0)))
   where
     rule : Rule
     rule = ranked w given
 
-    accepted : (insertChecks w t given ≡ Pass) × (count ≡ length (plannedWords w t rule))
-        × (insertPlan w t given plan ≡ plannedWords w t rule ++ drop (length (plannedWords w t rule)) plan)
-    accepted = buffer-accepted (insertChecks w t given) (plannedWords w t rule) plan count e
+    accepted : (insertChecks w u t given ≡ Pass) × (count ≡ length (plannedWords w u t rule))
+        × (insertPlan w u t given plan ≡ plannedWords w u t rule ++ drop (length (plannedWords w u t rule)) plan)
+    accepted = buffer-accepted (insertChecks w u t given) (plannedWords w u t rule) plan count e
 
     Promised : List ℕ → (List Rule → List Rule) → Type 0
-    Promised l change = Demand2 w t (insertPlan w t given plan) given l (length l) change
+    Promised l change = Demand2 w u t (insertPlan w u t given plan) given l (length l) change
 
-    front : {l : List ℕ} → plannedWords w t rule ≡ l → insertPlan w t given plan ≡ l ++ drop (length l) plan
+    front : {l : List ℕ} → plannedWords w u t rule ≡ l → insertPlan w u t given plan ≡ l ++ drop (length l) plan
     front is = accepted .2 ∙ ap (λ (l : List ℕ). l ++ drop (length l) plan) is
 
-    fresh : InsertableGiven w t given → Promised (plannedWords w t rule) (rulesInserted w t rule)
+    fresh : InsertableGiven w u t given → Promised (plannedWords w u t rule) (rulesInserted w u t rule)
     fresh p =
-        let is = planned-fresh w t rule (insertable-fresh w t rule (p .insertable .new) (p .insertable .untied)) in
-        subst₂ Promised (sym is) (inserted-fresh w t rule (p .insertable))
-        (insert-carries w t given small p (insertPlan w t given plan) (drop (length (insertWords w t rule)) plan) (front is))
+        let is = planned-fresh w u t rule (insertable-fresh w u t rule (p .insertable)) in
+        subst₂ Promised (sym is) (inserted-fresh w u t rule (p .insertable))
+        (insert-carries w u t given small p (insertPlan w u t given plan) (drop (length (insertWords w u t rule)) plan) (front is))
 
-    replaced : ((s : ℕ) × ReplacingGiven w t given s) → Promised (plannedWords w t rule) (rulesInserted w t rule)
+    replaced : ((s : ℕ) × ReplacingGiven w u t given s) → Promised (plannedWords w u t rule) (rulesInserted w u t rule)
     replaced (s, p) =
-        let is = planned-replaced w t rule s (p .replacing) in
-        subst₂ Promised (sym is) (inserted-replaced w t rule s (p .replacing))
-        (replacement-carries w t given small s p (insertPlan w t given plan) (drop 1 plan) (front is))
+        let is = planned-replaced w u t rule s (p .replacing) in
+        subst₂ Promised (sym is) (inserted-replaced w u t rule s (p .replacing))
+        (replacement-carries w u t given small s p (insertPlan w u t given plan) (drop 1 plan) (front is))
 
 -- the one write of an accepted delete
-module _ (w : ℕ) (t : List ℕ) (id : ℕ) (checks : deleteChecks w t id ≡ Pass) (given : Given) where
-  deletion : DeletePlanned w t id
-  deletion = delete-planned w t id checks
+module _ (w : ℕ) (u : Bool) (t : List ℕ) (id : ℕ) (checks : deleteChecks w u t id ≡ Pass) (given : Given) where
+  deletion : DeletePlanned w u t id
+  deletion = delete-planned w u t id checks
 
-  before : (slotChecks w t ≡ Pass) × (checkTwice w t ≡ Pass) × (checkOrder w t ≡ Pass)
-  before = table-checks-law w t .0 (deletion .table)
+  before : (slotChecks w t ≡ Pass) × (checkTwice w t ≡ Pass) × (checkOrder w u t ≡ Pass)
+  before = table-checks-law w u t .0 (deletion .table)
 
   clears : writeOf (writeWord (clear (slotOfId w t id))) ≡ clear (slotOfId w t id)
   clears = write-of-word (clear (slotOfId w t id)) (omega (arith, deletion .exists, shaped-slots w t (slot-checks-law w t .0 (before .0) .0) .1))
@@ -291,7 +305,7 @@ module _ (w : ℕ) (t : List ℕ) (id : ℕ) (checks : deleteChecks w t id ≡ P
 
       checked : (k : ℕ) → k ≤ 1 → slotChecks w (applyWords w t (ranked w given) (take k (deleteWords w t id))) ≡ Pass
       checked zero h = before .0
-      checked (suc zero) h = table-checks-law w (applyWords w t (ranked w given) (deleteWords w t id)) .0 (delete-after-checks w t id checks (ranked w given)) .0
+      checked (suc zero) h = table-checks-law w u (applyWords w t (ranked w given) (deleteWords w t id)) .0 (delete-after-checks w u t id checks (ranked w given)) .0
       checked (suc (suc k)) h = absurd (omega arith)
 
   -- the record in the slot has the id
@@ -311,38 +325,36 @@ module _ (w : ℕ) (t : List ℕ) (id : ℕ) (checks : deleteChecks w t id ≡ P
       let after : entries w (applyWords w t (ranked w given) (deleteWords w t id)) ≡ emptied (vacant w) (entries w t) (slotOfId w t id) =
       ap (entries w) (deletion .after (ranked w given)) ∙ apply-entries w t (ranked w given) (clear (slotOfId w t id)) (deletion .exists) in
       rw after
-      (held-removed (entry-laws w) (entries w t) (slotOfId w t id) low
+      (held-removed (entry-laws w u) (entries w t) (slotOfId w t id) low
       (λ k l d. unique-entries w t .1 (before .1) k (slotOfId w t id) l low d) x)
 
-  delete-leaves : (rules : List Rule) → Holding w rules t → Holding w (without id rules) (applyWords w t (ranked w given) (deleteWords w t id))
+  delete-leaves : (rules : List Rule) → Holding w u rules t → Holding w u (without id rules) (applyWords w t (ranked w given) (deleteWords w t id))
   delete-leaves rules h =
-      let others = held-others w rules t h (slotOfId w t id) id (deletion .exists) (has .0) (has .1) in
+      let others = held-others w u rules t h (slotOfId w t id) id (deletion .exists) (has .0) (has .1) in
       record {
-        checks = delete-after-checks w t id checks (ranked w given);
+        checks = delete-after-checks w u t id checks (ranked w given);
         held = λ x. (λ m. others x .0 (removed x .0 m), λ m. removed x .1 (others x .1 m));
         actions = λ r m. h .actions r (without-law id rules r .0 m .0);
       }
 
-  delete-carries : (plan rest : List ℕ) → plan ≡ deleteWords w t id ++ rest → Demand2 w t plan given (deleteWords w t id) 1 (without id)
-  delete-carries plan rest e = demand-2 w t given (deleteWords w t id) plan (delete-turn plan rest e) first (without id) delete-leaves
-    where
-      first : (k : ℕ) → k < 1 → (key : Words) → reply w (applyWords w t (ranked w given) (take k (deleteWords w t id))) key ≡ reply w t key
-      first zero h key = refl
-      first (suc k) h key = absurd (omega arith)
+  delete-carries : (plan rest : List ℕ) → plan ≡ deleteWords w t id ++ rest → Demand2 w u t plan given (deleteWords w t id) 1 (without id)
+  delete-carries plan rest e =
+      demand-2 w u t given (deleteWords w t id) plan (delete-turn plan rest e) (same-held w t (ranked w given) (deleteWords w t id))
+      (same-reply w u t (ranked w given) (deleteWords w t id)) (without id) delete-leaves
 
 -- demand 2 of a delete, whatever the rule and the edition handed in with the step: the rules of the id are taken away
-pub demand-2-delete : (w : ℕ) (t : List ℕ) (id : ℕ) (plan : List ℕ) (count : ℕ) (given : Given)
-    → deleteAnswer w t id (length plan) ≡ success (count ∷ []) → Demand2 w t (deletePlan w t id plan) given (deleteWords w t id) count (without id)
-demand-2-delete w t id plan count given e =
-    let a = buffer-accepted (deleteChecks w t id) (deleteWords w t id) plan count e in
-    subst (λ (n : ℕ). Demand2 w t (deletePlan w t id plan) given (deleteWords w t id) n (without id)) (sym (a .1))
-    (delete-carries w t id (a .0) given (deletePlan w t id plan) (drop 1 plan) (a .2))
+pub demand-2-delete : (w : ℕ) (u : Bool) (t : List ℕ) (id : ℕ) (plan : List ℕ) (count : ℕ) (given : Given)
+    → deleteAnswer w u t id (length plan) ≡ success (count ∷ []) → Demand2 w u t (deletePlan w u t id plan) given (deleteWords w t id) count (without id)
+demand-2-delete w u t id plan count given e =
+    let a = buffer-accepted (deleteChecks w u t id) (deleteWords w t id) plan count e in
+    subst (λ (n : ℕ). Demand2 w u t (deletePlan w u t id plan) given (deleteWords w t id) n (without id)) (sym (a .1))
+    (delete-carries w u t id (a .0) given (deletePlan w u t id plan) (drop 1 plan) (a .2))
 
 -- Demand 2 with whatever the caller lends of the plan buffer: the states and answers of all calls are the same. So what is said above of the whole
 -- buffer is said of the count's words, as in the call with `plan, count`, and of any number of words between.
-module _ {w : ℕ} {t plan : List ℕ} {given : Given} {words : List ℕ} {count : ℕ} {change : List Rule → List Rule}
-    (d : Demand2 w t plan given words count change) where
-  pub demand-2-lent : (lent : List ℕ) → Lent plan count lent → Demand2 w t lent given words count change
+module _ {u : Bool} {w : ℕ} {t plan : List ℕ} {given : Given} {words : List ℕ} {count : ℕ} {change : List Rule → List Rule}
+    (d : Demand2 w u t plan given words count change) where
+  pub demand-2-lent : (lent : List ℕ) → Lent plan count lent → Demand2 w u t lent given words count change
   demand-2-lent lent is = record {
     number = d .number;
     made = λ k h. tables k ∙ d .made k h;
@@ -350,9 +362,11 @@ module _ {w : ℕ} {t plan : List ℕ} {given : Given} {words : List ℕ} {count
     counted = λ k h. ap (λ (s : State). s .done) (states k) ∙ d .counted k h;
     finished = λ k h. answers k ∙ d .finished k h;
     rests = λ k h. states k ∙ (d .rests k h ∙ sym (states count));
-    kept = λ k h key. subst (λ (u : List ℕ). Replies w u key (reply w t key)) (sym (tables k)) (d .kept k h key);
-    holds = λ rules h. subst (Holding w (change rules)) (sym (tables count)) (d .holds rules h);
-    changed = λ rules h k l key. subst (λ (u : List ℕ). Replies w u key (setReply w (change rules) key)) (sym (tables k)) (d .changed rules h k l key);
+    stand = λ k h x. subst (λ (v : List ℕ). Held (vacant w) (entryOccupied w) (entries w v) x ↔ Held (vacant w) (entryOccupied w) (entries w t) x)
+        (sym (tables k)) (d .stand k h x);
+    kept = λ k h key. subst (λ (v : List ℕ). Replies w u v key (reply w t key)) (sym (tables k)) (d .kept k h key);
+    holds = λ rules h. subst (Holding w u (change rules)) (sym (tables count)) (d .holds rules h);
+    changed = λ rules h k l key. subst (λ (v : List ℕ). Replies w u v key (setReply w (change rules) key)) (sym (tables k)) (d .changed rules h k l key);
   }
     where
       states : (k : ℕ) → afterCalls w t lent given count k ≡ afterCalls w t plan given count k
@@ -371,46 +385,46 @@ module _ {w : ℕ} {t plan : List ℕ} {given : Given} {words : List ℕ} {count
       progress-within w (s .table) (length plan) (s .done) count
       (accepted-progress w (s .table) plan given (s .done) count [] (d .finished count (omega arith))) .1
 
-  pub demand-2-part : (k : ℕ) → count ≤ k → Demand2 w t (take k plan) given words count change
+  pub demand-2-part : (k : ℕ) → count ≤ k → Demand2 w u t (take k plan) given words count change
   demand-2-part k h = demand-2-lent (take k plan) (lent-part plan count k demand-2-room h)
 
 -- carried out in full, a plan has made every write of it
-pub carried-whole : {w : ℕ} {t plan : List ℕ} {given : Given} {words : List ℕ} {count : ℕ} {change : List Rule → List Rule}
-    → Demand2 w t plan given words count change → afterCalls w t plan given count count .table ≡ applyWords w t (ranked w given) words
+pub carried-whole : {w : ℕ} {u : Bool} {t plan : List ℕ} {given : Given} {words : List ℕ} {count : ℕ} {change : List Rule → List Rule}
+    → Demand2 w u t plan given words count change → afterCalls w t plan given count count .table ≡ applyWords w t (ranked w given) words
 carried-whole {w} {t} {plan} {given} {words} {count} d =
     d .made count (omega arith) ∙ ap (applyWords w t (ranked w given)) (take-all count words (omega (arith, d .number)))
 
 -- until the last write of an insert the table holds the old rules, in order, at most one of them twice; until that of a replacement it is as it was
-pub insert-between : (w : ℕ) (t : List ℕ) (given : Given) (plan : List ℕ) (count : ℕ) → given .rule .action < 4294967296
-    → insertAnswer w t given (length plan) ≡ success (count ∷ []) → (k : ℕ) → k < count
-    → Between (vacant w) (entryOccupied w) (entrySame w) (entryMisordered w) (entries w t) (entries w (afterCalls w t (insertPlan w t given plan) given count k .table))
-    ⊎ (afterCalls w t (insertPlan w t given plan) given count k .table ≡ t)
-insert-between w t given plan count small e k h = ⊎-elim fresh replaced (insertable-law w t given .0 (accepted .0))
+pub insert-between : (w : ℕ) (u : Bool) (t : List ℕ) (given : Given) (plan : List ℕ) (count : ℕ) → given .rule .action < 4294967296
+    → insertAnswer w u t given (length plan) ≡ success (count ∷ []) → (k : ℕ) → k < count
+    → Between (vacant w) (entryOccupied w) (entrySame w) (entryMisordered w u) (entries w t) (entries w (afterCalls w t (insertPlan w u t given plan) given count k .table))
+    ⊎ (afterCalls w t (insertPlan w u t given plan) given count k .table ≡ t)
+insert-between w u t given plan count small e k h = ⊎-elim fresh replaced (insertable-law w u t given .0 (accepted .0))
   where
     rule : Rule
     rule = ranked w given
 
-    accepted : (insertChecks w t given ≡ Pass) × (count ≡ length (plannedWords w t rule))
-        × (insertPlan w t given plan ≡ plannedWords w t rule ++ drop (length (plannedWords w t rule)) plan)
-    accepted = buffer-accepted (insertChecks w t given) (plannedWords w t rule) plan count e
+    accepted : (insertChecks w u t given ≡ Pass) × (count ≡ length (plannedWords w u t rule))
+        × (insertPlan w u t given plan ≡ plannedWords w u t rule ++ drop (length (plannedWords w u t rule)) plan)
+    accepted = buffer-accepted (insertChecks w u t given) (plannedWords w u t rule) plan count e
 
     after : List ℕ
-    after = afterCalls w t (insertPlan w t given plan) given count k .table
+    after = afterCalls w t (insertPlan w u t given plan) given count k .table
 
-    made : after ≡ applyWords w t rule (take k (plannedWords w t rule))
-    made = demand-2-insert w t given plan count small e .made k (omega arith)
+    made : after ≡ applyWords w t rule (take k (plannedWords w u t rule))
+    made = demand-2-insert w u t given plan count small e .made k (omega arith)
 
-    fresh : InsertableGiven w t given
-        → Between (vacant w) (entryOccupied w) (entrySame w) (entryMisordered w) (entries w t) (entries w after) ⊎ (after ≡ t)
+    fresh : InsertableGiven w u t given
+        → Between (vacant w) (entryOccupied w) (entrySame w) (entryMisordered w u) (entries w t) (entries w after) ⊎ (after ≡ t)
     fresh p =
-        let is = planned-fresh w t rule (insertable-fresh w t rule (p .insertable .new) (p .insertable .untied)) in
+        let is = planned-fresh w u t rule (insertable-fresh w u t rule (p .insertable)) in
         let there = made ∙ ap (λ (l : List ℕ). applyWords w t rule (take k l)) is in
-        inl (subst (λ (u : List ℕ). Between (vacant w) (entryOccupied w) (entrySame w) (entryMisordered w) (entries w t) (entries w u)) (sym there)
-        (shortest-words w t given small p .between k (omega (arith, h, accepted .1, ap length is))))
+        inl (subst (λ (v : List ℕ). Between (vacant w) (entryOccupied w) (entrySame w) (entryMisordered w u) (entries w t) (entries w v)) (sym there)
+        (shortest-words w u t given small p .between k (omega (arith, h, accepted .1, ap length is))))
 
-    replaced : ((s : ℕ) × ReplacingGiven w t given s)
-        → Between (vacant w) (entryOccupied w) (entrySame w) (entryMisordered w) (entries w t) (entries w after) ⊎ (after ≡ t)
+    replaced : ((s : ℕ) × ReplacingGiven w u t given s)
+        → Between (vacant w) (entryOccupied w) (entrySame w) (entryMisordered w u) (entries w t) (entries w after) ⊎ (after ≡ t)
     replaced (s, p) =
-        let is = planned-replaced w t rule s (p .replacing) in
+        let is = planned-replaced w u t rule s (p .replacing) in
         let none : k ≡ 0 = omega (arith, h, accepted .1, ap length is) in
-        inr (made ∙ ap (λ (n : ℕ). applyWords w t rule (take n (plannedWords w t rule))) none)
+        inr (made ∙ ap (λ (n : ℕ). applyWords w t rule (take n (plannedWords w u t rule))) none)

@@ -12,9 +12,9 @@ use Rattle.histories.specs.RuleSet.{Change, insert, delete, ruleSet, wit
 use Rattle.histories.specs.Inserted.{insertChanges, rulesInserted}
 
 -- the rules of the changed history are the changed rules
-pub changes-rules : (w : ℕ) (t : List ℕ) (rule : Rule) (history : List Change)
-    → ruleSet (insertChanges w t rule history) ≡ rulesInserted w t rule (ruleSet history)
-changes-rules w t rule history = ap (λ (rules : List Rule). rule ∷ rules) (pick (replaces w t (ruleWords w rule)) (replacedId w t (ruleWords w rule)))
+pub changes-rules : (w : ℕ) (u : Bool) (t : List ℕ) (rule : Rule) (history : List Change)
+    → ruleSet (insertChanges w u t rule history) ≡ rulesInserted w u t rule (ruleSet history)
+changes-rules w u t rule history = ap (λ (rules : List Rule). rule ∷ rules) (pick (replaces w u t (ruleWords w rule)) (replacedId w u t (ruleWords w rule)))
   where
     pick : (b : Bool) (id : ℕ) → ruleSet (cond b (delete id ∷ history) history) ≡ cond b (without id (ruleSet history)) (ruleSet history)
     pick true id = refl
@@ -24,17 +24,17 @@ changes-rules w t rule history = ap (λ (rules : List Rule). rule ∷ rules) (pi
 abbrev rulesBy : Rule → ℕ → Bool → List Rule → List Rule
 rulesBy rule id replaced rules = rule ∷ cond replaced (without id rules) rules
 
-pub inserted-fresh : (w : ℕ) (t : List ℕ) (rule : Rule) → Insertable w t rule
-    → _≡_ {A = List Rule → List Rule} (λ rules. rule ∷ rules) (rulesInserted w t rule)
-inserted-fresh w t rule p = ap (rulesBy rule (replacedId w t (ruleWords w rule))) (sym (insertable-fresh w t rule (p .new) (p .untied)))
+pub inserted-fresh : (w : ℕ) (u : Bool) (t : List ℕ) (rule : Rule) → Insertable w u t rule
+    → _≡_ {A = List Rule → List Rule} (λ rules. rule ∷ rules) (rulesInserted w u t rule)
+inserted-fresh w u t rule p = ap (rulesBy rule (replacedId w u t (ruleWords w rule))) (sym (insertable-fresh w u t rule p))
 
-pub inserted-replaced : (w : ℕ) (t : List ℕ) (rule : Rule) (s : ℕ) → Replacing w t rule s
-    → _≡_ {A = List Rule → List Rule} (λ rules. rule ∷ without (ident w (slotWords w t s)) rules) (rulesInserted w t rule)
-inserted-replaced w t rule s r =
-    let found = replacing-slot w t rule s r in
+pub inserted-replaced : (w : ℕ) (u : Bool) (t : List ℕ) (rule : Rule) (s : ℕ) → Replacing w u t rule s
+    → _≡_ {A = List Rule → List Rule} (λ rules. rule ∷ without (ident w (slotWords w t s)) rules) (rulesInserted w u t rule)
+inserted-replaced w u t rule s r =
+    let found = replacing-slot w u t rule s r in
     ap₂ (λ (slot : ℕ) (replaced : Bool). rulesBy rule (ident w (slotWords w t slot)) replaced) (sym (found .0)) (sym (found .1))
 
 -- .. and of the history
-pub changes-replaced : (w : ℕ) (t : List ℕ) (rule : Rule) (s : ℕ) (history : List Change) → Replacing w t rule s
-    → insertChanges w t rule history ≡ insert rule ∷ delete (ident w (slotWords w t s)) ∷ history
-changes-replaced w t rule s history r = let found = replacing-slot w t rule s r in rw (found .1, found .0)
+pub changes-replaced : (w : ℕ) (u : Bool) (t : List ℕ) (rule : Rule) (s : ℕ) (history : List Change) → Replacing w u t rule s
+    → insertChanges w u t rule history ≡ insert rule ∷ delete (ident w (slotWords w t s)) ∷ history
+changes-replaced w u t rule s history r = let found = replacing-slot w u t rule s r in rw (found .1, found .0)

@@ -2,12 +2,12 @@
 -- The layout's theorems are applied to the table's records.
 use mathlib.Core.Path.{_≡_, refl, sym, ap, ap₂, _∙_}
 use mathlib.Core.Bool.{Bool, true, false, cond, and-comm, true≢false}
-use mathlib.Core.Logic.{_⊎_}
+use mathlib.Core.Logic.{_⊎_, ⊎-elim}
 use mathlib.Core.Logic._⊎_.{inl, inr}
 use mathlib.Core.Option.{Option, none, some}
 use mathlib.Core.List.{List, [], _∷_}
 use Prim.Native.Nat.{ℕ, _<_, _≤_}
-use native.Mathlib.Decide.{decLe, decLt}
+use native.Mathlib.Decide.{ℕ-discrete, decLe, decLt}
 use native.Mathlib.Omega.{arith}
 use lib.Dec.{ltb}
 use lib.ListN.{length, getD, take, drop}
@@ -20,7 +20,7 @@ use Rattle.layout.specs.Changes.{between-reply}
 use Rattle.layout.specs.HeldLaws.{unique-coherent}
 use Rattle.layout.specs.InPlaceLaws.{first-match-by}
 use Rattle.records.specs.Record.{word, slotWords, value, mask, ident, action, rank, patternMatches, slotMatches}
-use Rattle.records.specs.Order.{slots, misordered}
+use Rattle.records.specs.Order.{slots, misordered, ActionsDiffer}
 use Rattle.records.specs.Checks.{firstMatch}
 use Rattle.records.specs.Laws.{table-checks-law, same-id-law, misordered-law}
 use Rattle.records.specs.Entries.{vacant, entries, entryOccupied, entrySame, entryMisordered}
@@ -33,6 +33,7 @@ use Rattle.lookups.specs.declared.LookupAnswer.the-variants.{Found, Miss}
 use Rattle.insert_plans.specs.Insertable.{InsertableGiven}
 use Rattle.insert_plans.specs.Inserts.{insertWords}
 use Rattle.insert_plans.specs.Demand3Laws.{shortest-words}
+use Rattle.histories.specs.Holding.{observed}
 
 -- an entry matches a key; id and action are what a reply tells of it
 abbrev pub entryMatches : ℕ → Words → List ℕ → Bool
@@ -41,10 +42,30 @@ entryMatches w key e = patternMatches w key (word e)
 abbrev pub entryTold : ℕ → List ℕ → List ℕ
 entryTold w e = ident w (word e) ∷ action w (word e) ∷ []
 
--- two rules of different ids that match one key overlap, and one of their ranks is not higher than the other
-pub entries-conflict : (w : ℕ) (key : Words)
-    → ConflictOrAlike (entryOccupied w) (entrySame w) (entryMisordered w) (entryMatches w key) (entryTold w)
-entries-conflict w key a b oa ob ma mb apart = inl (pick (decLe (rank w (word a)) (rank w (word b))))
+-- and as much of it as is promised
+abbrev pub entryObserved : ℕ → Bool → List ℕ → List ℕ
+entryObserved w u e = observed u (entryTold w e)
+
+-- where it is asked, two actions agree, or they differ
+pub asked-actions : (u : Bool) (m n : ℕ) → ((u ≡ true) × (m ≡ n)) ⊎ (u ≡ true → m ≡ n → ⊥)
+asked-actions false m n = inr (λ named. absurd (true≢false (sym named)))
+asked-actions true m n = pick (ℕ-discrete m n)
+  where
+    pick : Dec (m ≡ n) → ((true ≡ true) × (m ≡ n)) ⊎ (true ≡ true → m ≡ n → ⊥)
+    pick (yes e) = inl (refl, e)
+    pick (no e) = inr (λ named. e)
+
+-- of an uncounted table the action is all that is observed
+pub observed-action : (w : ℕ) (u : Bool) (a b : List ℕ) → u ≡ true → action w (word a) ≡ action w (word b) → entryObserved w u a ≡ entryObserved w u b
+observed-action w true a b named e = ap (λ (n : ℕ). n ∷ []) e
+observed-action w false a b named e = absurd (true≢false (sym named))
+
+-- two rules of different ids that match one key overlap, and one of their ranks is not higher than the other; in an uncounted table, if their actions differ
+pub entries-conflict : (w : ℕ) (u : Bool) (key : Words)
+    → ConflictOrAlike (entryOccupied w) (entrySame w) (entryMisordered w u) (entryMatches w key) (entryObserved w u)
+entries-conflict w u key a b oa ob ma mb apart =
+    ⊎-elim (λ same. inr (observed-action w u a b (same .0) (same .1))) (λ asked. inl (pick asked (decLe (rank w (word a)) (rank w (word b)))))
+    (asked-actions u (action w (word a)) (action w (word b)))
   where
     differ : ident w (word a) ≡ ident w (word b) → ⊥
     differ e = true≢false (sym (same-id-law w (word a) (word b) .1 (oa, ob, e)) ∙ apart)
@@ -52,9 +73,12 @@ entries-conflict w key a b oa ob ma mb apart = inl (pick (decLe (rank w (word a)
     overlap : (x y : Words) → patternMatches w key x ≡ true → patternMatches w key y ≡ true → Overlap w (value x) (mask w x) (value y) (mask w y)
     overlap x y p q = overlaps-law w (value x) (mask w x) (value y) (mask w y) .0 (matched-overlap w key (value x) (mask w x) (value y) (mask w y) p q)
 
-    pick : Dec (rank w (word a) ≤ rank w (word b)) → (misordered w (word a) (word b) ≡ true) ⊎ (misordered w (word b) (word a) ≡ true)
-    pick (yes l) = inl (misordered-law w (word a) (word b) .1 ((oa, ob, differ, overlap (word a) (word b) ma mb), l))
-    pick (no l) = inr (misordered-law w (word b) (word a) .1 ((ob, oa, λ e. differ (sym e), overlap (word b) (word a) mb ma), omega arith))
+    pick : ActionsDiffer w u (word a) (word b) → Dec (rank w (word a) ≤ rank w (word b))
+        → (misordered w u (word a) (word b) ≡ true) ⊎ (misordered w u (word b) (word a) ≡ true)
+    pick asked (yes l) = inl (misordered-law w u (word a) (word b) .1 ((oa, ob, differ, overlap (word a) (word b) ma mb, asked), l))
+    pick asked (no l) =
+        inr (misordered-law w u (word b) (word a) .1
+        ((ob, oa, λ e. differ (sym e), overlap (word b) (word a) mb ma, λ named e. asked named (sym e)), omega arith))
 
 -- a reply of the layout as document 01 has it: id and action, or nothing for a miss
 abbrev pub optionTold : Option (List ℕ) → List ℕ
@@ -105,18 +129,32 @@ reply-entries w t key = reply-shape w t m ∙ (pick (decLt m (slots w t)) ∙ sy
     pick (no h) =
         let l : slots w t ≤ m = omega arith in rw (← first-match-entries w t key, entries-length w t, le-ltb m (slots w t) l)
 
+-- and so is what is promised of it
+pub reply-observed : (w : ℕ) (u : Bool) (t : List ℕ) (key : Words)
+    → observed u (reply w t key) ≡ optionTold (layoutReply (vacant w) (entryOccupied w) (entryMatches w key) (entryObserved w u) (entries w t))
+unfolding layoutReply
+reply-observed w u t key =
+    let m = layoutMatch (vacant w) (entryOccupied w) (entryMatches w key) (entries w t) in
+    ap (observed u) (reply-entries w t key) ∙ shape u (ltb m (length (entries w t))) (entryTold w (getD (entries w t) m (vacant w)))
+  where
+    shape : (v b : Bool) (told : List ℕ) → observed v (optionTold (cond b (some told) none)) ≡ optionTold (cond b (some (observed v told)) none)
+    shape v true told = refl
+    shape true false told = refl
+    shape false false told = refl
+
 -- the plan of an insert, write by write
-module _ (w : ℕ) (t : List ℕ) (given : Given) (small : given .rule .action < 4294967296) (premises : InsertableGiven w t given) (key : Words) where
+module _ (w : ℕ) (u : Bool) (t : List ℕ) (given : Given) (small : given .rule .action < 4294967296) (premises : InsertableGiven w u t given) (key : Words) where
   abbrev rule : Rule
   rule = ranked w given
 
   -- until the last write every key keeps its reply
-  pub insert-keeps-reply : (k : ℕ) → k < length (insertWords w t rule) → reply w (applyWords w t rule (take k (insertWords w t rule))) key ≡ reply w t key
+  pub insert-keeps-reply : (k : ℕ) → k < length (insertWords w u t rule)
+      → observed u (reply w (applyWords w t rule (take k (insertWords w u t rule))) key) ≡ observed u (reply w t key)
   insert-keeps-reply k h =
-      let checks = table-checks-law w t .0 (premises .insertable .table) in
-      let after = applyWords w t rule (take k (insertWords w t rule)) in
-      reply-entries w after key
+      let checks = table-checks-law w u t .0 (premises .insertable .table) in
+      let after = applyWords w t rule (take k (insertWords w u t rule)) in
+      reply-observed w u after key
       ∙ (ap optionTold
-      (between-reply (entry-laws w) (entryMatches w key) (entryTold w) (entries-conflict w key) (entries w t) (entries w after) (order-entries w t .1 (checks .2))
-      (unique-coherent (entry-laws w) (entries w t) (unique-entries w t .1 (checks .1))) (shortest-words w t given small premises .between k h))
-      ∙ sym (reply-entries w t key))
+      (between-reply (entry-laws w u) (entryMatches w key) (entryObserved w u) (entries-conflict w u key) (entries w t) (entries w after) (order-entries w u t .1 (checks .2))
+      (unique-coherent (entry-laws w u) (entries w t) (unique-entries w t .1 (checks .1))) (shortest-words w u t given small premises .between k h))
+      ∙ sym (reply-observed w u t key))

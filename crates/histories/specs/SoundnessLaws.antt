@@ -1,7 +1,7 @@
 -- Laws on soundness: tables in the middle of an insert's plan pass checks 1 and 2, so that lookup answers on each of them, and the last one passes
 -- 1 to 4. A delete and a replacement leave a table that passes 1 to 4 too.
 use mathlib.Core.Path.{_≡_, refl, sym, ap, _∙_}
-use mathlib.Core.Bool.{true, false, not, true≢false}
+use mathlib.Core.Bool.{Bool, true, false, not, true≢false}
 use mathlib.Core.Logic.{_↔_, _⊎_, ⊎-elim}
 use mathlib.Core.Logic._⊎_.{inl, inr}
 use mathlib.Core.List.{List}
@@ -70,23 +70,23 @@ records-entries w t = (forth, λ f. records-law w t .1 (back f))
             ∙ f (getD (entries w t) i (vacant w)) (occupied-at w t i h ∙ ap not e, (i, (let n = entries-length w t in omega arith), refl)))
 
 -- the plan of an insert
-module _ (w : ℕ) (t : List ℕ) (given : Given) (small : given .rule .action < 4294967296) (premises : InsertableGiven w t given) where
+module _ (w : ℕ) (u : Bool) (t : List ℕ) (given : Given) (small : given .rule .action < 4294967296) (premises : InsertableGiven w u t given) where
   abbrev rule : Rule
   rule = ranked w given
 
   words : List ℕ
-  words = insertWords w t rule
+  words = insertWords w u t rule
 
-  planned : ShortestPlan w t rule (insertAnswer w t given (length words)) words (insertPlan w t given words)
+  planned : ShortestPlan w u t rule (insertAnswer w u t given (length words)) words (insertPlan w u t given words)
   unfolding words
-  planned = shortest-words w t given small premises
+  planned = shortest-words w u t given small premises
 
   before : (checkShape w t ≡ Pass) × (checkRecords w t ≡ Pass)
-  before = slot-checks-law w t .0 (table-checks-law w t .0 (premises .insertable .table) .0)
+  before = slot-checks-law w t .0 (table-checks-law w u t .0 (premises .insertable .table) .0)
 
   below : WordsBelow (slots w t) words
   unfolding words
-  below = turn-below w t rule words (⊎-elim (λ c. c .fits) (λ c. c .fits) (class-words-law w t rule words .0 (planned .class)))
+  below = turn-below w t rule words (⊎-elim (λ c. c .fits) (λ c. c .fits) (class-words-law w u t rule words .0 (planned .class)))
 
   kept : (k : ℕ) → k ≤ length words → checkShape w (applyWords w t rule (take k words)) ≡ Pass
   kept k l =
@@ -94,7 +94,7 @@ module _ (w : ℕ) (t : List ℕ) (given : Given) (small : given .rule .action <
       shape-same w t _ (apply-words-length w t rule (take k words) (λ j h. rw (getD-take k words j 0 (omega arith)) (below j (omega arith)))) ∙ before .0
 
   -- before the last write the table passes checks 1 and 2
-  pub insert-between-checks : (k : ℕ) → k < length (insertWords w t rule) → slotChecks w (applyWords w t rule (take k (insertWords w t rule))) ≡ Pass
+  pub insert-between-checks : (k : ℕ) → k < length (insertWords w u t rule) → slotChecks w (applyWords w t rule (take k (insertWords w u t rule))) ≡ Pass
   unfolding words
   insert-between-checks k h =
       let after = applyWords w t rule (take k words) in
@@ -102,13 +102,13 @@ module _ (w : ℕ) (t : List ℕ) (given : Given) (small : given .rule .action <
       (kept k (omega arith), records-entries w after .1 (λ x m. records-entries w t .0 (before .1) x (planned .between k h .held x .0 m)))
 
   -- after it the table passes checks 1 to 4
-  pub insert-after-checks : tableChecks w (applyWords w t rule (insertWords w t rule)) ≡ Pass
+  pub insert-after-checks : tableChecks w u (applyWords w t rule (insertWords w u t rule)) ≡ Pass
   unfolding words
   insert-after-checks =
-      table-checks-law w after .1 (
+      table-checks-law w u after .1 (
         slot-checks-law w after .1 (shape, records-entries w after .1 held-sound),
         unique-entries w after .0 (planned .placed .unique),
-        order-entries w after .0 (planned .placed .order),
+        order-entries w u after .0 (planned .placed .order),
       )
     where
       after : List ℕ
@@ -123,19 +123,19 @@ module _ (w : ℕ) (t : List ℕ) (given : Given) (small : given .rule .action <
           (λ e. ap (λ (y : List ℕ). sound w (word y)) (sym e) ∙ (record-sound w rule (omega (arith, small, ranked-action w given)) ∙ premises .insertable .sound)) (planned .placed .held x .0 m)
 
 -- the one write of a delete
-pub delete-after-checks : (w : ℕ) (t : List ℕ) (id : ℕ) → deleteChecks w t id ≡ Pass → (rule : Rule) → tableChecks w (applyWords w t rule (deleteWords w t id)) ≡ Pass
-delete-after-checks w t id checks rule =
-    table-checks-law w after .1 (
+pub delete-after-checks : (w : ℕ) (u : Bool) (t : List ℕ) (id : ℕ) → deleteChecks w u t id ≡ Pass → (rule : Rule) → tableChecks w u (applyWords w t rule (deleteWords w t id)) ≡ Pass
+delete-after-checks w u t id checks rule =
+    table-checks-law w u after .1 (
       slot-checks-law w after .1 (shape, records-entries w after .1 held-sound),
-      unique-entries w after .0 (rw emptied-entries (unique-emptied (entry-laws w) (entries w t) s low unique)),
-      order-entries w after .0 (rw emptied-entries (in-order-emptied (entry-laws w) (entries w t) s (order-entries w t .1 (before .2)))),
+      unique-entries w after .0 (rw emptied-entries (unique-emptied (entry-laws w u) (entries w t) s low unique)),
+      order-entries w u after .0 (rw emptied-entries (in-order-emptied (entry-laws w u) (entries w t) s (order-entries w u t .1 (before .2)))),
     )
   where
     s : ℕ
     s = slotOfId w t id
 
-    p : DeletePlanned w t id
-    p = delete-planned w t id checks
+    p : DeletePlanned w u t id
+    p = delete-planned w u t id checks
 
     low : s < length (entries w t)
     low = omega (arith, p .exists, entries-length w t)
@@ -146,8 +146,8 @@ delete-after-checks w t id checks rule =
     emptied-entries : entries w after ≡ emptied (vacant w) (entries w t) s
     emptied-entries = ap (entries w) (p .after rule) ∙ apply-entries w t rule (clear s) (p .exists)
 
-    before : (slotChecks w t ≡ Pass) × (checkTwice w t ≡ Pass) × (checkOrder w t ≡ Pass)
-    before = table-checks-law w t .0 (p .table)
+    before : (slotChecks w t ≡ Pass) × (checkTwice w t ≡ Pass) × (checkOrder w u t ≡ Pass)
+    before = table-checks-law w u t .0 (p .table)
 
     unique : EntriesUnique w (entries w t)
     unique = unique-entries w t .1 (before .1)
@@ -161,12 +161,12 @@ delete-after-checks w t id checks rule =
     held-sound : (x : List ℕ) → Held (vacant w) (entryOccupied w) (entries w after) x → sound w (word x) ≡ true
     held-sound x m =
         records-entries w t .0 (first .1) x
-        (held-removed (entry-laws w) (entries w t) s low (λ k l d. unique k s l low d) x .0 (rw emptied-entries at m) .0)
+        (held-removed (entry-laws w u) (entries w t) s low (λ k l d. unique k s l low d) x .0 (rw emptied-entries at m) .0)
 
 -- the one write of a replacement
-module _ (w : ℕ) (t : List ℕ) (rule : Rule) (small : rule .action < 4294967296) (s : ℕ) (premises : Replacing w t rule s) where
-  checks : (slotChecks w t ≡ Pass) × (checkTwice w t ≡ Pass) × (checkOrder w t ≡ Pass)
-  checks = table-checks-law w t .0 (premises .table)
+module _ (w : ℕ) (u : Bool) (t : List ℕ) (rule : Rule) (small : rule .action < 4294967296) (s : ℕ) (premises : Replacing w u t rule s) where
+  checks : (slotChecks w t ≡ Pass) × (checkTwice w t ≡ Pass) × (checkOrder w u t ≡ Pass)
+  checks = table-checks-law w u t .0 (premises .table)
 
   first : (checkShape w t ≡ Pass) × (checkRecords w t ≡ Pass)
   first = slot-checks-law w t .0 (checks .0)
@@ -194,27 +194,27 @@ module _ (w : ℕ) (t : List ℕ) (rule : Rule) (small : rule .action < 42949672
   pub replacement-held : (x : List ℕ) → Held (vacant w) (entryOccupied w) (entries w after-replacement) x
       ↔ ((Held (vacant w) (entryOccupied w) (entries w t) x × (entrySame w x (getD (entries w t) s (vacant w)) ≡ false))
       ⊎ ((entryOccupied w (recordOf w rule) ≡ true) × (recordOf w rule ≡ x)))
-  replacement-held x = rw replacement-entries (held-replaced (entry-laws w) (entries w t) s (recordOf w rule) low (λ k l d. unique k s l low d) x)
+  replacement-held x = rw replacement-entries (held-replaced (entry-laws w u) (entries w t) s (recordOf w rule) low (λ k l d. unique k s l low d) x)
 
   ordered : (k : ℕ) → k < length (entries w t)
-      → (k < s → entryMisordered w (getD (entries w t) k (vacant w)) (recordOf w rule) ≡ false)
-      × (s < k → entryMisordered w (recordOf w rule) (getD (entries w t) k (vacant w)) ≡ false)
+      → (k < s → entryMisordered w u (getD (entries w t) k (vacant w)) (recordOf w rule) ≡ false)
+      × (s < k → entryMisordered w u (recordOf w rule) (getD (entries w t) k (vacant w)) ≡ false)
   ordered k l =
       let h : k < slots w t = omega (arith, l, entries-length w t) in
-      let right = equal-ordered w t (checks .1) (checks .2) (word (recordOf w rule)) (premises .new) s (premises .inside) (premises .equal) k h in (
-        λ b. misordered-cong w (entry-same w t k h) (λ j i. refl) ∙ right .0 b,
-        λ b. misordered-cong w (λ j i. refl) (entry-same w t k h) ∙ right .1 b,
+      let right = equal-ordered w u t (checks .1) (checks .2) (word (recordOf w rule)) (premises .new) s (premises .inside) (premises .replaced) k h in (
+        λ b. misordered-cong w u (entry-same w t k h) (λ j i. refl) ∙ right .0 b,
+        λ b. misordered-cong w u (λ j i. refl) (entry-same w t k h) ∙ right .1 b,
       )
 
   -- after it the table passes checks 1 to 4
-  pub replacement-checks : tableChecks w after-replacement ≡ Pass
+  pub replacement-checks : tableChecks w u after-replacement ≡ Pass
   replacement-checks =
-      table-checks-law w after-replacement .1 (
+      table-checks-law w u after-replacement .1 (
         slot-checks-law w after-replacement .1 (shape, records-entries w after-replacement .1 held-sound),
         unique-entries w after-replacement .0
-            (rw replacement-entries (unique-written (entry-laws w) (entries w t) s (recordOf w rule) low (new-id-entries w t rule .1 (premises .new)) unique)),
-        order-entries w after-replacement .0
-            (rw replacement-entries (in-order-put (down (vacant w) (entryMisordered w)) (entries w t) s (recordOf w rule) low (order-entries w t .1 (checks .2))
+            (rw replacement-entries (unique-written (entry-laws w u) (entries w t) s (recordOf w rule) low (new-id-entries w t rule .1 (premises .new)) unique)),
+        order-entries w u after-replacement .0
+            (rw replacement-entries (in-order-put (down (vacant w) (entryMisordered w u)) (entries w t) s (recordOf w rule) low (order-entries w u t .1 (checks .2))
             (λ k l b. ordered k l .0 b) (λ k l b. ordered k l .1 b))),
       )
     where

@@ -1,7 +1,7 @@
 -- End theorems on the rules of a table: every sound table holds those read off its slots, however it came about.
 -- So what demand 2 says of a plan is said of every sound table.
 use mathlib.Core.Path.{_≡_, refl, sym, ap, _∙_}
-use mathlib.Core.Bool.{true, false, not, true≢false}
+use mathlib.Core.Bool.{Bool, true, false, not, true≢false}
 use mathlib.Core.Logic.{_↔_, _⊎_, ⊎-elim}
 use mathlib.Core.Logic._⊎_.{inl, inr}
 use mathlib.Core.List.{List, _∷_}
@@ -54,9 +54,9 @@ rules-below w t (suc n) r = pick (decided (empty w (slotWords w t n))) (rules-be
         back (i, h, o, e) (no d) = inr (law .1 (i, omega arith, o, e))
 
 -- every sound table holds its rules
-pub table-holding : (w : ℕ) (t : List ℕ) → tableChecks w t ≡ Pass → Holding w (tableRules w t) t
+pub table-holding : (w : ℕ) (u : Bool) (t : List ℕ) → tableChecks w u t ≡ Pass → Holding w u (tableRules w t) t
 unfolding ruleOf
-table-holding w t checks = record {
+table-holding w u t checks = record {
   checks = checks;
   held = λ x. (λ m. forth x m, back x);
   actions = λ r m. let s = rules-below w t (slots w t) r .0 m in
@@ -65,7 +65,7 @@ table-holding w t checks = record {
   where
     read : (i : ℕ) → i < slots w t → empty w (slotWords w t i) ≡ false → recordOf w (ruleOf w (slotWords w t i)) ≡ getD (entries w t) i (vacant w)
     read i h o =
-        let records = slot-checks-law w t .0 (table-checks-law w t .0 checks .0) .1 in
+        let records = slot-checks-law w t .0 (table-checks-law w u t .0 checks .0) .1 in
         let low : rank w (slotWords w t i) < 4294967296 =
         ⊎-elim (λ v. absurd (true≢false (sym v ∙ o))) (λ s. omega (arith, sound-rank w (slotWords w t i) s)) (records-law w t .0 records i h) in
         record-of-rule w (slotWords w t i) low ∙ sym (entry-at w t i h)

@@ -1,6 +1,6 @@
 -- What saving and loading answer, and what they leave in the lent buffers.
 -- A refused call leaves its buffer as it was; bytes past a saved image stay.
-use mathlib.Core.Bool.{cond}
+use mathlib.Core.Bool.{Bool, cond}
 use mathlib.Core.List.{List, [], _∷_}
 use Prim.Native.Nat.{ℕ}
 use lib.ListN.{length}
@@ -24,28 +24,28 @@ loadTold Loaded = success []
 loadTold (LoadRefused cause spot) = refusal cause spot
 
 -- save makes checks 1 to 4, then 11 with the bytes needed: a buffer too short is one row for plans and images
-abbrev pub saveAnswer : ℕ → List ℕ → ℕ → Told
-saveAnswer w t room = bufferAnswer (tableChecks w t) (imageBytes w (ruleCount w t)) room
+abbrev pub saveAnswer : ℕ → Bool → List ℕ → ℕ → Told
+saveAnswer w u t room = bufferAnswer (tableChecks w u t) (imageBytes w (ruleCount w t)) room
 
-abbrev pub saveBuffer : ℕ → List ℕ → List ℕ → List ℕ
-saveBuffer w t image = bufferAfter (tableChecks w t) (imageOf w t) image
+abbrev pub saveBuffer : ℕ → Bool → List ℕ → List ℕ → List ℕ
+saveBuffer w u t image = bufferAfter (tableChecks w u t) (imageOf w t) image
 
 -- load: the table meant, or a refusal that leaves the lent table as it was
-unfoldable pub loadAnswer : ℕ → List ℕ → List ℕ → Told
-loadAnswer w b t = unless (loadChecks w b t) (success [])
+unfoldable pub loadAnswer : ℕ → Bool → List ℕ → List ℕ → Told
+loadAnswer w u b t = unless (loadChecks w u b t) (success [])
 
-unfoldable pub loadTable : ℕ → List ℕ → List ℕ → List ℕ
-loadTable w b t = cond (passes (loadChecks w b t)) (meant w b (length t)) t
+unfoldable pub loadTable : ℕ → Bool → List ℕ → List ℕ → List ℕ
+loadTable w u b t = cond (passes (loadChecks w u b t)) (meant w b (length t)) t
 
 -- document 02: the calls; another width is 1, and leaves the buffer, or the table, as it was
-abbrev pub saveCall : ℕ → List ℕ → ℕ → Told
-saveCall w t room = unless (checkWidth w) (saveAnswer w t room)
+abbrev pub saveCall : ℕ → Bool → List ℕ → ℕ → Told
+saveCall w u t room = unless (checkWidth w) (saveAnswer w u t room)
 
-abbrev pub saveCallBuffer : ℕ → List ℕ → List ℕ → List ℕ
-saveCallBuffer w t image = leaves (checkWidth w) (saveBuffer w t image) image
+abbrev pub saveCallBuffer : ℕ → Bool → List ℕ → List ℕ → List ℕ
+saveCallBuffer w u t image = leaves (checkWidth w) (saveBuffer w u t image) image
 
-abbrev pub loadCall : ℕ → List ℕ → List ℕ → Told
-loadCall w b t = unless (checkWidth w) (loadAnswer w b t)
+abbrev pub loadCall : ℕ → Bool → List ℕ → List ℕ → Told
+loadCall w u b t = unless (checkWidth w) (loadAnswer w u b t)
 
-abbrev pub loadCallTable : ℕ → List ℕ → List ℕ → List ℕ
-loadCallTable w b t = leaves (checkWidth w) (loadTable w b t) t
+abbrev pub loadCallTable : ℕ → Bool → List ℕ → List ℕ → List ℕ
+loadCallTable w u b t = leaves (checkWidth w) (loadTable w u b t) t

@@ -66,10 +66,10 @@ unfoldable pub meant : ℕ → List ℕ → ℕ → List ℕ
 meant w b size = rulesPut w b (rulesIn b) (replicate size 0) (rulesIn b)
 
 -- shape of the lent table, then the image, then 3 and 4 over the table meant
-unfoldable pub loadChecks : ℕ → List ℕ → List ℕ → Check
-loadChecks w b t =
+unfoldable pub loadChecks : ℕ → Bool → List ℕ → List ℕ → Check
+loadChecks w u b t =
     orElse (orElse (checkShape w t) (imageChecks w b (slots w t)))
-    (orElse (checkTwice w (meant w b (length t))) (checkOrder w (meant w b (length t))))
+    (orElse (checkTwice w (meant w b (length t))) (checkOrder w u (meant w b (length t))))
 
 -- checks in turn
 module _ (check : ℕ → Check) where

@@ -2,6 +2,7 @@
 -- on one whose rule cares for every bit, and on one of five words a value.
 -- Each is checked by computation alone.
 use mathlib.Core.Path.{_≡_, refl}
+use mathlib.Core.Bool.{false}
 use mathlib.Core.List.{List, [], _∷_, _++_}
 use Prim.Native.Nat.{ℕ}
 use lib.ListN.{set, replicate}
@@ -30,13 +31,13 @@ saved : imageOf 2 table ≡ image
 unfolding imageOf indices empty all entryBytes ruleBytes entryOf bodyOf pieces bytesOf
 saved = refl
 
-loaded : loadTable 2 image (replicate 18 5) ≡ table
+loaded : loadTable 2 false image (replicate 18 5) ≡ table
 unfolding loadAnswer loadTable loadChecks checkShape shaped imageChecks checkHeader checkContents checkBodies inTurn checkEntry checkBody numberAt recordAt listed rankFits fullMask soundParts within all inside meant rulesPut putSlot checkTwice twiceAt lowest least any sameId empty checkOrder disorderAt misordered overlaps distinct agree both
 loaded = refl
 
 -- what a lent table of three slots is answered with byte i of the image changed to n
 answer : ℕ → ℕ → Told
-answer i n = loadAnswer 2 (set image i n) (replicate 18 5)
+answer i n = loadAnswer 2 false (set image i n) (replicate 18 5)
 
 right : answer 3 2 ≡ success []
 unfolding answer loadAnswer loadTable loadChecks checkShape shaped imageChecks checkHeader checkContents checkBodies inTurn checkEntry checkBody numberAt recordAt listed rankFits fullMask soundParts within all inside meant rulesPut putSlot checkTwice twiceAt lowest least any sameId empty checkOrder disorderAt misordered overlaps distinct agree both
@@ -84,7 +85,7 @@ out-of-order = refl
 
 -- two fields wrong, the first in the order of checks: byte j is changed to m too
 both-wrong : ℕ → ℕ → ℕ → ℕ → Told
-both-wrong i n j m = loadAnswer 2 (set (set image i n) j m) (replicate 18 5)
+both-wrong i n j m = loadAnswer 2 false (set (set image i n) j m) (replicate 18 5)
 
 -- the slots and the rules
 slots-before-rules : both-wrong 1 4 3 1 ≡ refusal Image 0
@@ -112,17 +113,17 @@ exact-saved : imageOf 2 exact-table ≡ exact-image
 unfolding imageOf indices empty all entryBytes ruleBytes entryOf bodyOf pieces bytesOf
 exact-saved = refl
 
-exact-loaded : loadTable 2 exact-image (replicate 6 5) ≡ exact-table
+exact-loaded : loadTable 2 false exact-image (replicate 6 5) ≡ exact-table
 unfolding loadAnswer loadTable loadChecks checkShape shaped imageChecks checkHeader checkContents checkBodies inTurn checkEntry checkBody numberAt recordAt listed rankFits fullMask soundParts within all inside meant rulesPut putSlot checkTwice twiceAt lowest least any sameId empty checkOrder disorderAt misordered overlaps distinct agree both
 exact-loaded = refl
 
 -- a mask bit less
-bit-missing : loadAnswer 2 (set exact-image 45 254) (replicate 6 5) ≡ refusal Image 14
+bit-missing : loadAnswer 2 false (set exact-image 45 254) (replicate 6 5) ≡ refusal Image 14
 unfolding loadAnswer loadTable loadChecks checkShape shaped imageChecks checkHeader checkContents checkBodies inTurn checkEntry checkBody numberAt recordAt listed rankFits fullMask soundParts within all inside meant rulesPut putSlot checkTwice twiceAt lowest least any sameId empty checkOrder disorderAt misordered overlaps distinct agree both
 bit-missing = refl
 
 -- rank 65,537
-rank-high : loadAnswer 2 (set exact-image 49 1) (replicate 6 5) ≡ refusal Image 14
+rank-high : loadAnswer 2 false (set exact-image 49 1) (replicate 6 5) ≡ refusal Image 14
 unfolding loadAnswer loadTable loadChecks checkShape shaped imageChecks checkHeader checkContents checkBodies inTurn checkEntry checkBody numberAt recordAt listed rankFits fullMask soundParts within all inside meant rulesPut putSlot checkTwice twiceAt lowest least any sameId empty checkOrder disorderAt misordered overlaps distinct agree both
 rank-high = refl
 
@@ -137,16 +138,16 @@ wide-saved : imageOf 5 wide-table ≡ wide-image
 unfolding imageOf indices empty all entryBytes ruleBytes entryOf bodyOf pieces bytesOf
 wide-saved = refl
 
-wide-loaded : loadTable 5 wide-image (replicate 12 5) ≡ wide-table
+wide-loaded : loadTable 5 false wide-image (replicate 12 5) ≡ wide-table
 unfolding loadAnswer loadTable loadChecks checkShape shaped imageChecks checkHeader checkContents checkBodies inTurn checkEntry checkBody numberAt recordAt listed rankFits fullMask soundParts within all inside meant rulesPut putSlot checkTwice twiceAt lowest least any sameId empty checkOrder disorderAt misordered overlaps distinct agree both
 wide-loaded = refl
 
 -- an image of the other width has the wrong length for its rules
-other-width : loadAnswer 2 wide-image (replicate 6 5) ≡ refusal Image 2
+other-width : loadAnswer 2 false wide-image (replicate 6 5) ≡ refusal Image 2
 unfolding loadAnswer loadTable loadChecks checkShape shaped imageChecks checkHeader checkContents checkBodies inTurn checkEntry checkBody numberAt recordAt listed rankFits fullMask soundParts within all inside meant rulesPut putSlot checkTwice twiceAt lowest least any sameId empty checkOrder disorderAt misordered overlaps distinct agree both
 other-width = refl
 
 -- a width that there is not
-no-width : loadCall 3 wide-image (replicate 8 5) ≡ refusal Shape 0
+no-width : loadCall 3 false wide-image (replicate 8 5) ≡ refusal Shape 0
 unfolding checkWidth known
 no-width = refl

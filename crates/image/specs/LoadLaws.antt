@@ -1,6 +1,6 @@
 -- End theorems on loading: how a load ends, and that of the lent table only the length counts.
 use mathlib.Core.Path.{_≡_, refl, sym, ap, ap₂, _∙_}
-use mathlib.Core.Bool.{cond}
+use mathlib.Core.Bool.{Bool, cond}
 use mathlib.Core.List.{List, [], _∷_, _++_}
 use Prim.Native.Nat.{ℕ, zero, suc, _+_, _-_, _*_, _/_, _≤_, _<_}
 use native.Mathlib.Nat.{sub-zero}
@@ -58,24 +58,25 @@ module _ (w : ℕ) (b t : List ℕ) where
   pub fields-sound : orElse (checkShape w t) (imageChecks w b (slots w t)) ≡ Pass → Sound w b (slots w t)
   fields-sound p = image-law w b (slots w t) .0 (or-else-pass (checkShape w t) (imageChecks w b (slots w t)) .0 p .1)
 
-  load-refused : {cause : Cause} {spot : ℕ} → Fail cause spot ≡ loadChecks w b t → (refusal cause spot ≡ loadAnswer w b t) × (t ≡ loadTable w b t)
+module _ (w : ℕ) (u : Bool) (b t : List ℕ) where
+  load-refused : {cause : Cause} {spot : ℕ} → Fail cause spot ≡ loadChecks w u b t → (refusal cause spot ≡ loadAnswer w u b t) × (t ≡ loadTable w u b t)
   unfolding loadAnswer loadTable
   load-refused e = (ap (λ (c : Check). unless c (success [])) e, ap (λ (c : Check). cond (passes c) (meant w b (length t)) t) e)
 
   pub load-wrong : {x : Check} {cause : Cause} {spot : ℕ} → x ≡ orElse (checkShape w t) (imageChecks w b (slots w t)) → x ≡ Fail cause spot
-      → (refusal cause spot ≡ loadAnswer w b t) × (t ≡ loadTable w b t)
+      → (refusal cause spot ≡ loadAnswer w u b t) × (t ≡ loadTable w u b t)
   unfolding loadChecks
   load-wrong e f = load-refused (failed _ e f)
 
   pub load-unsound : {x : Check} {cause : Cause} {spot : ℕ} → orElse (checkShape w t) (imageChecks w b (slots w t)) ≡ Pass
-      → x ≡ orElse (checkTwice w (meant w b (length t))) (checkOrder w (meant w b (length t))) → x ≡ Fail cause spot
-      → (refusal cause spot ≡ loadAnswer w b t) × (t ≡ loadTable w b t)
+      → x ≡ orElse (checkTwice w (meant w b (length t))) (checkOrder w u (meant w b (length t))) → x ≡ Fail cause spot
+      → (refusal cause spot ≡ loadAnswer w u b t) × (t ≡ loadTable w u b t)
   unfolding loadChecks
   load-unsound p e f = load-refused (passed refl p (sym f ∙ e))
 
   pub load-written : {x : Check} → orElse (checkShape w t) (imageChecks w b (slots w t)) ≡ Pass
-      → x ≡ orElse (checkTwice w (meant w b (length t))) (checkOrder w (meant w b (length t))) → x ≡ Pass
-      → (success [] ≡ loadAnswer w b t) × (meant w b (length t) ≡ loadTable w b t)
+      → x ≡ orElse (checkTwice w (meant w b (length t))) (checkOrder w u (meant w b (length t))) → x ≡ Pass
+      → (success [] ≡ loadAnswer w u b t) × (meant w b (length t) ≡ loadTable w u b t)
   unfolding loadChecks loadAnswer loadTable
   load-written p e f =
       let all = passed refl p (sym f ∙ e) in
@@ -91,12 +92,12 @@ pub front-zeros : (n m : ℕ) → n ≤ m → take {A = ℕ} (n - 0) (replicate 
 front-zeros n m h = ap (λ (k : ℕ). take k (replicate m 0)) (sub-zero n) ∙ take-zeros n m h
 
 -- of the lent table only the length counts
-pub lent-checks : (w : ℕ) (b t u : List ℕ) → length u ≡ length t → loadChecks w b u ≡ loadChecks w b t
+pub lent-checks : (w : ℕ) (u : Bool) (b t v : List ℕ) → length v ≡ length t → loadChecks w u b v ≡ loadChecks w u b t
 unfolding loadChecks
-lent-checks w b t u e =
-    ap₂ (λ (shape : Check) (n : ℕ). orElse (orElse shape (imageChecks w b (n / recordWords w))) (orElse (checkTwice w (meant w b n)) (checkOrder w (meant w b n))))
-    (shape-same w t u e) e
+lent-checks w u b t v e =
+    ap₂ (λ (shape : Check) (n : ℕ). orElse (orElse shape (imageChecks w b (n / recordWords w))) (orElse (checkTwice w (meant w b n)) (checkOrder w u (meant w b n))))
+    (shape-same w t v e) e
 
-pub lent-answer : (w : ℕ) (b t u : List ℕ) → length u ≡ length t → loadAnswer w b u ≡ loadAnswer w b t
+pub lent-answer : (w : ℕ) (u : Bool) (b t v : List ℕ) → length v ≡ length t → loadAnswer w u b v ≡ loadAnswer w u b t
 unfolding loadAnswer
-lent-answer w b t u e = ap (λ (check : Check). unless check (success [])) (lent-checks w b t u e)
+lent-answer w u b t v e = ap (λ (check : Check). unless check (success [])) (lent-checks w u b t v e)

@@ -1,7 +1,7 @@
 -- Laws on the fields of a saved image, read back: each is the number that was saved.
 -- So an image of a sound table passes the checks of a load, and each of its records is the table's.
 use mathlib.Core.Path.{_≡_, sym, ap, ap₂, _∙_}
-use mathlib.Core.Bool.{true, not, true≢false}
+use mathlib.Core.Bool.{Bool, true, not, true≢false}
 use mathlib.Core.Logic.{⊎-elim}
 use mathlib.Core.List.{List, _++_}
 use Prim.Native.Nat.{ℕ, zero, suc, _+_, _*_, _^_, _≤_, _<_}
@@ -139,10 +139,10 @@ module _ (w : ℕ) (t : List ℕ) where
       ∙ piece-at (ruleBytes w t) (bodyBytes w) (rule-bytes-length w t) (ruleCount w t) k h
 
 -- a sound table's image
-module _ (w : ℕ) (t : List ℕ) (narrow : Numbered w) (sixty-four : Words64 t) (passes : tableChecks w t ≡ Pass) where
+module _ (w : ℕ) (u : Bool) (t : List ℕ) (narrow : Numbered w) (sixty-four : Words64 t) (passes : tableChecks w u t ≡ Pass) where
   slots-checks : (checkShape w t ≡ Pass) × (checkRecords w t ≡ Pass)
   unfolding tableChecks slotChecks
-  slots-checks = or-else-pass (checkShape w t) (checkRecords w t) .0 (or-else-pass (slotChecks w t) (orElse (checkTwice w t) (checkOrder w t)) .0 passes .0)
+  slots-checks = or-else-pass (checkShape w t) (checkRecords w t) .0 (or-else-pass (slotChecks w t) (orElse (checkTwice w t) (checkOrder w u t)) .0 passes .0)
 
   shape : (1 ≤ slots w t) × (slots w t ≤ 1024) × (length t ≡ slots w t * recordWords w)
   shape = shaped-slots w t (slots-checks .0)

@@ -1,7 +1,7 @@
 -- Laws on an image loaded again: a saved image means the table it was saved from, so that it loads to that table.
 -- Each field reads back as it was saved; a slot of no rule is empty in both tables.
 use mathlib.Core.Path.{_≡_, refl, sym, ap, _∙_}
-use mathlib.Core.Bool.{true, false, true≢false}
+use mathlib.Core.Bool.{Bool, true, false, true≢false}
 use mathlib.Core.Logic.{_⊎_}
 use mathlib.Core.Logic._⊎_.{inl, inr}
 use mathlib.Core.List.{List, []}
@@ -29,22 +29,22 @@ use Rattle.image.specs.ChecksLaws.{image-law}
 use Rattle.image.specs.ReadingLaws.{rules-read, slot-read, record-read, saved-passes}
 
 -- a table is determined by its image: the table meant by the image of a sound table is that table
-module _ (w : ℕ) (t : List ℕ) (narrow : Numbered w) (sixty-four : Words64 t) (passed : tableChecks w t ≡ Pass) where
-  checks : (checkShape w t ≡ Pass) × (checkTwice w t ≡ Pass) × (checkOrder w t ≡ Pass)
+module _ (w : ℕ) (u : Bool) (t : List ℕ) (narrow : Numbered w) (sixty-four : Words64 t) (passed : tableChecks w u t ≡ Pass) where
+  checks : (checkShape w t ≡ Pass) × (checkTwice w t ≡ Pass) × (checkOrder w u t ≡ Pass)
   unfolding tableChecks slotChecks
   checks =
-      let p = or-else-pass (slotChecks w t) (orElse (checkTwice w t) (checkOrder w t)) .0 passed in
-      let q = or-else-pass (checkTwice w t) (checkOrder w t) .0 (p .1) in
+      let p = or-else-pass (slotChecks w t) (orElse (checkTwice w t) (checkOrder w u t)) .0 passed in
+      let q = or-else-pass (checkTwice w t) (checkOrder w u t) .0 (p .1) in
       (or-else-pass (checkShape w t) (checkRecords w t) .0 (p .0) .0, q .0, q .1)
 
   pub saved-size : length t ≡ slots w t * recordWords w
   saved-size = shaped-slots w t (checks .0) .2
 
   back : Sound w (imageOf w t) (slots w t)
-  back = saved-passes w t narrow sixty-four passed
+  back = saved-passes w u t narrow sixty-four passed
 
   into : (k : ℕ) → k < rulesIn (imageOf w t) → k < ruleCount w t
-  into k l = omega (arith, rules-read w t narrow sixty-four passed)
+  into k l = omega (arith, rules-read w u t narrow sixty-four passed)
 
   meant-saved : meant w (imageOf w t) (slots w t * recordWords w) ≡ t
   meant-saved =
@@ -55,18 +55,18 @@ module _ (w : ℕ) (t : List ℕ) (narrow : Numbered w) (sixty-four : Words64 t)
 
       here : (i k : ℕ) → (k < ruleCount w t) → ruleSlot w t k ≡ i → SameRecord w (slotWords w m i) (slotWords w t i)
       here i k l f j r =
-          let there : entrySlot (imageOf w t) k ≡ i = slot-read w t narrow sixty-four passed k l ∙ f in
+          let there : entrySlot (imageOf w t) k ≡ i = slot-read w u t narrow sixty-four passed k l ∙ f in
           ap (λ (s : ℕ). slotWords w m s j) (sym there)
-          ∙ (meant-here w (imageOf w t) (slots w t) back k (omega (arith, rules-read w t narrow sixty-four passed)) j r
-          ∙ (ap (λ (e : ℕ). word (recordAt w (imageOf w t) e k) j) (rules-read w t narrow sixty-four passed)
-          ∙ (record-read w t narrow sixty-four passed k l j r ∙ ap (λ (s : ℕ). slotWords w t s j) f)))
+          ∙ (meant-here w (imageOf w t) (slots w t) back k (omega (arith, rules-read w u t narrow sixty-four passed)) j r
+          ∙ (ap (λ (e : ℕ). word (recordAt w (imageOf w t) e k) j) (rules-read w u t narrow sixty-four passed)
+          ∙ (record-read w u t narrow sixty-four passed k l j r ∙ ap (λ (s : ℕ). slotWords w t s j) f)))
 
       pick : (i : ℕ) → i < slots w t → (holds w t i ≡ true) ⊎ (holds w t i ≡ false) → SameRecord w (slotWords w m i) (slotWords w t i)
       pick i h (inl v) = let found = index-at (holds w t) (slots w t) i h v in here i (length (indices (holds w t) i)) (found .0) (found .1)
       pick i h (inr v) = λ j r.
           meant-other w (imageOf w t) (slots w t) back i
           (λ k l f. true≢false (sym (index-hit (holds w t) (slots w t) k (into k l) .1)
-          ∙ (ap (holds w t) (sym (slot-read w t narrow sixty-four passed k (into k l)) ∙ f) ∙ v))) j r
+          ∙ (ap (holds w t) (sym (slot-read w u t narrow sixty-four passed k (into k l)) ∙ f) ∙ v))) j r
           ∙ sym (empty-law w (slotWords w t i) .0 (not-false _ v) j r)
 
   fields : (lent : List ℕ) → length lent ≡ length t → orElse (checkShape w lent) (imageChecks w (imageOf w t) (slots w lent)) ≡ Pass
@@ -78,9 +78,9 @@ module _ (w : ℕ) (t : List ℕ) (narrow : Numbered w) (sixty-four : Words64 t)
       )
 
   -- the image of a sound table loads, into any lent table of as many slots, to that table
-  pub image-loads : (lent : List ℕ) → length lent ≡ length t → (loadAnswer w (imageOf w t) lent ≡ success []) × (loadTable w (imageOf w t) lent ≡ t)
+  pub image-loads : (lent : List ℕ) → length lent ≡ length t → (loadAnswer w u (imageOf w t) lent ≡ success []) × (loadTable w u (imageOf w t) lent ≡ t)
   image-loads lent e =
       let same : meant w (imageOf w t) (length lent) ≡ t = ap (meant w (imageOf w t)) (e ∙ saved-size) ∙ meant-saved in
-      let p = load-written w (imageOf w t) lent (fields lent e)
-      (sym (or-else-pass (checkTwice w _) (checkOrder w _) .1 (ap (checkTwice w) same ∙ checks .1, ap (checkOrder w) same ∙ checks .2))) refl in
+      let p = load-written w u (imageOf w t) lent (fields lent e)
+      (sym (or-else-pass (checkTwice w _) (checkOrder w u _) .1 (ap (checkTwice w) same ∙ checks .1, ap (checkOrder w u) same ∙ checks .2))) refl in
       (sym (p .0), sym (p .1) ∙ same)

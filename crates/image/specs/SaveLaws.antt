@@ -1,7 +1,7 @@
 -- End theorems on the sizes of an image and its parts, and how stores rule by rule become the image of a table.
 -- A rule's entry and body go to places of their own, so that the stores of one pass over the slots may be read as two rows.
 use mathlib.Core.Path.{_≡_, refl, sym, ap, _∙_}
-use mathlib.Core.Bool.{true}
+use mathlib.Core.Bool.{Bool, true}
 use mathlib.Core.List.{List, [], _++_}
 use Prim.Native.Nat.{ℕ, suc, _+_, _*_, _≤_, _<_}
 use native.Mathlib.Nat.{mul-add, suc-mul, zero-add, mul-le-mul-left, mul-le-mul-right}
@@ -119,17 +119,6 @@ module _ (w : ℕ) (t : List ℕ) where
         image-bytes w e,
       )
 
-  -- the bytes that a save needs are the image's
-  pub save-answer : (room : ℕ) → bufferAnswer (tableChecks w t) (length (imageOf w t)) room ≡ saveAnswer w t room
-  save-answer room = ap (λ (n : ℕ). bufferAnswer (tableChecks w t) n room) image-length
-
-  -- a table that passes the checks holds at most 1,024 rules
-  pub rules-small : tableChecks w t ≡ Pass → ruleCount w t ≤ 1024
-  unfolding tableChecks slotChecks
-  rules-small passed =
-      let shape = or-else-pass (checkShape w t) (checkRecords w t) .0 (or-else-pass (slotChecks w t) (orElse (checkTwice w t) (checkOrder w t)) .0 passed .0) .0 in
-      omega (arith, count-high (holds w t) (slots w t), shaped-slots w t shape .1)
-
   module _ (b : List ℕ) (fits : imageBytes w (ruleCount w t) ≤ length b) where
     pub stored-none : b ≡ stored w t b 0
     unfolding stored pieces
@@ -185,3 +174,15 @@ module _ (w : ℕ) (t : List ℕ) where
       where
         start : (bytes : List ℕ) → store b 0 bytes ≡ bytes ++ drop (length bytes) b
         start bytes = ap (λ (n : ℕ). bytes ++ drop n b) (zero-add (length bytes))
+
+module _ (w : ℕ) (u : Bool) (t : List ℕ) where
+  -- the bytes that a save needs are the image's
+  pub save-answer : (room : ℕ) → bufferAnswer (tableChecks w u t) (length (imageOf w t)) room ≡ saveAnswer w u t room
+  save-answer room = ap (λ (n : ℕ). bufferAnswer (tableChecks w u t) n room) (image-length w t)
+
+  -- a table that passes the checks holds at most 1,024 rules
+  pub rules-small : tableChecks w u t ≡ Pass → ruleCount w t ≤ 1024
+  unfolding tableChecks slotChecks
+  rules-small passed =
+      let shape = or-else-pass (checkShape w t) (checkRecords w t) .0 (or-else-pass (slotChecks w t) (orElse (checkTwice w t) (checkOrder w u t)) .0 passed .0) .0 in
+      omega (arith, count-high (holds w t) (slots w t), shaped-slots w t shape .1)

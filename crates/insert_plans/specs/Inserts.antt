@@ -1,7 +1,7 @@
 -- Planning an insert: the words of its plan, its answer and the buffer afterwards; the choice between A and B, and when a choice in numbers is it.
 -- Document 01, "How a plan is found", on the table's words.
 use mathlib.Core.Path.{_≡_}
-use mathlib.Core.Bool.{cond}
+use mathlib.Core.Bool.{Bool, cond}
 use mathlib.Core.List.{List, [], _∷_}
 use Prim.Native.Nat.{ℕ, _+_, _-_, _<_}
 use lib.ListN.{length}
@@ -23,47 +23,47 @@ use Rattle.planner.specs.declared.PositionChoice.{PositionChoice}
 use Rattle.neighbours.specs.Neighbours.{afterA, slotB, replacedSlot, replaces, ruleWords, insertChecks}
 
 -- the words of a plan that makes room: the far end of the chain first, the new rule last
-abbrev pub insertWords : ℕ → List ℕ → Rule → List ℕ
-insertWords w t rule = planWords (insertChoiceOf w t rule)
+abbrev pub insertWords : ℕ → Bool → List ℕ → Rule → List ℕ
+insertWords w u t rule = planWords (insertChoiceOf w u t rule)
 
 -- document 02, 2026-03: the plan of a replacement, one put-in at the slot of the rule that is replaced
 abbrev pub replacementWords : ℕ → List ℕ
 replacementWords slot = writeWord (put slot) ∷ []
 
 -- the words that an insert is planned with, by its record's words: those of a replacement, or else these
-abbrev pub plannedOr : ℕ → List ℕ → Words → List ℕ → List ℕ
-plannedOr w t new words = cond (replaces w t new) (replacementWords (replacedSlot w t new)) words
+abbrev pub plannedOr : ℕ → Bool → List ℕ → Words → List ℕ → List ℕ
+plannedOr w u t new words = cond (replaces w u t new) (replacementWords (replacedSlot w u t new)) words
 
-abbrev pub plannedWords : ℕ → List ℕ → Rule → List ℕ
-plannedWords w t rule = plannedOr w t (ruleWords w rule) (insertWords w t rule)
+abbrev pub plannedWords : ℕ → Bool → List ℕ → Rule → List ℕ
+plannedWords w u t rule = plannedOr w u t (ruleWords w rule) (insertWords w u t rule)
 
 -- the answer with a buffer of so many words, and the buffer afterwards: the rule that is planned has its rank
-abbrev pub insertAnswer : ℕ → List ℕ → Given → ℕ → Told
-insertAnswer w t given room = bufferAnswer (insertChecks w t given) (length (plannedWords w t (ranked w given))) room
+abbrev pub insertAnswer : ℕ → Bool → List ℕ → Given → ℕ → Told
+insertAnswer w u t given room = bufferAnswer (insertChecks w u t given) (length (plannedWords w u t (ranked w given))) room
 
-abbrev pub insertPlan : ℕ → List ℕ → Given → List ℕ → List ℕ
-insertPlan w t given plan = bufferAfter (insertChecks w t given) (plannedWords w t (ranked w given)) plan
+abbrev pub insertPlan : ℕ → Bool → List ℕ → Given → List ℕ → List ℕ
+insertPlan w u t given plan = bufferAfter (insertChecks w u t given) (plannedWords w u t (ranked w given)) plan
 
 -- document 02: the call, on a rule as it is lent, a record, with its edition e; another width or another number of words is 1
-abbrev pub insertCall : ℕ → ℕ → List ℕ → List ℕ → ℕ → Told
-insertCall w e t rule room = unless (checkRule w (length rule)) (insertAnswer w t (lentRule w e rule) room)
+abbrev pub insertCall : ℕ → Bool → ℕ → List ℕ → List ℕ → ℕ → Told
+insertCall w u e t rule room = unless (checkRule w (length rule)) (insertAnswer w u t (lentRule w e rule) room)
 
-abbrev pub insertCallPlan : ℕ → ℕ → List ℕ → List ℕ → List ℕ → List ℕ
-insertCallPlan w e t rule plan = leaves (checkRule w (length rule)) (insertPlan w t (lentRule w e rule) plan) plan
+abbrev pub insertCallPlan : ℕ → Bool → ℕ → List ℕ → List ℕ → List ℕ → List ℕ
+insertCallPlan w u e t rule plan = leaves (checkRule w (length rule)) (insertPlan w u t (lentRule w e rule) plan) plan
 
 -- the layout's choice between A and B, by A + 1 and B
-unfoldable pub choiceBetween : ℕ → List ℕ → ℕ → ℕ → Choice
-choiceBetween w t after dependant =
-    choose (vacant w) (entryOccupied w) (entryMisordered w) (entries w t) (record { from = after; to = dependant + 1 })
+unfoldable pub choiceBetween : ℕ → Bool → List ℕ → ℕ → ℕ → Choice
+choiceBetween w u t after dependant =
+    choose (vacant w) (entryOccupied w) (entryMisordered w u) (entries w t) (record { from = after; to = dependant + 1 })
     (record { from = after - 1; to = dependant })
 
 -- and of a new rule, by its record's words
-abbrev pub recordChoice : ℕ → List ℕ → Words → Choice
-recordChoice w t new = choiceBetween w t (afterA w t new) (slotB w t new)
+abbrev pub recordChoice : ℕ → Bool → List ℕ → Words → Choice
+recordChoice w u t new = choiceBetween w u t (afterA w u t new) (slotB w u t new)
 
 -- and the words that it is planned with
-abbrev pub recordPlan : ℕ → List ℕ → Words → List ℕ
-recordPlan w t new = plannedOr w t new (planWords (recordChoice w t new))
+abbrev pub recordPlan : ℕ → Bool → List ℕ → Words → List ℕ
+recordPlan w u t new = plannedOr w u t new (planWords (recordChoice w u t new))
 
 -- a choice in numbers, of n slots, that is a layout's: its cost is finite, its walk stays among the slots, and its words are the plan's
 pub record Joined (n : ℕ) (planned : Choice) (down up : List ℕ) (choice : PositionChoice) : Type 0 where

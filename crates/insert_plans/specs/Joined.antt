@@ -8,5 +8,5 @@ use Rattle.costs.specs.Costs.{costOf, SolvedFrom}
 use Rattle.windows.specs.Windows.{endAt}
 
 -- costs along one direction: they solve the equations of the table's window ends
-abbrev pub Costed : ℕ → List ℕ → Bool → List ℕ → Type 0
-Costed w t up costs = SolvedFrom (listed (slots w t) (endAt w t up)) (slots w t) 0 (costOf costs)
+abbrev pub Costed : ℕ → Bool → List ℕ → Bool → List ℕ → Type 0
+Costed w u t up costs = SolvedFrom (listed (slots w t) (endAt w u t up)) (slots w t) 0 (costOf costs)

@@ -82,25 +82,25 @@ module _ (p : ℕ → Bool) (i : ℕ) (few : i ≤ 65535) where
       from f = last-below-none p i f
 
 -- the numbers of a slot of any table of at most 65,535 slots
-module _ (w : ℕ) (t : List ℕ) (few : slots w t ≤ 65535) (i : ℕ) (h : i < slots w t) where
-  pub next-nearest : (d : ℕ) → d < slots w t → (nextDependant w t i ≡ d) ↔ Nearest Higher (dependsAt w t) (slots w t) i d
+module _ (w : ℕ) (u : Bool) (t : List ℕ) (few : slots w t ≤ 65535) (i : ℕ) (h : i < slots w t) where
+  pub next-nearest : (d : ℕ) → d < slots w t → (nextDependant w u t i ≡ d) ↔ Nearest Higher (dependsAt w u t) (slots w t) i d
   unfolding nextDependant
   next-nearest d l = (
-    λ e. let z = first-is (dependsAt w t i) (slots w t) i few h d l .0 e in record { within = l; after = z .0; bounding = z .1; none-nearer = λ y u a b. z .2 y a b },
-    λ r. first-is (dependsAt w t i) (slots w t) i few h d l .1 (r .after, r .bounding, λ y a b. r .none-nearer y (omega arith) a b),
+    λ e. let z = first-is (dependsAt w u t i) (slots w t) i few h d l .0 e in record { within = l; after = z .0; bounding = z .1; none-nearer = λ y v a b. z .2 y a b },
+    λ r. first-is (dependsAt w u t i) (slots w t) i few h d l .1 (r .after, r .bounding, λ y a b. r .none-nearer y (omega arith) a b),
   )
 
-  pub next-none : (nextDependant w t i ≡ 65535) ↔ ((y : ℕ) → i < y → y < slots w t → dependsAt w t i y ≡ false)
+  pub next-none : (nextDependant w u t i ≡ 65535) ↔ ((y : ℕ) → i < y → y < slots w t → dependsAt w u t i y ≡ false)
   unfolding nextDependant
-  next-none = first-none (dependsAt w t i) (slots w t) i few h
+  next-none = first-none (dependsAt w u t i) (slots w t) i few h
 
-  pub before-nearest : (d : ℕ) → d < slots w t → (lastPreceding w t i ≡ d) ↔ Nearest Lower (precedesAt w t) (slots w t) i d
+  pub before-nearest : (d : ℕ) → d < slots w t → (lastPreceding w u t i ≡ d) ↔ Nearest Lower (precedesAt w u t) (slots w t) i d
   unfolding lastPreceding
   before-nearest d l = (
-    λ e. let z = last-is (precedesAt w t i) i (omega arith) d (omega arith) .0 e in record { within = l; after = z .0; bounding = z .1; none-nearer = λ y u a b. z .2 y b a },
-    λ r. last-is (precedesAt w t i) i (omega arith) d (omega arith) .1 (r .after, r .bounding, λ y a b. r .none-nearer y (omega arith) b a),
+    λ e. let z = last-is (precedesAt w u t i) i (omega arith) d (omega arith) .0 e in record { within = l; after = z .0; bounding = z .1; none-nearer = λ y v a b. z .2 y b a },
+    λ r. last-is (precedesAt w u t i) i (omega arith) d (omega arith) .1 (r .after, r .bounding, λ y a b. r .none-nearer y (omega arith) b a),
   )
 
-  pub before-none : (lastPreceding w t i ≡ 65535) ↔ ((y : ℕ) → y < i → precedesAt w t i y ≡ false)
+  pub before-none : (lastPreceding w u t i ≡ 65535) ↔ ((y : ℕ) → y < i → precedesAt w u t i y ≡ false)
   unfolding lastPreceding
-  before-none = last-none (precedesAt w t i) i (omega arith)
+  before-none = last-none (precedesAt w u t i) i (omega arith)

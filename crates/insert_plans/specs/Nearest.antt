@@ -10,12 +10,12 @@ use Rattle.records.specs.Order.{slots}
 use Rattle.neighbour_lists.specs.Lists.{precedesSlot}
 
 -- the rule in slot y depends on that in slot i: what bounds it going down, toward higher slots
-abbrev pub dependsAt : ℕ → List ℕ → ℕ → ℕ → Bool
-dependsAt w t i y = precedesSlot w t i y
+abbrev pub dependsAt : ℕ → Bool → List ℕ → ℕ → ℕ → Bool
+dependsAt w u t i y = precedesSlot w u t i y
 
 -- the rule in slot y precedes that in slot i: what bounds it going up, toward lower slots
-abbrev pub precedesAt : ℕ → List ℕ → ℕ → ℕ → Bool
-precedesAt w t i y = precedesSlot w t y i
+abbrev pub precedesAt : ℕ → Bool → List ℕ → ℕ → ℕ → Bool
+precedesAt w u t i y = precedesSlot w u t y i
 
 -- d is the nearest of n slots with a rule that bounds that of slot i: its nearest dependant going down, the nearest rule that precedes it going up
 pub record Nearest (toward : ℕ → ℕ → Type 0) (bounds : ℕ → ℕ → Bool) (n i d : ℕ) : Type 0 where

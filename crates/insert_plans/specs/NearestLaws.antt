@@ -87,29 +87,29 @@ module _ (w : ℕ) (t : List ℕ) (toward : ℕ → ℕ → Type 0) (misplaced :
         one i h e none (no l) = omega arith
 
 -- in a table in order the rules that are misplaced after a rule are those that depend on it, and before it those that precede it
-module _ (w : ℕ) (t : List ℕ) (order : checkOrder w t ≡ Pass) (i y : ℕ) (h : i < slots w t) (l : y < slots w t) where
-  pub down-bounds : Higher i y → entryMisordered w (getD (entries w t) y (vacant w)) (getD (entries w t) i (vacant w)) ≡ dependsAt w t i y
-  down-bounds a = misordered-at w t y i l h ∙ dependant-after w t order i y a l
+module _ (w : ℕ) (u : Bool) (t : List ℕ) (order : checkOrder w u t ≡ Pass) (i y : ℕ) (h : i < slots w t) (l : y < slots w t) where
+  pub down-bounds : Higher i y → entryMisordered w u (getD (entries w t) y (vacant w)) (getD (entries w t) i (vacant w)) ≡ dependsAt w u t i y
+  down-bounds a = misordered-at w u t y i l h ∙ dependant-after w u t order i y a l
 
-  pub up-bounds : Lower i y → swapped (entryMisordered w) (getD (entries w t) y (vacant w)) (getD (entries w t) i (vacant w)) ≡ precedesAt w t i y
-  up-bounds a = misordered-at w t i y h l ∙ dependant-after w t order y i a h
+  pub up-bounds : Lower i y → swapped (entryMisordered w u) (getD (entries w t) y (vacant w)) (getD (entries w t) i (vacant w)) ≡ precedesAt w u t i y
+  up-bounds a = misordered-at w u t i y h l ∙ dependant-after w u t order y i a h
 
 -- Document 01: the down and up costs by which a plan is found are, in every sound table, 0 if the slot is empty, else 1 + the least of the slots after it,
 -- up to and including the nearest dependant of its rule, or up to N − 1 if there is none; and of the slots before it, back to and including the
 -- nearest rule that precedes it, or to 0.
-pub costs-of-reach : (w : ℕ) (t : List ℕ) → tableChecks w t ≡ Pass
-    → CostOfReach w t Higher (dependsAt w t) (downCost (vacant w) (entryOccupied w) (entryMisordered w) (entries w t))
-    × CostOfReach w t Lower (precedesAt w t) (upCost (vacant w) (entryOccupied w) (entryMisordered w) (entries w t))
-costs-of-reach w t checks = (
-  cost-of-reach w t Higher (entryMisordered w) (dependsAt w t)
-      (down-bounds w t order)
-      (down-past (vacant w) (entryMisordered w) (entries w t)) _ (down-costs (vacant w) (entryOccupied w) (entryMisordered w) (entries w t))
-      (λ i h e. omega (arith, down-below (vacant w) (entryOccupied w) (entryMisordered w) (entries w t) i h e)),
-  cost-of-reach w t Lower (swapped (entryMisordered w)) (precedesAt w t)
-      (up-bounds w t order)
-      (up-past (vacant w) (entryMisordered w) (entries w t)) _ (up-costs (vacant w) (entryOccupied w) (entryMisordered w) (entries w t))
-      (λ i h e. omega (arith, up-below (vacant w) (entryOccupied w) (entryMisordered w) (entries w t) i h e)),
+pub costs-of-reach : (w : ℕ) (u : Bool) (t : List ℕ) → tableChecks w u t ≡ Pass
+    → CostOfReach w t Higher (dependsAt w u t) (downCost (vacant w) (entryOccupied w) (entryMisordered w u) (entries w t))
+    × CostOfReach w t Lower (precedesAt w u t) (upCost (vacant w) (entryOccupied w) (entryMisordered w u) (entries w t))
+costs-of-reach w u t checks = (
+  cost-of-reach w t Higher (entryMisordered w u) (dependsAt w u t)
+      (down-bounds w u t order)
+      (down-past (vacant w) (entryMisordered w u) (entries w t)) _ (down-costs (vacant w) (entryOccupied w) (entryMisordered w u) (entries w t))
+      (λ i h e. omega (arith, down-below (vacant w) (entryOccupied w) (entryMisordered w u) (entries w t) i h e)),
+  cost-of-reach w t Lower (swapped (entryMisordered w u)) (precedesAt w u t)
+      (up-bounds w u t order)
+      (up-past (vacant w) (entryMisordered w u) (entries w t)) _ (up-costs (vacant w) (entryOccupied w) (entryMisordered w u) (entries w t))
+      (λ i h e. omega (arith, up-below (vacant w) (entryOccupied w) (entryMisordered w u) (entries w t) i h e)),
 )
   where
-    order : checkOrder w t ≡ Pass
-    order = table-checks-law w t .0 checks .2
+    order : checkOrder w u t ≡ Pass
+    order = table-checks-law w u t .0 checks .2

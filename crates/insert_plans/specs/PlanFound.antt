@@ -20,12 +20,12 @@ pub record FirstLeast (toward : ℕ → ℕ → Type 0) (among : ℕ → Type 0)
   pub tie : (j : ℕ) → among j → toward j s → cost s < cost j
 
 -- "among A + 1 to B", "within 0 to N − 1"
-abbrev pub AmongDown : ℕ → List ℕ → Words → ℕ → Type 0
-AmongDown w t new j = (afterA w t new ≤ j) × (j ≤ slotB w t new) × (j < slots w t)
+abbrev pub AmongDown : ℕ → Bool → List ℕ → Words → ℕ → Type 0
+AmongDown w u t new j = (afterA w u t new ≤ j) × (j ≤ slotB w u t new) × (j < slots w t)
 
 -- "among A to B − 1", within the same
-abbrev pub AmongUp : ℕ → List ℕ → Words → ℕ → Type 0
-AmongUp w t new j = (afterA w t new ≤ suc j) × (j < slotB w t new) × (j < slots w t)
+abbrev pub AmongUp : ℕ → Bool → List ℕ → Words → ℕ → Type 0
+AmongUp w u t new j = (afterA w u t new ≤ suc j) × (j < slotB w u t new) × (j < slots w t)
 
 -- "each displaced rule follows the same choice": the rule of slot s goes to the slot of least cost of those that its own cost looks at, by the same
 -- rule for ties, and so on up to a slot that is empty
@@ -43,10 +43,10 @@ pub record ChosenAlong (w : ℕ) (t : List ℕ) (toward : ℕ → ℕ → Type 0
   pub follow : Displaced w t toward bounds cost (choice .slot) (choice .chain)
 
 -- "The smaller of these two wins, down if equal": a down choice costs no more than any slot would going up, an up choice less than any would going down
-pub record PlanFound (w : ℕ) (t : List ℕ) (new : Words) (downCost upCost : ℕ → ℕ) (choice : Choice) : Type 0 where
+pub record PlanFound (w : ℕ) (u : Bool) (t : List ℕ) (new : Words) (downCost upCost : ℕ → ℕ) (choice : Choice) : Type 0 where
   -- its count, the cost plus 1, is never above N
   pub finite : choice .cost < slots w t
   pub down : choice .down ≡ true
-      → ChosenAlong w t Higher (dependsAt w t) downCost (AmongDown w t new) choice × ((j : ℕ) → AmongUp w t new j → choice .cost ≤ upCost j)
+      → ChosenAlong w t Higher (dependsAt w u t) downCost (AmongDown w u t new) choice × ((j : ℕ) → AmongUp w u t new j → choice .cost ≤ upCost j)
   pub up : choice .down ≡ false
-      → ChosenAlong w t Lower (precedesAt w t) upCost (AmongUp w t new) choice × ((j : ℕ) → AmongDown w t new j → choice .cost < downCost j)
+      → ChosenAlong w t Lower (precedesAt w u t) upCost (AmongUp w u t new) choice × ((j : ℕ) → AmongDown w u t new j → choice .cost < downCost j)

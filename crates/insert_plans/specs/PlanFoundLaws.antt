@@ -111,74 +111,74 @@ module _ (w : ℕ) (t : List ℕ) (toward : ℕ → ℕ → Type 0) (misplaced :
 -- Document 01: "The new rule goes to the slot of least down cost among A + 1 to B, or of least up cost among A to B − 1, within 0 to N − 1. The smaller
 -- of these two wins, down if equal. In a down plan every tie goes to the lowest slot, in an up plan to the highest; each displaced rule follows the same
 -- choice." So of every insert that passes checks 1 to 10.
-pub plan-found : (w : ℕ) (t : List ℕ) (rule : Rule) → Insertable w t rule
-    → PlanFound w t (ruleWords w rule) (downCost (vacant w) (entryOccupied w) (entryMisordered w) (entries w t))
-    (upCost (vacant w) (entryOccupied w) (entryMisordered w) (entries w t)) (insertChoiceOf w t rule)
+pub plan-found : (w : ℕ) (u : Bool) (t : List ℕ) (rule : Rule) → Insertable w u t rule
+    → PlanFound w u t (ruleWords w rule) (downCost (vacant w) (entryOccupied w) (entryMisordered w u) (entries w t))
+    (upCost (vacant w) (entryOccupied w) (entryMisordered w u) (entries w t)) (insertChoiceOf w u t rule)
 unfolding insertChoice
-plan-found w t rule p =
-    pick (decLe (bestDown (vacant w) (entryOccupied w) (entryMisordered w) (entries w t) below)
-    (bestUp (vacant w) (entryOccupied w) (entryMisordered w) (entries w t) above))
+plan-found w u t rule p =
+    pick (decLe (bestDown (vacant w) (entryOccupied w) (entryMisordered w u) (entries w t) below)
+    (bestUp (vacant w) (entryOccupied w) (entryMisordered w u) (entries w t) above))
   where
     below : Range
-    below = rangeDown (vacant w) (entryMisordered w) (entries w t) (recordOf w rule)
+    below = rangeDown (vacant w) (entryMisordered w u) (entries w t) (recordOf w rule)
 
     above : Range
-    above = rangeUp (vacant w) (entryMisordered w) (entries w t) (recordOf w rule)
+    above = rangeUp (vacant w) (entryMisordered w u) (entries w t) (recordOf w rule)
 
-    order : checkOrder w t ≡ Pass
-    order = table-checks-law w t .0 (p .table) .2
+    order : checkOrder w u t ≡ Pass
+    order = table-checks-law w u t .0 (p .table) .2
 
-    finite : insertChoiceOf w t rule .cost < length (entries w t)
+    finite : insertChoiceOf w u t rule .cost < length (entries w t)
     finite =
         let n = entries-length w t in
         let e = p .room in
-        choice-exists (vacant w) (entryMisordered w) (entries w t) (recordOf w rule) (entryOccupied w) (e .0) (omega (arith, e .1))
+        choice-exists (vacant w) (entryMisordered w u) (entries w t) (recordOf w rule) (entryOccupied w) (e .0) (omega (arith, e .1))
         (occupied-at w t (e .0) (e .1) ∙ ap not (e .2))
-        (omega (arith, apart w t rule p, after-preceding-slots w t rule, first-dependant-slots w t rule))
+        (omega (arith, apart w u t rule p, after-preceding-slots w u t rule, first-dependant-slots w u t rule))
 
-    into-down : (j : ℕ) → AmongDown w t (ruleWords w rule) j → (below .from ≤ j) × (j < below .to) × (j < length (entries w t))
+    into-down : (j : ℕ) → AmongDown w u t (ruleWords w rule) j → (below .from ≤ j) × (j < below .to) × (j < length (entries w t))
     into-down j a =
         let n = entries-length w t in
-        (omega (arith, after-is w t rule p, a .0), omega (arith, dependant-is w t rule p, a .1), omega (arith, a .2))
+        (omega (arith, after-is w u t rule p, a .0), omega (arith, dependant-is w u t rule p, a .1), omega (arith, a .2))
 
-    into-up : (j : ℕ) → AmongUp w t (ruleWords w rule) j → (above .from ≤ j) × (j < above .to) × (j < length (entries w t))
+    into-up : (j : ℕ) → AmongUp w u t (ruleWords w rule) j → (above .from ≤ j) × (j < above .to) × (j < length (entries w t))
     into-up j a =
         let n = entries-length w t in
-        (omega (arith, after-is w t rule p, a .0), omega (arith, dependant-is w t rule p, a .1), omega (arith, a .2))
+        (omega (arith, after-is w u t rule p, a .0), omega (arith, dependant-is w u t rule p, a .1), omega (arith, a .2))
 
-    pick : Dec (bestDown (vacant w) (entryOccupied w) (entryMisordered w) (entries w t) below
-        ≤ bestUp (vacant w) (entryOccupied w) (entryMisordered w) (entries w t) above)
-        → PlanFound w t (ruleWords w rule) (downCost (vacant w) (entryOccupied w) (entryMisordered w) (entries w t))
-        (upCost (vacant w) (entryOccupied w) (entryMisordered w) (entries w t)) (insertChoiceOf w t rule)
+    pick : Dec (bestDown (vacant w) (entryOccupied w) (entryMisordered w u) (entries w t) below
+        ≤ bestUp (vacant w) (entryOccupied w) (entryMisordered w u) (entries w t) above)
+        → PlanFound w u t (ruleWords w rule) (downCost (vacant w) (entryOccupied w) (entryMisordered w u) (entries w t))
+        (upCost (vacant w) (entryOccupied w) (entryMisordered w u) (entries w t)) (insertChoiceOf w u t rule)
     pick (yes l) =
-        let is = choose-down (vacant w) (entryOccupied w) (entryMisordered w) (entries w t) below above l in
+        let is = choose-down (vacant w) (entryOccupied w) (entryMisordered w u) (entries w t) below above l in
         let n = entries-length w t in
         record {
           finite = omega (arith, finite);
           down = λ e. (
-            choice-along w t Higher (entryMisordered w) (dependsAt w t) (down-bounds w t order) _ (costs-of-reach w t (p .table) .0)
-                (AmongDown w t (ruleWords w rule)) below into-down
-                (λ j a b c. (omega (arith, after-is w t rule p), omega (arith, dependant-is w t rule p), omega arith)) _
-                (chosen-down (vacant w) (entryOccupied w) (entryMisordered w) (entries w t) below above finite l),
+            choice-along w t Higher (entryMisordered w u) (dependsAt w u t) (down-bounds w u t order) _ (costs-of-reach w u t (p .table) .0)
+                (AmongDown w u t (ruleWords w rule)) below into-down
+                (λ j a b c. (omega (arith, after-is w u t rule p), omega (arith, dependant-is w u t rule p), omega arith)) _
+                (chosen-down (vacant w) (entryOccupied w) (entryMisordered w u) (entries w t) below above finite l),
             λ j a. let r = into-up j a in
-                omega (arith, l, ap (λ (c : Choice). c .cost) is, best-up (vacant w) (entryOccupied w) (entryMisordered w) (entries w t) above j (r .0) (r .1) (r .2)),
+                omega (arith, l, ap (λ (c : Choice). c .cost) is, best-up (vacant w) (entryOccupied w) (entryMisordered w u) (entries w t) above j (r .0) (r .1) (r .2)),
           );
           up = λ e. absurd (true≢false (sym (ap (λ (c : Choice). c .down) is) ∙ e));
         }
     pick (no l) =
-        let h : bestUp (vacant w) (entryOccupied w) (entryMisordered w) (entries w t) above
-        < bestDown (vacant w) (entryOccupied w) (entryMisordered w) (entries w t) below = omega arith in
-        let is = choose-up (vacant w) (entryOccupied w) (entryMisordered w) (entries w t) below above h in
+        let h : bestUp (vacant w) (entryOccupied w) (entryMisordered w u) (entries w t) above
+        < bestDown (vacant w) (entryOccupied w) (entryMisordered w u) (entries w t) below = omega arith in
+        let is = choose-up (vacant w) (entryOccupied w) (entryMisordered w u) (entries w t) below above h in
         let n = entries-length w t in
         record {
           finite = omega (arith, finite);
           down = λ e. absurd (true≢false (sym e ∙ ap (λ (c : Choice). c .down) is));
           up = λ e. (
-            choice-along w t Lower (swapped (entryMisordered w)) (precedesAt w t) (up-bounds w t order) _ (costs-of-reach w t (p .table) .1)
-                (AmongUp w t (ruleWords w rule)) above into-up
-                (λ j a b c. (omega (arith, after-is w t rule p), omega (arith, dependant-is w t rule p), omega arith)) _
-                (chosen-up (vacant w) (entryOccupied w) (entryMisordered w) (entries w t) below above finite h),
+            choice-along w t Lower (swapped (entryMisordered w u)) (precedesAt w u t) (up-bounds w u t order) _ (costs-of-reach w u t (p .table) .1)
+                (AmongUp w u t (ruleWords w rule)) above into-up
+                (λ j a b c. (omega (arith, after-is w u t rule p), omega (arith, dependant-is w u t rule p), omega arith)) _
+                (chosen-up (vacant w) (entryOccupied w) (entryMisordered w u) (entries w t) below above finite h),
             λ j a. let r = into-down j a in
-                omega (arith, h, ap (λ (c : Choice). c .cost) is, best-down (vacant w) (entryOccupied w) (entryMisordered w) (entries w t) below j (r .0) (r .1) (r .2)),
+                omega (arith, h, ap (λ (c : Choice). c .cost) is, best-down (vacant w) (entryOccupied w) (entryMisordered w u) (entries w t) below j (r .0) (r .1) (r .2)),
           );
         }

@@ -1,5 +1,6 @@
 -- End theorems on a rule that is sent again: in a sound table, full or not, a sound one always gets the plan of one put-in at that slot.
 use mathlib.Core.Path.{_≡_, refl, sym, ap, _∙_}
+use mathlib.Core.Bool.{Bool}
 use mathlib.Core.Logic.{⊎-elim}
 use mathlib.Core.List.{List, [], _∷_, _++_}
 use Prim.Native.Nat.{ℕ, _≤_, _<_}
@@ -20,37 +21,37 @@ use Rattle.insert_plans.specs.InsertsLaws.{planned-fresh, planned-replac
 use Rattle.insert_plans.specs.Demand3Laws.{demand-3}
 use Rattle.insert_plans.specs.Replacements.{ReplacementPlanned}
 
-pub replacement-planned : (w : ℕ) (t : List ℕ) (given : Given) (s : ℕ) → ReplacingGiven w t given s → (plan : List ℕ)
-    → ReplacementPlanned s (insertAnswer w t given (length plan)) plan (insertPlan w t given plan)
-replacement-planned w t given s replacing plan = record {
+pub replacement-planned : (w : ℕ) (u : Bool) (t : List ℕ) (given : Given) (s : ℕ) → ReplacingGiven w u t given s → (plan : List ℕ)
+    → ReplacementPlanned s (insertAnswer w u t given (length plan)) plan (insertPlan w u t given plan)
+replacement-planned w u t given s replacing plan = record {
   enough = λ h.
-      let r = buffer-written (plannedWords w t rule) plan refl checks (omega (arith, h, ap length words)) in (
+      let r = buffer-written (plannedWords w u t rule) plan refl checks (omega (arith, h, ap length words)) in (
         sym (r .0) ∙ ap (λ (l : List ℕ). success (length l ∷ [])) words,
         sym (r .1) ∙ ap (λ (l : List ℕ). l ++ drop (length l) plan) words,
       );
   short = λ h.
-      let r = buffer-short (plannedWords w t rule) plan refl checks (omega (arith, h, ap length words)) in
+      let r = buffer-short (plannedWords w u t rule) plan refl checks (omega (arith, h, ap length words)) in
       (sym (r .0) ∙ ap (λ (l : List ℕ). refusal Short (length l)) words, sym (r .1));
 }
   where
     rule : Rule
     rule = ranked w given
 
-    checks : insertChecks w t given ≡ Pass
-    checks = replacing-passes w t given s replacing
+    checks : insertChecks w u t given ≡ Pass
+    checks = replacing-passes w u t given s replacing
 
-    words : plannedWords w t rule ≡ replacementWords s
-    words = planned-replaced w t rule s (replacing .replacing)
+    words : plannedWords w u t rule ≡ replacementWords s
+    words = planned-replaced w u t rule s (replacing .replacing)
 
 -- an accepted insert, a replacement or not, has at most as many words as the table has slots
-pub planned-few : (w : ℕ) (t : List ℕ) (given : Given) → given .rule .action < 4294967296 → insertChecks w t given ≡ Pass
-    → length (plannedWords w t (ranked w given)) ≤ slots w t
-planned-few w t given small e = ⊎-elim fresh (λ r. replaced (r .0) (r .1)) (insertable-law w t given .0 e)
+pub planned-few : (w : ℕ) (u : Bool) (t : List ℕ) (given : Given) → given .rule .action < 4294967296 → insertChecks w u t given ≡ Pass
+    → length (plannedWords w u t (ranked w given)) ≤ slots w t
+planned-few w u t given small e = ⊎-elim fresh (λ r. replaced (r .0) (r .1)) (insertable-law w u t given .0 e)
   where
-    fresh : InsertableGiven w t given → length (plannedWords w t (ranked w given)) ≤ slots w t
+    fresh : InsertableGiven w u t given → length (plannedWords w u t (ranked w given)) ≤ slots w t
     fresh p =
-        let is = planned-fresh w t (ranked w given) (insertable-fresh w t (ranked w given) (p .insertable .new) (p .insertable .untied)) in
-        omega (arith, ap length is, demand-3 w t given small p [] .few)
+        let is = planned-fresh w u t (ranked w given) (insertable-fresh w u t (ranked w given) (p .insertable)) in
+        omega (arith, ap length is, demand-3 w u t given small p [] .few)
 
-    replaced : (s : ℕ) → ReplacingGiven w t given s → length (plannedWords w t (ranked w given)) ≤ slots w t
-    replaced s r = omega (arith, ap length (planned-replaced w t (ranked w given) s (r .replacing)), r .replacing .inside)
+    replaced : (s : ℕ) → ReplacingGiven w u t given s → length (plannedWords w u t (ranked w given)) ≤ slots w t
+    replaced s r = omega (arith, ap length (planned-replaced w u t (ranked w given) s (r .replacing)), r .replacing .inside)

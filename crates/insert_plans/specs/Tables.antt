@@ -4,7 +4,7 @@ use mathlib.Core.Path.{_≡_}
 use mathlib.Core.List.{List, [], _∷_, _++_, map}
 use Prim.Native.Nat.{ℕ, _+_, _*_, _/_}
 use lib.ListN.{length}
-use mathlib.Core.Bool.{Bool}
+use mathlib.Core.Bool.{Bool, true, false}
 use Rattle.search.specs.Search.{all, any, least, afterLast}
 use Rattle.ternary.specs.Word.{agree, inside, both}
 use Rattle.ternary.specs.Pattern.{overlaps, within, fullMask}
@@ -16,7 +16,7 @@ use Rattle.layout.specs.Plan.{downCost, upCost, downChain, upChain, bestDown, b
 use Rattle.layout.specs.Plan.{insertChoice}
 use Rattle.plan_words.specs.PlanWords.{writeOf}
 use Rattle.records.specs.Record.{listed, empty, rankFits, soundParts, recordOf, ruleOf, word, putSlot}
-use Rattle.records.specs.Order.{distinct, precedes, tied, sameId, samePattern, equalRule, misordered}
+use Rattle.records.specs.Order.{distinct, precedes, tied, sameId, samePattern, equalRule, replaceable, misordered}
 use Rattle.records.specs.Checks.{Told, lowest, shaped, checkShape, unsoundAt, checkRecords, twiceAt, checkTwice, disorderAt, checkOrder, slotChecks}
 use Rattle.records.specs.Checks.{tableChecks}
 use Rattle.records.specs.Widths.{known, checkWidth, checkWords, checkRule as checkLent}
@@ -67,17 +67,17 @@ pub record Result : Type 0 where
   pub buffer : List ℕ
 
 -- by the definitions, w being the number of words of a value
-abbrev pub result : ℕ → List ℕ → Asked → List ℕ → Result
-result w t (inserting given) plan = record { answer = insertAnswer w t given (length plan); buffer = insertPlan w t given plan }
-result w t (deleting id) plan = record { answer = deleteAnswer w t id (length plan); buffer = deletePlan w t id plan }
+abbrev pub result : ℕ → Bool → List ℕ → Asked → List ℕ → Result
+result w u t (inserting given) plan = record { answer = insertAnswer w u t given (length plan); buffer = insertPlan w u t given plan }
+result w u t (deleting id) plan = record { answer = deleteAnswer w u t id (length plan); buffer = deletePlan w u t id plan }
 
 -- as the contracts of plan_insert and plan_delete have it: a rule is lent as its record, and a width that there is not is 1
-abbrev pub called : ℕ → List ℕ → Asked → List ℕ → Result
-called w t (inserting given) plan = record {
-  answer = insertCall w (given .edition) t (recordOf w (given .rule)) (length plan);
-  buffer = insertCallPlan w (given .edition) t (recordOf w (given .rule)) plan;
+abbrev pub called : ℕ → Bool → List ℕ → Asked → List ℕ → Result
+called w u t (inserting given) plan = record {
+  answer = insertCall w u (given .edition) t (recordOf w (given .rule)) (length plan);
+  buffer = insertCallPlan w u (given .edition) t (recordOf w (given .rule)) plan;
 }
-called w t (deleting id) plan = record { answer = deleteCall w t id (length plan); buffer = deleteCallPlan w t id plan }
+called w u t (deleting id) plan = record { answer = deleteCall w u t id (length plan); buffer = deleteCallPlan w u t id plan }
 
 -- as document 01 has it: so many words and the buffer, or a refusal's number and spot and the buffer
 abbrev pub planned : ℕ → List ℕ → Result
@@ -93,13 +93,13 @@ pub record Item : Type 0 where
   pub buffer : List ℕ
   pub expected : Result
 
-unfoldable pub resultOf : ℕ → Item → Result
-unfolding all any least afterLast agree inside both overlaps within minimum lowestOf highestOf windowEnd costs nextSlot steps moves downCost upCost downChain upChain bestDown bestUp slotDown slotUp choose afterPreceding firstDependant insertChoice listed empty fullMask rankFits soundParts rankOf ranked knownEdition checkSound checkEdition checkGiven recordOf distinct precedes tied sameId misordered samePattern equalRule entries lowest shaped checkShape unsoundAt checkRecords twiceAt checkTwice disorderAt checkOrder slotChecks tableChecks checkRoom bufferAnswer bufferAfter checkKnown checkTie checkFull afterA slotB checkCrossed replacedSlot replaces newChecks placeChecks ruleChecks insertChecks hasId slotOfId checkId checkUnknown deleteChecks
-resultOf w item = result w (item .table) (item .asked) (item .buffer)
+unfoldable pub resultOf : ℕ → Bool → Item → Result
+unfolding all any least afterLast agree inside both overlaps within minimum lowestOf highestOf windowEnd costs nextSlot steps moves downCost upCost downChain upChain bestDown bestUp slotDown slotUp choose afterPreceding firstDependant insertChoice listed empty fullMask rankFits soundParts rankOf ranked knownEdition checkSound checkEdition checkGiven recordOf distinct precedes tied sameId misordered samePattern equalRule replaceable entries lowest shaped checkShape unsoundAt checkRecords twiceAt checkTwice disorderAt checkOrder slotChecks tableChecks checkRoom bufferAnswer bufferAfter checkKnown checkTie checkFull afterA slotB checkCrossed replacedSlot replaces newChecks placeChecks ruleChecks insertChecks hasId slotOfId checkId checkUnknown deleteChecks
+resultOf w u item = result w u (item .table) (item .asked) (item .buffer)
 
-unfoldable pub calledOf : ℕ → Item → Result
+unfoldable pub calledOf : ℕ → Bool → Item → Result
 unfolding resultOf known checkWidth checkWords checkLent ruleOf
-calledOf w item = called w (item .table) (item .asked) (item .buffer)
+calledOf w u item = called w u (item .table) (item .asked) (item .buffer)
 
 unfoldable pub expected : Item → Result
 expected item = item .expected
@@ -240,22 +240,81 @@ module _ (w : ℕ) where
       ∷ record { table = again-table; asked = inserting (under13 again-rank); buffer = 801 ∷ []; expected = declined 9 0 (801 ∷ []) }
       ∷ []
 
+  -- document 02, 2026-11: two rules of one action that stand out of order, and such as stand in order with an empty slot before them
+  unfoldable pub loose-table : List ℕ
+  loose-table = held (line 1 20 (one ∷ star ∷ []) 7) ++ held (line 2 30 (star ∷ one ∷ []) 7) ++ vacancy
+
+  unfoldable pub loose-rule : Rule
+  loose-rule = line 9 5 (nought ∷ []) 3
+
+  unfoldable pub alike-table : List ℕ
+  alike-table = vacancy ++ held (line 1 40 (one ∷ star ∷ []) 7) ++ held (line 2 30 (star ∷ one ∷ []) 7)
+
+  unfoldable pub alike-rule : Rule
+  alike-rule = line 3 20 (nought ∷ one ∷ []) 9
+
+  -- two equal rules of one action, and a rule equal to both, with an action
+  unfoldable pub equal-table : List ℕ
+  equal-table = held (line 1 20 (one ∷ []) 7) ++ held (line 2 20 (one ∷ []) 7) ++ vacancy
+
+  unfoldable pub equal-rule : ℕ → Rule
+  equal-rule action = line 9 20 (one ∷ []) action
+
+  -- a rule that depends on another stands before one that precedes it: crossed, with an action
+  unfoldable pub crossed-table : List ℕ
+  crossed-table = held (line 5 10 (nought ∷ nought ∷ []) 1) ++ held (line 6 40 (nought ∷ one ∷ []) 2) ++ vacancy
+
+  unfoldable pub crossed-rule : ℕ → Rule
+  crossed-rule action = line 7 20 (nought ∷ []) action
+
+  unfoldable pub uncounted-items : List Item
+  uncounted-items =
+      -- rules of one action are not ordered
+      record { table = loose-table; asked = inserting (under13 loose-rule); buffer = 801 ∷ 802 ∷ []; expected = planned 1 (new 2 ∷ 802 ∷ []) }
+      -- so that one of them may pass the other: two writes
+      ∷ record { table = alike-table; asked = inserting (under13 alike-rule); buffer = 801 ∷ 802 ∷ 803 ∷ []; expected = planned 2 (moved 2 0 ∷ new 2 ∷ 803 ∷ []) }
+      -- of two equal rules the lower is replaced, if the action is the same
+      ∷ record { table = equal-table; asked = inserting (under13 (equal-rule 7)); buffer = 801 ∷ []; expected = planned 1 (new 0 ∷ []) }
+      ∷ record { table = equal-table; asked = inserting (under13 (equal-rule 8)); buffer = 801 ∷ []; expected = declined 8 0 (801 ∷ []) }
+      -- crossed by rules of other actions alone
+      ∷ record { table = crossed-table; asked = inserting (under13 (crossed-rule 1)); buffer = 801 ∷ []; expected = planned 1 (new 2 ∷ []) }
+      ∷ record { table = crossed-table; asked = inserting (under13 (crossed-rule 2)); buffer = 801 ∷ 802 ∷ []; expected = planned 2 (moved 0 2 ∷ new 0 ∷ []) }
+      ∷ record { table = crossed-table; asked = inserting (under13 (crossed-rule 3)); buffer = 801 ∷ []; expected = declined 10 1 (801 ∷ []) }
+      ∷ []
+
+  -- the same of tables that are counted
+  unfoldable pub counted-items : List Item
+  counted-items =
+      record { table = loose-table; asked = inserting (under13 loose-rule); buffer = 801 ∷ 802 ∷ []; expected = declined 4 1 (801 ∷ 802 ∷ []) }
+      ∷ record { table = alike-table; asked = inserting (under13 alike-rule); buffer = 801 ∷ 802 ∷ 803 ∷ []; expected = planned 3 (moved 1 0 ∷ moved 2 1 ∷ new 2 ∷ []) }
+      ∷ record { table = equal-table; asked = inserting (under13 (equal-rule 7)); buffer = 801 ∷ []; expected = declined 4 1 (801 ∷ []) }
+      ∷ record { table = crossed-table; asked = inserting (under13 (crossed-rule 1)); buffer = 801 ∷ []; expected = declined 10 1 (801 ∷ []) }
+      ∷ []
+
 -- each item gives what is expected of it, by the definitions and by the calls
+abbrev pub AsExpected : ℕ → Bool → List Item → Type 0
+AsExpected w u list = (map (resultOf w u) list ≡ map expected list) × (map (calledOf w u) list ≡ map expected list)
+
+-- document 01's items, of counted tables
 abbrev pub TablesAtTheEdge : ℕ → Type 0
-TablesAtTheEdge w = map (resultOf w) (items w) ≡ map expected (items w)
+TablesAtTheEdge w = map (resultOf w false) (items w) ≡ map expected (items w)
 
 abbrev pub CallsAtTheEdge : ℕ → Type 0
-CallsAtTheEdge w = map (calledOf w) (items w) ≡ map expected (items w)
+CallsAtTheEdge w = map (calledOf w false) (items w) ≡ map expected (items w)
 
 abbrev pub AgainAtTheEdge : ℕ → Type 0
-AgainAtTheEdge w = (map (resultOf w) (again-items w) ≡ map expected (again-items w)) × (map (calledOf w) (again-items w) ≡ map expected (again-items w))
+AgainAtTheEdge w = AsExpected w false (again-items w)
+
+-- 2026-11: tables that are uncounted, and the same ones counted
+abbrev pub UncountedAtTheEdge : ℕ → Type 0
+UncountedAtTheEdge w = AsExpected w true (uncounted-items w) × AsExpected w false (counted-items w)
 
 -- the table with a rule put in by its plan
-unfoldable pub afterInsert : ℕ → List ℕ → Rule → List ℕ
+unfoldable pub afterInsert : ℕ → Bool → List ℕ → Rule → List ℕ
 unfolding resultOf writeOf putSlot
-afterInsert w t rule = applyWords w t rule (plannedWords w t rule)
+afterInsert w u t rule = applyWords w t rule (plannedWords w u t rule)
 
 -- row by row, which of the rules that rule precedes
-unfoldable pub precedence : ℕ → List Rule → List (List Bool)
+unfoldable pub precedence : ℕ → Bool → List Rule → List (List Bool)
 unfolding resultOf
-precedence w rules = map (λ a. map (λ b. precedes w (word (held w a)) (word (held w b))) rules) rules
+precedence w u rules = map (λ a. map (λ b. precedes w u (word (held w a)) (word (held w b))) rules) rules

@@ -38,7 +38,7 @@ ghost use Rattle.records.specs.Record.{mostSlots, recordWords, slotWords};
 ghost use Rattle.records.specs.Order.{slots as slotsOf};
 ghost use Rattle.records.specs.Widths.{Width};
 ghost use Rattle.records.specs.Editions.{lentRule, under13, ranked};
-ghost use Rattle.records.specs.Checks.{orElse, tableChecks};
+ghost use Rattle.records.specs.Checks.{orElse, checkRecords, tableChecks};
 ghost use Rattle.records.specs.Inserts.{planWords};
 ghost use Rattle.records.specs.declared.Check.the-variants.{Pass};
 ghost use Rattle.buffers.specs.Buffers.{planTold, bufferAnswer, bufferAfter};
@@ -62,8 +62,8 @@ fn costs_along(
     mode: Mode,
 )
     requires { ⌜ (Width (mode .width)) × (slotsOf (mode .width) (now table) ≤ mostSlots) × (slotsOf (mode .width) (now table) ≤ length (now ends)) × (slotsOf (mode .width) (now table) ≤ length (now costs)) × (2 * (slotsOf (mode .width) (now table)) ≤ length (now near)) ⌝ }
-    requires { ⌜ (tableChecks (mode .width) (now table) ≡ Pass) × Listed (mode .width) (now table) (now near) ⌝ }
-    ensures { λ _. ⌜ Costed (mode .width) (now (table .entry)) up (now (costs .exit)) ⌝ }
+    requires { ⌜ (tableChecks (mode .width) (mode .uncounted) (now table) ≡ Pass) × Listed (mode .width) (mode .uncounted) (now table) (now near) ⌝ }
+    ensures { λ _. ⌜ Costed (mode .width) (mode .uncounted) (now (table .entry)) up (now (costs .exit)) ⌝ }
 {
     let slots = slot_count(table, mode.width);
     fill_ends(table, near, up, ends, mode);
@@ -141,11 +141,11 @@ fn plan_with(
     plan: &mut [u32],
     mode: Mode,
 ) -> PlanAnswer
-    requires { ⌜ (Width (mode .width)) × (tableChecks (mode .width) (now table) ≡ Pass) × (2 * mostSlots ≤ length (now near)) × Listed (mode .width) (now table) (now near) ⌝ }
-    requires { ⌜ (dependant ≤ slotsOf (mode .width) (now table)) × (choiceBetween (mode .width) (now table) after dependant .cost < slotsOf (mode .width) (now table)) ⌝ }
+    requires { ⌜ (Width (mode .width)) × (tableChecks (mode .width) (mode .uncounted) (now table) ≡ Pass) × (2 * mostSlots ≤ length (now near)) × Listed (mode .width) (mode .uncounted) (now table) (now near) ⌝ }
+    requires { ⌜ (dependant ≤ slotsOf (mode .width) (now table)) × (choiceBetween (mode .width) (mode .uncounted) (now table) after dependant .cost < slotsOf (mode .width) (now table)) ⌝ }
     requires { ⌜ (mostSlots ≤ length (now ends)) × (mostSlots ≤ length (now down)) × (mostSlots ≤ length (now up)) ⌝ }
-    ensures { λ r. ⌜ planTold r ≡ bufferAnswer Pass (length (planWords (choiceBetween (mode .width) (now (table .entry)) after dependant))) (length (now (plan .entry))) ⌝ }
-    ensures { λ _. ⌜ now (plan .exit) ≡ bufferAfter Pass (planWords (choiceBetween (mode .width) (now (table .entry)) after dependant)) (now (plan .entry)) ⌝ }
+    ensures { λ r. ⌜ planTold r ≡ bufferAnswer Pass (length (planWords (choiceBetween (mode .width) (mode .uncounted) (now (table .entry)) after dependant))) (length (now (plan .entry))) ⌝ }
+    ensures { λ _. ⌜ now (plan .exit) ≡ bufferAfter Pass (planWords (choiceBetween (mode .width) (mode .uncounted) (now (table .entry)) after dependant)) (now (plan .entry)) ⌝ }
 {
     let slots = slot_count(table, mode.width);
     costs_along(table, near, false, ends, down, mode);
@@ -163,10 +163,10 @@ fn plan_between(
     plan: &mut [u32],
     mode: Mode,
 ) -> PlanAnswer
-    requires { ⌜ (Width (mode .width)) × (tableChecks (mode .width) (now table) ≡ Pass) × (2 * mostSlots ≤ length (now near)) × Listed (mode .width) (now table) (now near) ⌝ }
-    requires { ⌜ (dependant ≤ slotsOf (mode .width) (now table)) × (choiceBetween (mode .width) (now table) after dependant .cost < slotsOf (mode .width) (now table)) ⌝ }
-    ensures { λ r. ⌜ planTold r ≡ bufferAnswer Pass (length (planWords (choiceBetween (mode .width) (now (table .entry)) after dependant))) (length (now (plan .entry))) ⌝ }
-    ensures { λ _. ⌜ now (plan .exit) ≡ bufferAfter Pass (planWords (choiceBetween (mode .width) (now (table .entry)) after dependant)) (now (plan .entry)) ⌝ }
+    requires { ⌜ (Width (mode .width)) × (tableChecks (mode .width) (mode .uncounted) (now table) ≡ Pass) × (2 * mostSlots ≤ length (now near)) × Listed (mode .width) (mode .uncounted) (now table) (now near) ⌝ }
+    requires { ⌜ (dependant ≤ slotsOf (mode .width) (now table)) × (choiceBetween (mode .width) (mode .uncounted) (now table) after dependant .cost < slotsOf (mode .width) (now table)) ⌝ }
+    ensures { λ r. ⌜ planTold r ≡ bufferAnswer Pass (length (planWords (choiceBetween (mode .width) (mode .uncounted) (now (table .entry)) after dependant))) (length (now (plan .entry))) ⌝ }
+    ensures { λ _. ⌜ now (plan .exit) ≡ bufferAfter Pass (planWords (choiceBetween (mode .width) (mode .uncounted) (now (table .entry)) after dependant)) (now (plan .entry)) ⌝ }
 {
     let mut ends = [0u16; MOST_SLOTS];
     let mut down = [0u16; MOST_SLOTS];
@@ -192,14 +192,14 @@ fn plan_between_neighbours(
     plan: &mut [u32],
     mode: Mode,
 ) -> PlanAnswer
-    requires { ⌜ (Width (mode .width)) × (tableChecks (mode .width) (now table) ≡ Pass) × (2 * mostSlots ≤ length (now near)) × Listed (mode .width) (now table) (now near) ⌝ }
-    requires { ⌜ length (now new) ≡ recordWords (mode .width) ⌝ }
-    requires { ⌜ (checkCrossed (mode .width) (now table) (slotWords (mode .width) (now new) 0) ≡ Pass
-        → recordChoice (mode .width) (now table) (slotWords (mode .width) (now new) 0) .cost < slotsOf (mode .width) (now table)) ⌝ }
-    ensures { λ r. ⌜ planTold r ≡ bufferAnswer (checkCrossed (mode .width) (now (table .entry)) (slotWords (mode .width) (now (new .entry)) 0))
-        (length (planWords (recordChoice (mode .width) (now (table .entry)) (slotWords (mode .width) (now (new .entry)) 0)))) (length (now (plan .entry))) ⌝ }
-    ensures { λ _. ⌜ now (plan .exit) ≡ bufferAfter (checkCrossed (mode .width) (now (table .entry)) (slotWords (mode .width) (now (new .entry)) 0))
-        (planWords (recordChoice (mode .width) (now (table .entry)) (slotWords (mode .width) (now (new .entry)) 0))) (now (plan .entry)) ⌝ }
+    requires { ⌜ (Width (mode .width)) × (tableChecks (mode .width) (mode .uncounted) (now table) ≡ Pass) × (2 * mostSlots ≤ length (now near)) × Listed (mode .width) (mode .uncounted) (now table) (now near) ⌝ }
+    requires { ⌜ (length (now new) ≡ recordWords (mode .width)) × (checkRecords (mode .width) (now new) ≡ Pass) ⌝ }
+    requires { ⌜ (checkCrossed (mode .width) (mode .uncounted) (now table) (slotWords (mode .width) (now new) 0) ≡ Pass
+        → recordChoice (mode .width) (mode .uncounted) (now table) (slotWords (mode .width) (now new) 0) .cost < slotsOf (mode .width) (now table)) ⌝ }
+    ensures { λ r. ⌜ planTold r ≡ bufferAnswer (checkCrossed (mode .width) (mode .uncounted) (now (table .entry)) (slotWords (mode .width) (now (new .entry)) 0))
+        (length (planWords (recordChoice (mode .width) (mode .uncounted) (now (table .entry)) (slotWords (mode .width) (now (new .entry)) 0)))) (length (now (plan .entry))) ⌝ }
+    ensures { λ _. ⌜ now (plan .exit) ≡ bufferAfter (checkCrossed (mode .width) (mode .uncounted) (now (table .entry)) (slotWords (mode .width) (now (new .entry)) 0))
+        (planWords (recordChoice (mode .width) (mode .uncounted) (now (table .entry)) (slotWords (mode .width) (now (new .entry)) 0))) (now (plan .entry)) ⌝ }
 {
     let after = after_a(table, new, mode);
     let dependant = slot_b(table, new, mode);
@@ -228,15 +228,15 @@ fn plan_checked(
     plan: &mut [u32],
     mode: Mode,
 ) -> PlanAnswer
-    requires { ⌜ (Width (mode .width)) × (tableChecks (mode .width) (now table) ≡ Pass) × (2 * mostSlots ≤ length (now near)) × Listed (mode .width) (now table) (now near) ⌝ }
-    requires { ⌜ (length (now new) ≡ recordWords (mode .width)) × FoundIn (mode .width) (now table) (slotWords (mode .width) (now new) 0) found ⌝ }
-    requires { ⌜ (foundCheck found ≡ Pass → replaces (mode .width) (now table) (slotWords (mode .width) (now new) 0) ≡ false
-        → placeChecks (mode .width) (now table) (slotWords (mode .width) (now new) 0) ≡ Pass
-        → recordChoice (mode .width) (now table) (slotWords (mode .width) (now new) 0) .cost < slotsOf (mode .width) (now table)) ⌝ }
-    ensures { λ r. ⌜ planTold r ≡ bufferAnswer (orElse (foundCheck found) (placeChecks (mode .width) (now (table .entry)) (slotWords (mode .width) (now (new .entry)) 0)))
-        (length (recordPlan (mode .width) (now (table .entry)) (slotWords (mode .width) (now (new .entry)) 0))) (length (now (plan .entry))) ⌝ }
-    ensures { λ _. ⌜ now (plan .exit) ≡ bufferAfter (orElse (foundCheck found) (placeChecks (mode .width) (now (table .entry)) (slotWords (mode .width) (now (new .entry)) 0)))
-        (recordPlan (mode .width) (now (table .entry)) (slotWords (mode .width) (now (new .entry)) 0)) (now (plan .entry)) ⌝ }
+    requires { ⌜ (Width (mode .width)) × (tableChecks (mode .width) (mode .uncounted) (now table) ≡ Pass) × (2 * mostSlots ≤ length (now near)) × Listed (mode .width) (mode .uncounted) (now table) (now near) ⌝ }
+    requires { ⌜ (length (now new) ≡ recordWords (mode .width)) × FoundIn (mode .width) (mode .uncounted) (now table) (slotWords (mode .width) (now new) 0) found × (foundCheck found ≡ Pass → checkRecords (mode .width) (now new) ≡ Pass) ⌝ }
+    requires { ⌜ (foundCheck found ≡ Pass → replaces (mode .width) (mode .uncounted) (now table) (slotWords (mode .width) (now new) 0) ≡ false
+        → placeChecks (mode .width) (mode .uncounted) (now table) (slotWords (mode .width) (now new) 0) ≡ Pass
+        → recordChoice (mode .width) (mode .uncounted) (now table) (slotWords (mode .width) (now new) 0) .cost < slotsOf (mode .width) (now table)) ⌝ }
+    ensures { λ r. ⌜ planTold r ≡ bufferAnswer (orElse (foundCheck found) (placeChecks (mode .width) (mode .uncounted) (now (table .entry)) (slotWords (mode .width) (now (new .entry)) 0)))
+        (length (recordPlan (mode .width) (mode .uncounted) (now (table .entry)) (slotWords (mode .width) (now (new .entry)) 0))) (length (now (plan .entry))) ⌝ }
+    ensures { λ _. ⌜ now (plan .exit) ≡ bufferAfter (orElse (foundCheck found) (placeChecks (mode .width) (mode .uncounted) (now (table .entry)) (slotWords (mode .width) (now (new .entry)) 0)))
+        (recordPlan (mode .width) (mode .uncounted) (now (table .entry)) (slotWords (mode .width) (now (new .entry)) 0)) (now (plan .entry)) ⌝ }
 {
     match found {
         NewRule::Adds => plan_between_neighbours(table, near, new, plan, mode),
@@ -254,10 +254,10 @@ fn plan_listed(
     plan: &mut [u32],
     mode: Mode,
 ) -> PlanAnswer
-    requires { ⌜ (Width (mode .width)) × (tableChecks (mode .width) (now table) ≡ Pass) × (2 * mostSlots ≤ length (now near)) × Listed (mode .width) (now table) (now near) ⌝ }
+    requires { ⌜ (Width (mode .width)) × (tableChecks (mode .width) (mode .uncounted) (now table) ≡ Pass) × (2 * mostSlots ≤ length (now near)) × Listed (mode .width) (mode .uncounted) (now table) (now near) ⌝ }
     requires { ⌜ length (now rule) ≡ recordWords (mode .width) ⌝ }
-    ensures { λ r. ⌜ planTold r ≡ insertAnswer (mode .width) (now (table .entry)) (lentRule (mode .width) edition (now (rule .entry))) (length (now (plan .entry))) ⌝ }
-    ensures { λ _. ⌜ now (plan .exit) ≡ insertPlan (mode .width) (now (table .entry)) (lentRule (mode .width) edition (now (rule .entry))) (now (plan .entry)) ⌝ }
+    ensures { λ r. ⌜ planTold r ≡ insertAnswer (mode .width) (mode .uncounted) (now (table .entry)) (lentRule (mode .width) edition (now (rule .entry))) (length (now (plan .entry))) ⌝ }
+    ensures { λ _. ⌜ now (plan .exit) ≡ insertPlan (mode .width) (mode .uncounted) (now (table .entry)) (lentRule (mode .width) edition (now (rule .entry))) (now (plan .entry)) ⌝ }
 {
     let mut ranked = [0u64; WIDE_RECORD];
     let words = record_words(mode.width);
@@ -268,8 +268,8 @@ fn plan_listed(
 // The plan of an insert at a width that there is, its rule lent as a record.
 fn insert_at(table: &[u64], rule: &[u64], edition: u32, plan: &mut [u32], mode: Mode) -> PlanAnswer
     requires { ⌜ (Width (mode .width)) × (length (now rule) ≡ recordWords (mode .width)) ⌝ }
-    ensures { λ r. ⌜ planTold r ≡ insertAnswer (mode .width) (now (table .entry)) (lentRule (mode .width) edition (now (rule .entry))) (length (now (plan .entry))) ⌝ }
-    ensures { λ _. ⌜ now (plan .exit) ≡ insertPlan (mode .width) (now (table .entry)) (lentRule (mode .width) edition (now (rule .entry))) (now (plan .entry)) ⌝ }
+    ensures { λ r. ⌜ planTold r ≡ insertAnswer (mode .width) (mode .uncounted) (now (table .entry)) (lentRule (mode .width) edition (now (rule .entry))) (length (now (plan .entry))) ⌝ }
+    ensures { λ _. ⌜ now (plan .exit) ≡ insertPlan (mode .width) (mode .uncounted) (now (table .entry)) (lentRule (mode .width) edition (now (rule .entry))) (now (plan .entry)) ⌝ }
 {
     let mut near = [0u16; LIST_NUMBERS];
     let check = check_listed(table, &mut near, mode);
@@ -287,10 +287,10 @@ pub fn plan_insert(
     plan: &mut [u32],
     mode: Mode,
 ) -> PlanAnswer
-    ensures { λ r. ⌜ planTold r ≡ insertCall (mode .width) edition (now (table .entry)) (now (rule .entry)) (length (now (plan .entry))) ⌝ }
-    ensures { λ _. ⌜ now (plan .exit) ≡ insertCallPlan (mode .width) edition (now (table .entry)) (now (rule .entry)) (now (plan .entry)) ⌝ }
-    ensures shortest { λ r. ⌜ (InsertableCall (mode .width) edition (now (table .entry)) (now (rule .entry))
-        → Demand3 (mode .width) (now (table .entry)) (ranked (mode .width) (lentRule (mode .width) edition (now (rule .entry)))) (planTold r) (now (plan .entry)) (now (plan .exit))) ⌝ }
+    ensures { λ r. ⌜ planTold r ≡ insertCall (mode .width) (mode .uncounted) edition (now (table .entry)) (now (rule .entry)) (length (now (plan .entry))) ⌝ }
+    ensures { λ _. ⌜ now (plan .exit) ≡ insertCallPlan (mode .width) (mode .uncounted) edition (now (table .entry)) (now (rule .entry)) (now (plan .entry)) ⌝ }
+    ensures shortest { λ r. ⌜ (InsertableCall (mode .width) (mode .uncounted) edition (now (table .entry)) (now (rule .entry))
+        → Demand3 (mode .width) (mode .uncounted) (now (table .entry)) (ranked (mode .width) (lentRule (mode .width) edition (now (rule .entry)))) (planTold r) (now (plan .entry)) (now (plan .exit))) ⌝ }
 {
     let lent = check_rule(mode.width, rule.len());
     if let Check::Fail(cause, spot) = lent {
@@ -301,11 +301,20 @@ pub fn plan_insert(
 
 // The same of document 01's rule struct, at two words, under 1.3.
 pub fn plan_rule(table: &[u64], rule: Rule, plan: &mut [u32]) -> PlanAnswer
-    ensures { λ r. ⌜ planTold r ≡ insertAnswer 2 (now (table .entry)) (under13 rule) (length (now (plan .entry))) ⌝ }
-    ensures { λ _. ⌜ now (plan .exit) ≡ insertPlan 2 (now (table .entry)) (under13 rule) (now (plan .entry)) ⌝ }
-    ensures shortest { λ r. ⌜ (InsertableGiven 2 (now (table .entry)) (under13 rule)
-        → Demand3 2 (now (table .entry)) rule (planTold r) (now (plan .entry)) (now (plan .exit))) ⌝ }
+    ensures { λ r. ⌜ planTold r ≡ insertAnswer 2 false (now (table .entry)) (under13 rule) (length (now (plan .entry))) ⌝ }
+    ensures { λ _. ⌜ now (plan .exit) ≡ insertPlan 2 false (now (table .entry)) (under13 rule) (now (plan .entry)) ⌝ }
+    ensures shortest { λ r. ⌜ (InsertableGiven 2 false (now (table .entry)) (under13 rule)
+        → Demand3 2 false (now (table .entry)) rule (planTold r) (now (plan .entry)) (now (plan .exit))) ⌝ }
 {
     let words = record_of(rule);
-    insert_at(table, &words, EDITION_13, plan, Mode { width: NARROW })
+    insert_at(
+        table,
+        &words,
+        EDITION_13,
+        plan,
+        Mode {
+            width: NARROW,
+            uncounted: false,
+        },
+    )
 }

@@ -44,7 +44,7 @@ fn fill(image: &[u8], rules: usize, table: &mut [u64], width: usize)
 fn check_meant(table: &[u64], mode: Mode) -> Check
     requires { ⌜ (Width (mode .width)) × (slots (mode .width) (now table) ≤ mostSlots) ⌝ }
     requires { ⌜ checkRecords (mode .width) (now table) ≡ Pass ⌝ }
-    ensures { λ r. ⌜ r ≡ orElse (checkTwice (mode .width) (now (table .entry))) (checkOrder (mode .width) (now (table .entry))) ⌝ }
+    ensures { λ r. ⌜ r ≡ orElse (checkTwice (mode .width) (now (table .entry))) (checkOrder (mode .width) (mode .uncounted) (now (table .entry))) ⌝ }
 {
     let mut near = [0u16; LIST_NUMBERS];
     check_pairs(table, &mut near, mode)
@@ -66,8 +66,8 @@ fn copy_words(from: &[u64], to: &mut [u64])
 fn load_through(image: &[u8], working: &mut [u64], table: &mut [u64], mode: Mode) -> LoadAnswer
     requires { ⌜ Width (mode .width) ⌝ }
     requires { ⌜ (orElse (checkShape (mode .width) (now table)) (imageChecks (mode .width) (now image) (slots (mode .width) (now table))) ≡ Pass) × (now working ≡ replicate (length (now table)) 0) ⌝ }
-    ensures { λ r. ⌜ loadTold r ≡ loadAnswer (mode .width) (now (image .entry)) (now (table .entry)) ⌝ }
-    ensures { λ _. ⌜ now (table .exit) ≡ loadTable (mode .width) (now (image .entry)) (now (table .entry)) ⌝ }
+    ensures { λ r. ⌜ loadTold r ≡ loadAnswer (mode .width) (mode .uncounted) (now (image .entry)) (now (table .entry)) ⌝ }
+    ensures { λ _. ⌜ now (table .exit) ≡ loadTable (mode .width) (mode .uncounted) (now (image .entry)) (now (table .entry)) ⌝ }
 {
     let rules = number_at(image, 2, 2) as usize;
     fill(image, rules, working, mode.width);
@@ -83,8 +83,8 @@ fn load_through(image: &[u8], working: &mut [u64], table: &mut [u64], mode: Mode
 fn load_narrow(image: &[u8], table: &mut [u64], mode: Mode) -> LoadAnswer
     requires { ⌜ (Width (mode .width)) × (length (now table) ≤ mostWords 2) ⌝ }
     requires { ⌜ orElse (checkShape (mode .width) (now table)) (imageChecks (mode .width) (now image) (slots (mode .width) (now table))) ≡ Pass ⌝ }
-    ensures { λ r. ⌜ loadTold r ≡ loadAnswer (mode .width) (now (image .entry)) (now (table .entry)) ⌝ }
-    ensures { λ _. ⌜ now (table .exit) ≡ loadTable (mode .width) (now (image .entry)) (now (table .entry)) ⌝ }
+    ensures { λ r. ⌜ loadTold r ≡ loadAnswer (mode .width) (mode .uncounted) (now (image .entry)) (now (table .entry)) ⌝ }
+    ensures { λ _. ⌜ now (table .exit) ≡ loadTable (mode .width) (mode .uncounted) (now (image .entry)) (now (table .entry)) ⌝ }
 {
     let words = table.len();
     let mut working = [0u64; NARROW_TABLE];
@@ -94,8 +94,8 @@ fn load_narrow(image: &[u8], table: &mut [u64], mode: Mode) -> LoadAnswer
 fn load_wide(image: &[u8], table: &mut [u64], mode: Mode) -> LoadAnswer
     requires { ⌜ (Width (mode .width)) × (length (now table) ≤ mostWords 5) ⌝ }
     requires { ⌜ orElse (checkShape (mode .width) (now table)) (imageChecks (mode .width) (now image) (slots (mode .width) (now table))) ≡ Pass ⌝ }
-    ensures { λ r. ⌜ loadTold r ≡ loadAnswer (mode .width) (now (image .entry)) (now (table .entry)) ⌝ }
-    ensures { λ _. ⌜ now (table .exit) ≡ loadTable (mode .width) (now (image .entry)) (now (table .entry)) ⌝ }
+    ensures { λ r. ⌜ loadTold r ≡ loadAnswer (mode .width) (mode .uncounted) (now (image .entry)) (now (table .entry)) ⌝ }
+    ensures { λ _. ⌜ now (table .exit) ≡ loadTable (mode .width) (mode .uncounted) (now (image .entry)) (now (table .entry)) ⌝ }
 {
     let words = table.len();
     let mut working = [0u64; WIDE_TABLE];
@@ -108,8 +108,8 @@ fn load_wide(image: &[u8], table: &mut [u64], mode: Mode) -> LoadAnswer
 fn load_sized(image: &[u8], table: &mut [u64], mode: Mode) -> LoadAnswer
     requires { ⌜ Width (mode .width) ⌝ }
     requires { ⌜ orElse (checkShape (mode .width) (now table)) (imageChecks (mode .width) (now image) (slots (mode .width) (now table))) ≡ Pass ⌝ }
-    ensures { λ r. ⌜ loadTold r ≡ loadAnswer (mode .width) (now (image .entry)) (now (table .entry)) ⌝ }
-    ensures { λ _. ⌜ now (table .exit) ≡ loadTable (mode .width) (now (image .entry)) (now (table .entry)) ⌝ }
+    ensures { λ r. ⌜ loadTold r ≡ loadAnswer (mode .width) (mode .uncounted) (now (image .entry)) (now (table .entry)) ⌝ }
+    ensures { λ _. ⌜ now (table .exit) ≡ loadTable (mode .width) (mode .uncounted) (now (image .entry)) (now (table .entry)) ⌝ }
 {
     if WIDE_TABLE < table.len() {
         return match load_sized(image, table, mode) {
@@ -126,8 +126,8 @@ fn load_sized(image: &[u8], table: &mut [u64], mode: Mode) -> LoadAnswer
 // The table of an image at a width that there is.
 fn load_at(image: &[u8], table: &mut [u64], mode: Mode) -> LoadAnswer
     requires { ⌜ Width (mode .width) ⌝ }
-    ensures { λ r. ⌜ loadTold r ≡ loadAnswer (mode .width) (now (image .entry)) (now (table .entry)) ⌝ }
-    ensures { λ _. ⌜ now (table .exit) ≡ loadTable (mode .width) (now (image .entry)) (now (table .entry)) ⌝ }
+    ensures { λ r. ⌜ loadTold r ≡ loadAnswer (mode .width) (mode .uncounted) (now (image .entry)) (now (table .entry)) ⌝ }
+    ensures { λ _. ⌜ now (table .exit) ≡ loadTable (mode .width) (mode .uncounted) (now (image .entry)) (now (table .entry)) ⌝ }
 {
     let check = check_fields(image, table, mode.width);
     if let Check::Fail(cause, spot) = check {
@@ -138,8 +138,8 @@ fn load_at(image: &[u8], table: &mut [u64], mode: Mode) -> LoadAnswer
 
 // The table of an image, into the lent table, or a refusal that leaves it as it was.
 pub fn load(image: &[u8], table: &mut [u64], mode: Mode) -> LoadAnswer
-    ensures { λ r. ⌜ loadTold r ≡ loadCall (mode .width) (now (image .entry)) (now (table .entry)) ⌝ }
-    ensures { λ _. ⌜ now (table .exit) ≡ loadCallTable (mode .width) (now (image .entry)) (now (table .entry)) ⌝ }
+    ensures { λ r. ⌜ loadTold r ≡ loadCall (mode .width) (mode .uncounted) (now (image .entry)) (now (table .entry)) ⌝ }
+    ensures { λ _. ⌜ now (table .exit) ≡ loadCallTable (mode .width) (mode .uncounted) (now (image .entry)) (now (table .entry)) ⌝ }
 {
     let known = check_width(mode.width);
     if let Check::Fail(cause, spot) = known {

@@ -1,6 +1,6 @@
 -- Lent cells after a call: on a success its data stands in the data cells, on a refusal its spot in the cell for it.
 -- A success leaves the spot and a refusal leaves the data as they were; a miss, a success without data, puts 0 into the data cells.
-use mathlib.Core.Bool.{cond}
+use mathlib.Core.Bool.{Bool, not, cond}
 use Prim.Native.Nat.{ℕ}
 use lib.Dec.{eqb}
 use lib.ListN.{getD}
@@ -13,3 +13,7 @@ dataCell told k before = cond (eqb (told .number) 0) (getD (told .values) k 0) b
 -- the cell for a refusal's spot
 abbrev pub spotCell : Told → ℕ → ℕ
 spotCell told before = cond (eqb (told .number) 0) before (getD (told .values) 0 0)
+
+-- a flag crosses as a number: 0 is no, and any other number yes
+abbrev pub flagOf : ℕ → Bool
+flagOf n = not (eqb n 0)

@@ -11,11 +11,11 @@ use Rattle.records.specs.Record.{slotWords, rank, occupied}
 use Rattle.records.specs.Order.{slots, precedes, misordered}
 
 -- two slots of a table: the first one's rule precedes the second one's; the first one's standing before the second is out of order
-abbrev pub precedesSlot : ℕ → List ℕ → ℕ → ℕ → Bool
-precedesSlot w t i j = precedes w (slotWords w t i) (slotWords w t j)
+abbrev pub precedesSlot : ℕ → Bool → List ℕ → ℕ → ℕ → Bool
+precedesSlot w u t i j = precedes w u (slotWords w t i) (slotWords w t j)
 
-abbrev pub misorderedSlots : ℕ → List ℕ → ℕ → ℕ → Bool
-misorderedSlots w t i j = misordered w (slotWords w t i) (slotWords w t j)
+abbrev pub misorderedSlots : ℕ → Bool → List ℕ → ℕ → ℕ → Bool
+misorderedSlots w u t i j = misordered w u (slotWords w t i) (slotWords w t j)
 
 abbrev pub rankAt : ℕ → List ℕ → ℕ → ℕ
 rankAt w t i = rank w (slotWords w t i)
@@ -31,12 +31,12 @@ unfoldable pub lastBelow : (ℕ → Bool) → ℕ → ℕ
 lastBelow p to = cond (ltb 0 (afterLast p to)) (afterLast p to - 1) 65535
 
 -- the nearest dependant's slot after a slot, and the nearest preceding rule's before it
-unfoldable pub nextDependant : ℕ → List ℕ → ℕ → ℕ
-nextDependant w t i = firstFrom (precedesSlot w t i) (suc i) (slots w t)
+unfoldable pub nextDependant : ℕ → Bool → List ℕ → ℕ → ℕ
+nextDependant w u t i = firstFrom (precedesSlot w u t i) (suc i) (slots w t)
 
-unfoldable pub lastPreceding : ℕ → List ℕ → ℕ → ℕ
-lastPreceding w t i = lastBelow (λ (k : ℕ). precedesSlot w t k i) i
+unfoldable pub lastPreceding : ℕ → Bool → List ℕ → ℕ → ℕ
+lastPreceding w u t i = lastBelow (λ (k : ℕ). precedesSlot w u t k i) i
 
 -- a list that begins with a table's neighbour list
-abbrev pub Listed : ℕ → List ℕ → List ℕ → Type 0
-Listed w t near = (i : ℕ) → i < slots w t → (getD near (2 * i) 0 ≡ nextDependant w t i) × (getD near (2 * i + 1) 0 ≡ lastPreceding w t i)
+abbrev pub Listed : ℕ → Bool → List ℕ → List ℕ → Type 0
+Listed w u t near = (i : ℕ) → i < slots w t → (getD near (2 * i) 0 ≡ nextDependant w u t i) × (getD near (2 * i + 1) 0 ≡ lastPreceding w u t i)

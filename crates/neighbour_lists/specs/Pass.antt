@@ -1,6 +1,6 @@
 -- The pass between two rows: what is known once the slots before slot j have been taken.
 use mathlib.Core.Path.{_≡_}
-use mathlib.Core.Bool.{cond}
+use mathlib.Core.Bool.{Bool, cond}
 use mathlib.Core.List.{List}
 use Prim.Native.Nat.{ℕ, _+_, _-_, _*_, _/_, _<_, _≤_}
 use lib.Dec.{ltb}
@@ -14,9 +14,9 @@ unfoldable pub lowered : List ℕ → ℕ → ℕ → List ℕ
 lowered low j rank = cond (ltb rank (getD low (j / 64) 0)) (set low (j / 64) rank) low
 
 -- both numbers of the slots before slot j, by those slots alone; the marks and the maps of those slots
-pub record Taken (w : ℕ) (t places near full free low maps : List ℕ) (j : ℕ) : Type 0 where
-  pub nexts : (i : ℕ) → i < j → getD near (2 * i) 0 ≡ firstSeen (precedesSlot w t i) (i + 1) (j - (i + 1))
-  pub befores : (i : ℕ) → i < j → getD near (2 * i + 1) 0 ≡ lastPreceding w t i
+pub record Taken (w : ℕ) (u : Bool) (t places near full free low maps : List ℕ) (j : ℕ) : Type 0 where
+  pub nexts : (i : ℕ) → i < j → getD near (2 * i) 0 ≡ firstSeen (precedesSlot w u t i) (i + 1) (j - (i + 1))
+  pub befores : (i : ℕ) → i < j → getD near (2 * i + 1) 0 ≡ lastPreceding w u t i
   pub marks : Marks (rankAt w t) (occupiedAt w t) near full free low j
   pub screen : Screen w t places maps j
 

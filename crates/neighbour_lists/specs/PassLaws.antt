@@ -178,13 +178,13 @@ module _ (rank : ℕ → ℕ) (held : ℕ → Bool) (near full free low : List �
       lowest b s l e law (old n o) = let k = marks .lowest b s l (sym o ∙ e) in let m = law .0 in omega arith
 
 -- what the rows of other values tell apart from slot j
-pub tells-screen : (w : ℕ) (t places maps rows : List ℕ) (count j used : ℕ) → Screen w t places maps j
+pub tells-screen : (w : ℕ) (u : Bool) (t places maps rows : List ℕ) (count j used : ℕ) → Screen w t places maps j
     → ((m : ℕ) → m < count → getD places m 0 < 64 * w) → ((m : ℕ) → m < used → Other w t places count j (getD rows m 0))
-    → Tells (precedesSlot w t) (misorderedSlots w t) maps rows used j
-tells-screen w t places maps rows count j used screen within other b s l h e =
+    → Tells (precedesSlot w u t) (misorderedSlots w u t) maps rows used j
+tells-screen w u t places maps rows count j used screen within other b s l h e =
     let x = slotWords w t (64 * b + s) in
     let y = slotWords w t j in
-    let pair = pattern-apart w x y (screen-apart w t places maps rows count j j b used s screen l within other e) in
+    let pair = pattern-apart w u x y (screen-apart w t places maps rows count j j b used s screen l within other e) in
     (pair .1, pair .0)
 
 -- a row of the maps lies within them
@@ -192,9 +192,9 @@ pub row-fits : (row count size : ℕ) → row % 16 ≡ 0 → row / 32 < count �
 row-fits row count size a b c = omega arith
 
 -- nothing is known before the first slot
-pub taken-start : (w : ℕ) (t places near full free low maps : List ℕ) → ((b : ℕ) → getD full b 0 ≡ 0) → ((b : ℕ) → getD free b 0 ≡ 0)
-    → ((a : ℕ) → getD maps a 0 ≡ 0) → Taken w t places near full free low maps 0
-taken-start w t places near full free low maps zf zo zm = record {
+pub taken-start : (w : ℕ) (u : Bool) (t places near full free low maps : List ℕ) → ((b : ℕ) → getD full b 0 ≡ 0) → ((b : ℕ) → getD free b 0 ≡ 0)
+    → ((a : ℕ) → getD maps a 0 ≡ 0) → Taken w u t places near full free low maps 0
+taken-start w u t places near full free low maps zf zo zm = record {
   nexts = λ i h. absurd (omega arith);
   befores = λ i h. absurd (omega arith);
   marks = record {
@@ -208,15 +208,15 @@ taken-start w t places near full free low maps zf zo zm = record {
 }
 
 -- a row that is done tells whether its slot is out of order
-pub row-told : (w : ℕ) (t near : List ℕ) (j : ℕ) (bad : Bool) → InRow (precedesSlot w t) (misorderedSlots w t) near j 0 0 bad → bad ≡ disorderAt w t j
+pub row-told : (w : ℕ) (u : Bool) (t near : List ℕ) (j : ℕ) (bad : Bool) → InRow (precedesSlot w u t) (misorderedSlots w u t) near j 0 0 bad → bad ≡ disorderAt w u t j
 unfolding disorderAt
-row-told w t near j bad row = row-order (precedesSlot w t) (misorderedSlots w t) near j bad row
+row-told w u t near j bad row = row-order (precedesSlot w u t) (misorderedSlots w u t) near j bad row
 
 -- slot j, its row done
-module _ (w : ℕ) (t places near full free low maps : List ℕ) (j : ℕ) (bad : Bool) (room : 2 * j < length near)
-    (row : InRow (precedesSlot w t) (misorderedSlots w t) near j 0 0 bad) where
+module _ (w : ℕ) (u : Bool) (t places near full free low maps : List ℕ) (j : ℕ) (bad : Bool) (room : 2 * j < length near)
+    (row : InRow (precedesSlot w u t) (misorderedSlots w u t) near j 0 0 bad) where
   taken-more : Marks (rankAt w t) (occupiedAt w t) (set near (2 * j) 65535) full free low (j + 1) → Screen w t places maps (j + 1)
-      → Taken w t places (set near (2 * j) 65535) full free low maps (j + 1)
+      → Taken w u t places (set near (2 * j) 65535) full free low maps (j + 1)
   unfolding lastPreceding
   taken-more marks screen = record {
     nexts = λ i h. next i h (ℕ-discrete i j);
@@ -225,30 +225,30 @@ module _ (w : ℕ) (t places near full free low maps : List ℕ) (j : ℕ) (bad 
     screen = screen;
   }
     where
-      next : (i : ℕ) → i < j + 1 → Dec (i ≡ j) → getD (set near (2 * j) 65535) (2 * i) 0 ≡ firstSeen (precedesSlot w t i) (i + 1) (j + 1 - (i + 1))
-      next i h (yes q) = rw q (getD-set-same near (2 * j) 65535 0 room ∙ sym (seen-start (precedesSlot w t j) j))
+      next : (i : ℕ) → i < j + 1 → Dec (i ≡ j) → getD (set near (2 * j) 65535) (2 * i) 0 ≡ firstSeen (precedesSlot w u t i) (i + 1) (j + 1 - (i + 1))
+      next i h (yes q) = rw q (getD-set-same near (2 * j) 65535 0 room ∙ sym (seen-start (precedesSlot w u t j) j))
       next i h (no n) =
           getD-set-other near (2 * j) (2 * i) 65535 0 (λ q. n (omega arith))
-          ∙ row-next (precedesSlot w t) (misorderedSlots w t) near j bad row i (omega arith)
+          ∙ row-next (precedesSlot w u t) (misorderedSlots w u t) near j bad row i (omega arith)
 
-      before : (i : ℕ) → i < j + 1 → Dec (i ≡ j) → getD (set near (2 * j) 65535) (2 * i + 1) 0 ≡ lastBelow (λ (k : ℕ). precedesSlot w t k i) i
+      before : (i : ℕ) → i < j + 1 → Dec (i ≡ j) → getD (set near (2 * j) 65535) (2 * i + 1) 0 ≡ lastBelow (λ (k : ℕ). precedesSlot w u t k i) i
       before i h (yes q) =
           rw q (getD-set-other near (2 * j) (2 * j + 1) 65535 0 (λ e. omega arith)
-          ∙ row-last (precedesSlot w t) (misorderedSlots w t) near j bad row)
+          ∙ row-last (precedesSlot w u t) (misorderedSlots w u t) near j bad row)
       before i h (no n) =
           getD-set-other near (2 * j) (2 * i + 1) 65535 0 (λ e. omega arith) ∙ row .known i (omega arith)
 
 -- a rule's slot, its row done, noted in the marks and in the maps
-module _ (w : ℕ) (t places near full free low maps others own : List ℕ) (count j used : ℕ) (bad : Bool)
+module _ (w : ℕ) (u : Bool) (t places near full free low maps others own : List ℕ) (count j used : ℕ) (bad : Bool)
     (room-near : 2 * j < length near) (room-full : j / 64 < length full) (room-free : j / 64 < length free) (room-low : j / 64 < length low)
     (room-maps : 32 * count ≤ length maps) (small : j < 1024)
-    (row : InRow (precedesSlot w t) (misorderedSlots w t) near j 0 0 bad) (marks : Marks (rankAt w t) (occupiedAt w t) near full free low j)
+    (row : InRow (precedesSlot w u t) (misorderedSlots w u t) near j 0 0 bad) (marks : Marks (rankAt w t) (occupiedAt w t) near full free low j)
     (screen : Screen w t places maps j) (filled : RowsOf w t places count j others own used) where
   pub taken-rule : (full′ free′ low′ maps′ : List ℕ) → full′ ≡ marked full j → free′ ≡ marked free j → low′ ≡ lowered low j (rankAt w t j)
-      → maps′ ≡ noted maps own (j / 64) (j % 64) used → Taken w t places (set near (2 * j) 65535) full′ free′ low′ maps′ (j + 1)
+      → maps′ ≡ noted maps own (j / 64) (j % 64) used → Taken w u t places (set near (2 * j) 65535) full′ free′ low′ maps′ (j + 1)
   taken-rule full′ free′ low′ maps′ e f g h =
       rw (e, f, g, h)
-      (taken-more w t places near (marked full j) (marked free j) (lowered low j (rankAt w t j)) (noted maps own (j / 64) (j % 64) used) j bad room-near row
+      (taken-more w u t places near (marked full j) (marked free j) (lowered low j (rankAt w t j)) (noted maps own (j / 64) (j % 64) used) j bad room-near row
       (marks-noted (rankAt w t) (occupiedAt w t) near full free low j room-full room-free room-low marks)
       (rw (add-one j) (screen-note w t places maps own count j used small screen (λ m l. filled m l .own) fits)))
     where
@@ -259,46 +259,46 @@ module _ (w : ℕ) (t places near full free low maps others own : List ℕ) (cou
           omega arith
 
 -- slot j's row begins, and is done where the slot is empty
-module _ (w : ℕ) (t places near full free low maps : List ℕ) (j : ℕ) (room : 2 * j + 1 < length near)
-    (taken : Taken w t places near full free low maps j) where
+module _ (w : ℕ) (u : Bool) (t places near full free low maps : List ℕ) (j : ℕ) (room : 2 * j + 1 < length near)
+    (taken : Taken w u t places near full free low maps j) where
   abbrev begun : List ℕ
   begun = set near (2 * j + 1) 65535
 
-  next-kept : (i : ℕ) → i < j → getD begun (2 * i) 0 ≡ firstSeen (precedesSlot w t i) (i + 1) (j - (i + 1))
+  next-kept : (i : ℕ) → i < j → getD begun (2 * i) 0 ≡ firstSeen (precedesSlot w u t i) (i + 1) (j - (i + 1))
   next-kept i h = getD-set-other near (2 * j + 1) (2 * i) 65535 0 (λ e. omega arith) ∙ taken .nexts i h
 
-  before-kept : (i : ℕ) → i < j → getD begun (2 * i + 1) 0 ≡ lastBelow (λ (k : ℕ). precedesSlot w t k i) i
+  before-kept : (i : ℕ) → i < j → getD begun (2 * i + 1) 0 ≡ lastBelow (λ (k : ℕ). precedesSlot w u t k i) i
   unfolding lastPreceding
   before-kept i h = getD-set-other near (2 * j + 1) (2 * i + 1) 65535 0 (λ e. omega arith) ∙ taken .befores i h
 
   none : getD begun (2 * j + 1) 0 ≡ 65535
   none = getD-set-same near (2 * j + 1) 65535 0 room
 
-  pub row-begun : InRow (precedesSlot w t) (misorderedSlots w t) (set near (2 * j + 1) 65535) j (j / 64 + 1) 0 false
-  row-begun = row-start (precedesSlot w t) (misorderedSlots w t) begun j next-kept before-kept none
+  pub row-begun : InRow (precedesSlot w u t) (misorderedSlots w u t) (set near (2 * j + 1) 65535) j (j / 64 + 1) 0 false
+  row-begun = row-start (precedesSlot w u t) (misorderedSlots w u t) begun j next-kept before-kept none
 
   pub marks-begun : Marks (rankAt w t) (occupiedAt w t) (set near (2 * j + 1) 65535) full free low j
   marks-begun = marks-stored (rankAt w t) (occupiedAt w t) near full free low j (2 * j + 1) 65535 (omega arith) (taken .marks)
 
   module _ (vacant : empty w (slotWords w t j) ≡ true) where
-    pub row-empty : InRow (precedesSlot w t) (misorderedSlots w t) (set near (2 * j + 1) 65535) j 0 0 false
+    pub row-empty : InRow (precedesSlot w u t) (misorderedSlots w u t) (set near (2 * j + 1) 65535) j 0 0 false
     row-empty =
-        row-idle (precedesSlot w t) (misorderedSlots w t) begun j next-kept before-kept none
-        (λ i. (precedes-empty w (slotWords w t i) (slotWords w t j) vacant .0, misordered-empty w (slotWords w t i) (slotWords w t j) vacant .0))
+        row-idle (precedesSlot w u t) (misorderedSlots w u t) begun j next-kept before-kept none
+        (λ i. (precedes-empty w u (slotWords w t i) (slotWords w t j) vacant .0, misordered-empty w u (slotWords w t i) (slotWords w t j) vacant .0))
 
-    pub taken-empty : Taken w t places (set (set near (2 * j + 1) 65535) (2 * j) 65535) full free low maps (j + 1)
+    pub taken-empty : Taken w u t places (set (set near (2 * j + 1) 65535) (2 * j) 65535) full free low maps (j + 1)
     taken-empty =
-        taken-more w t places begun full free low maps j false (simp length-set (omega arith)) row-empty
+        taken-more w u t places begun full free low maps j false (simp length-set (omega arith)) row-empty
         (marks-vacant (rankAt w t) (occupiedAt w t) (set begun (2 * j) 65535) full free low j (rw vacant)
         (marks-stored (rankAt w t) (occupiedAt w t) begun full free low j (2 * j) 65535 (omega arith) marks-begun))
         (λ a s e. let m = taken .screen a s e in record { earlier = (let h = m .earlier in omega arith); says = m .says })
 
 -- the numbers at the end are the list
-pub taken-listed : (w : ℕ) (t places near full free low maps : List ℕ) → slots w t ≤ 65535
-    → Taken w t places near full free low maps (slots w t) → Listed w t near
+pub taken-listed : (w : ℕ) (u : Bool) (t places near full free low maps : List ℕ) → slots w t ≤ 65535
+    → Taken w u t places near full free low maps (slots w t) → Listed w u t near
 unfolding nextDependant
-taken-listed w t places near full free low maps small taken i h =
-    (taken .nexts i h ∙ rw (sym (add-one i)) (seen-first (precedesSlot w t i) (i + 1) (slots w t) (omega arith) small), taken .befores i h)
+taken-listed w u t places near full free low maps small taken i h =
+    (taken .nexts i h ∙ rw (sym (add-one i)) (seen-first (precedesSlot w u t i) (i + 1) (slots w t) (omega arith) small), taken .befores i h)
 
 -- room is kept with the lengths of the working arrays
 pub room-kept : (w n : ℕ) (near full free low maps places : List ℕ) (count : ℕ) (chosen starts others own near′ full′ free′ low′ maps′ others′ own′ : List ℕ)

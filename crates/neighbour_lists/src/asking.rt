@@ -86,11 +86,11 @@ fn ask_pair(
 ) -> bool
     requires { ⌜ (Width (mode .width)) × (slot < later) × (later < slots (mode .width) (now table)) × (later < mostSlots) × (2 * later + 1 < length (now near)) × (16 ≤ length (now free)) ⌝ }
     requires { ⌜ (checkRecords (mode .width) (now table) ≡ Pass) × (rank ≡ rankAt (mode .width) (now table) later) ⌝ }
-    ensures { λ r. ⌜ r ≡ misorderedSlots (mode .width) (now (table .entry)) slot later ⌝ }
-    ensures { λ _. ⌜ now (near .exit) ≡ asked (precedesSlot (mode .width) (now (table .entry)) slot later) (now (near .entry)) slot later ⌝ }
-    ensures { λ _. ⌜ now (free .exit) ≡ askedFree (precedesSlot (mode .width) (now (table .entry)) slot later) (now (near .entry)) (now (free .entry)) slot ⌝ }
+    ensures { λ r. ⌜ r ≡ misorderedSlots (mode .width) (mode .uncounted) (now (table .entry)) slot later ⌝ }
+    ensures { λ _. ⌜ now (near .exit) ≡ asked (precedesSlot (mode .width) (mode .uncounted) (now (table .entry)) slot later) (now (near .entry)) slot later ⌝ }
+    ensures { λ _. ⌜ now (free .exit) ≡ askedFree (precedesSlot (mode .width) (mode .uncounted) (now (table .entry)) slot later) (now (near .entry)) (now (free .entry)) slot ⌝ }
 {
-    if !rules_overlap(table, slot, table, later, mode.width) {
+    if !rules_overlap(table, slot, table, later, mode) {
         return false;
     }
     let earlier = slot_rank(table, slot, mode.width);
@@ -105,7 +105,7 @@ fn ask_pair(
 fn quiet(table: &[u64], near: &[u16], slot: usize, later: usize, rank: u64, mode: Mode) -> bool
     requires { ⌜ (Width (mode .width)) × (slot < later) × (later < slots (mode .width) (now table)) × (2 * later + 1 < length (now near)) ⌝ }
     requires { ⌜ rank ≡ rankAt (mode .width) (now table) later ⌝ }
-    ensures { λ r. ⌜ (r ≡ true → Quiet (precedesSlot (mode .width) (now (table .entry))) (misorderedSlots (mode .width) (now (table .entry))) (now (near .entry)) later slot) ⌝ }
+    ensures { λ r. ⌜ (r ≡ true → Quiet (precedesSlot (mode .width) (mode .uncounted) (now (table .entry))) (misorderedSlots (mode .width) (mode .uncounted) (now (table .entry))) (now (near .entry)) later slot) ⌝ }
 {
     if settled(table, near, slot, later, rank, mode) {
         return true;
@@ -126,7 +126,7 @@ fn skip_quiet(
 ) -> u64
     requires { ⌜ (Width (mode .width)) × (later < slots (mode .width) (now table)) × (later < mostSlots) × (2 * later + 1 < length (now near)) × (block < 16) ⌝ }
     requires { ⌜ (rank ≡ rankAt (mode .width) (now table) later) × Inside later block some ⌝ }
-    ensures { λ r. ⌜ Skipped (precedesSlot (mode .width) (now (table .entry))) (misorderedSlots (mode .width) (now (table .entry))) (now (near .entry)) later block some r ⌝ }
+    ensures { λ r. ⌜ Skipped (precedesSlot (mode .width) (mode .uncounted) (now (table .entry))) (misorderedSlots (mode .width) (mode .uncounted) (now (table .entry))) (now (near .entry)) later block some r ⌝ }
 {
     let mut left = some;
     while left != 0 {
@@ -155,9 +155,9 @@ fn ask_block(
 ) -> bool
     requires { ⌜ (Width (mode .width)) × (later < slots (mode .width) (now table)) × (later < mostSlots) × (2 * later + 1 < length (now near)) × (16 ≤ length (now full)) × (16 ≤ length (now free)) × (16 ≤ length (now low)) × (block < 16) ⌝ }
     requires { ⌜ (checkRecords (mode .width) (now table) ≡ Pass) × (rank ≡ rankAt (mode .width) (now table) later) × Inside later block some ⌝ }
-    requires { ⌜ InRow (precedesSlot (mode .width) (now table)) (misorderedSlots (mode .width) (now table)) (now near) later block some before ⌝ }
+    requires { ⌜ InRow (precedesSlot (mode .width) (mode .uncounted) (now table)) (misorderedSlots (mode .width) (mode .uncounted) (now table)) (now near) later block some before ⌝ }
     requires { ⌜ Marks (rankAt (mode .width) (now table)) (occupiedAt (mode .width) (now table)) (now near) (now full) (now free) (now low) later ⌝ }
-    ensures { λ r. ⌜ InRow (precedesSlot (mode .width) (now (table .entry))) (misorderedSlots (mode .width) (now (table .entry))) (now (near .exit)) later block 0 r ⌝ }
+    ensures { λ r. ⌜ InRow (precedesSlot (mode .width) (mode .uncounted) (now (table .entry))) (misorderedSlots (mode .width) (mode .uncounted) (now (table .entry))) (now (near .exit)) later block 0 r ⌝ }
     ensures { λ _. ⌜ Marks (rankAt (mode .width) (now (table .entry))) (occupiedAt (mode .width) (now (table .entry))) (now (near .exit)) (now (full .entry)) (now (free .exit)) (now (low .entry)) later ⌝ }
 {
     let mut left = some;
@@ -189,11 +189,11 @@ fn ask_some(
 ) -> bool
     requires { ⌜ (Width (mode .width)) × (later < slots (mode .width) (now table)) × (later < mostSlots) × (2 * later + 1 < length (now near)) × (16 ≤ length (now full)) × (16 ≤ length (now free)) × (16 ≤ length (now low)) × (block < 16) × (used ≤ length (now rows)) ⌝ }
     requires { ⌜ (checkRecords (mode .width) (now table) ≡ Pass) × (rank ≡ rankAt (mode .width) (now table) later) ⌝ }
-    requires { ⌜ InRow (precedesSlot (mode .width) (now table)) (misorderedSlots (mode .width) (now table)) (now near) later (block + 1) 0 before ⌝ }
+    requires { ⌜ InRow (precedesSlot (mode .width) (mode .uncounted) (now table)) (misorderedSlots (mode .width) (mode .uncounted) (now table)) (now near) later (block + 1) 0 before ⌝ }
     requires { ⌜ Marks (rankAt (mode .width) (now table)) (occupiedAt (mode .width) (now table)) (now near) (now full) (now free) (now low) later ⌝ }
     requires { ⌜ ((m : ℕ) → m < used → getD (now rows) m 0 + 16 ≤ length (now maps)) ⌝ }
-    requires { ⌜ Tells (precedesSlot (mode .width) (now table)) (misorderedSlots (mode .width) (now table)) (now maps) (now rows) used later ⌝ }
-    ensures { λ r. ⌜ InRow (precedesSlot (mode .width) (now (table .entry))) (misorderedSlots (mode .width) (now (table .entry))) (now (near .exit)) later block 0 r ⌝ }
+    requires { ⌜ Tells (precedesSlot (mode .width) (mode .uncounted) (now table)) (misorderedSlots (mode .width) (mode .uncounted) (now table)) (now maps) (now rows) used later ⌝ }
+    ensures { λ r. ⌜ InRow (precedesSlot (mode .width) (mode .uncounted) (now (table .entry))) (misorderedSlots (mode .width) (mode .uncounted) (now (table .entry))) (now (near .exit)) later block 0 r ⌝ }
     ensures { λ _. ⌜ Marks (rankAt (mode .width) (now (table .entry))) (occupiedAt (mode .width) (now (table .entry))) (now (near .exit)) (now (full .entry)) (now (free .exit)) (now (low .entry)) later ⌝ }
 {
     let some = needed(near, full, free, low, block, later, rank);
@@ -231,11 +231,11 @@ pub fn ask_row(
 ) -> bool
     requires { ⌜ (Width (mode .width)) × (later < slots (mode .width) (now table)) × (later < mostSlots) × (2 * later + 1 < length (now near)) × (16 ≤ length (now full)) × (16 ≤ length (now free)) × (16 ≤ length (now low)) × (used ≤ length (now rows)) ⌝ }
     requires { ⌜ (checkRecords (mode .width) (now table) ≡ Pass) ⌝ }
-    requires { ⌜ InRow (precedesSlot (mode .width) (now table)) (misorderedSlots (mode .width) (now table)) (now near) later (later / 64 + 1) 0 false ⌝ }
+    requires { ⌜ InRow (precedesSlot (mode .width) (mode .uncounted) (now table)) (misorderedSlots (mode .width) (mode .uncounted) (now table)) (now near) later (later / 64 + 1) 0 false ⌝ }
     requires { ⌜ Marks (rankAt (mode .width) (now table)) (occupiedAt (mode .width) (now table)) (now near) (now full) (now free) (now low) later ⌝ }
     requires { ⌜ ((m : ℕ) → m < used → getD (now rows) m 0 + 16 ≤ length (now maps)) ⌝ }
-    requires { ⌜ Tells (precedesSlot (mode .width) (now table)) (misorderedSlots (mode .width) (now table)) (now maps) (now rows) used later ⌝ }
-    ensures { λ r. ⌜ InRow (precedesSlot (mode .width) (now (table .entry))) (misorderedSlots (mode .width) (now (table .entry))) (now (near .exit)) later 0 0 r ⌝ }
+    requires { ⌜ Tells (precedesSlot (mode .width) (mode .uncounted) (now table)) (misorderedSlots (mode .width) (mode .uncounted) (now table)) (now maps) (now rows) used later ⌝ }
+    ensures { λ r. ⌜ InRow (precedesSlot (mode .width) (mode .uncounted) (now (table .entry))) (misorderedSlots (mode .width) (mode .uncounted) (now (table .entry))) (now (near .exit)) later 0 0 r ⌝ }
     ensures { λ _. ⌜ Marks (rankAt (mode .width) (now (table .entry))) (occupiedAt (mode .width) (now (table .entry))) (now (near .exit)) (now (full .entry)) (now (free .exit)) (now (low .entry)) later ⌝ }
 {
     let rank = slot_rank(table, later, mode.width);

@@ -59,9 +59,9 @@ fn take_rule(
 ) -> bool
     requires { ⌜ (Width (mode .width)) × (slots (mode .width) (now table) ≤ mostSlots) × (slot < slots (mode .width) (now table)) × (checkRecords (mode .width) (now table) ≡ Pass) ⌝ }
     requires { ⌜ Room (mode .width) (slots (mode .width) (now table)) (now near) (now full) (now free) (now low) (now maps) (now places) count (now chosen) (now starts) (now others) (now own) ⌝ }
-    requires { ⌜ Taken (mode .width) (now table) (now places) (now near) (now full) (now free) (now low) (now maps) slot ⌝ }
-    ensures { λ r. ⌜ r ≡ disorderAt (mode .width) (now (table .entry)) slot ⌝ }
-    ensures { λ _. ⌜ Taken (mode .width) (now (table .entry)) (now (places .entry)) (now (near .exit)) (now (full .exit)) (now (free .exit)) (now (low .exit)) (now (maps .exit)) (slot + 1) ⌝ }
+    requires { ⌜ Taken (mode .width) (mode .uncounted) (now table) (now places) (now near) (now full) (now free) (now low) (now maps) slot ⌝ }
+    ensures { λ r. ⌜ r ≡ disorderAt (mode .width) (mode .uncounted) (now (table .entry)) slot ⌝ }
+    ensures { λ _. ⌜ Taken (mode .width) (mode .uncounted) (now (table .entry)) (now (places .entry)) (now (near .exit)) (now (full .exit)) (now (free .exit)) (now (low .exit)) (now (maps .exit)) (slot + 1) ⌝ }
 {
     near[2 * slot + 1] = 65535;
     let used = fill_rows(
@@ -102,9 +102,9 @@ fn take_slot(
 ) -> bool
     requires { ⌜ (Width (mode .width)) × (slots (mode .width) (now table) ≤ mostSlots) × (slot < slots (mode .width) (now table)) × (checkRecords (mode .width) (now table) ≡ Pass) ⌝ }
     requires { ⌜ Room (mode .width) (slots (mode .width) (now table)) (now near) (now full) (now free) (now low) (now maps) (now places) count (now chosen) (now starts) (now others) (now own) ⌝ }
-    requires { ⌜ Taken (mode .width) (now table) (now places) (now near) (now full) (now free) (now low) (now maps) slot ⌝ }
-    ensures { λ r. ⌜ r ≡ disorderAt (mode .width) (now (table .entry)) slot ⌝ }
-    ensures { λ _. ⌜ Taken (mode .width) (now (table .entry)) (now (places .entry)) (now (near .exit)) (now (full .exit)) (now (free .exit)) (now (low .exit)) (now (maps .exit)) (slot + 1) ⌝ }
+    requires { ⌜ Taken (mode .width) (mode .uncounted) (now table) (now places) (now near) (now full) (now free) (now low) (now maps) slot ⌝ }
+    ensures { λ r. ⌜ r ≡ disorderAt (mode .width) (mode .uncounted) (now (table .entry)) slot ⌝ }
+    ensures { λ _. ⌜ Taken (mode .width) (mode .uncounted) (now (table .entry)) (now (places .entry)) (now (near .exit)) (now (full .exit)) (now (free .exit)) (now (low .exit)) (now (maps .exit)) (slot + 1) ⌝ }
 {
     if slot_vacant(table, slot, mode.width) {
         near[2 * slot + 1] = 65535;
@@ -147,9 +147,9 @@ fn take_slots(
 ) -> usize
     requires { ⌜ (Width (mode .width)) × (slots (mode .width) (now table) ≤ mostSlots) × (checkRecords (mode .width) (now table) ≡ Pass) ⌝ }
     requires { ⌜ Room (mode .width) (slots (mode .width) (now table)) (now near) (now full) (now free) (now low) (now maps) (now places) count (now chosen) (now starts) (now others) (now own) ⌝ }
-    requires { ⌜ Taken (mode .width) (now table) (now places) (now near) (now full) (now free) (now low) (now maps) 0 ⌝ }
-    ensures { λ r. ⌜ r ≡ least (disorderAt (mode .width) (now (table .entry))) (slots (mode .width) (now (table .entry))) 0 ⌝ }
-    ensures { λ _. ⌜ Listed (mode .width) (now (table .entry)) (now (near .exit)) ⌝ }
+    requires { ⌜ Taken (mode .width) (mode .uncounted) (now table) (now places) (now near) (now full) (now free) (now low) (now maps) 0 ⌝ }
+    ensures { λ r. ⌜ r ≡ least (disorderAt (mode .width) (mode .uncounted) (now (table .entry))) (slots (mode .width) (now (table .entry))) 0 ⌝ }
+    ensures { λ _. ⌜ Listed (mode .width) (mode .uncounted) (now (table .entry)) (now (near .exit)) ⌝ }
 {
     let slots = slot_count(table, mode.width);
     let mut first = 0;
@@ -194,8 +194,8 @@ fn pass_with(
     requires { ⌜ (32 * count ≤ length (now maps)) × (count ≤ 64) × ((m : ℕ) → m < count → getD (now places) m 0 < 64 * mode .width) ⌝ }
     requires { ⌜ (mode .width ≤ length (now chosen)) × (64 * mode .width ≤ length (now starts)) × (total (now chosen) (mode .width) ≤ count) × Spread (now places) count (now chosen) (now starts) ⌝ }
     requires { ⌜ ((a : ℕ) → getD (now maps) a 0 ≡ 0) ⌝ }
-    ensures { λ r. ⌜ r ≡ least (disorderAt (mode .width) (now (table .entry))) (slots (mode .width) (now (table .entry))) 0 ⌝ }
-    ensures { λ _. ⌜ Listed (mode .width) (now (table .entry)) (now (near .exit)) ⌝ }
+    ensures { λ r. ⌜ r ≡ least (disorderAt (mode .width) (mode .uncounted) (now (table .entry))) (slots (mode .width) (now (table .entry))) 0 ⌝ }
+    ensures { λ _. ⌜ Listed (mode .width) (mode .uncounted) (now (table .entry)) (now (near .exit)) ⌝ }
 {
     let mut full = [0u64; 16];
     let mut free = [0u64; 16];
@@ -223,8 +223,8 @@ fn pass_with(
 // With maps for the places chosen.
 fn pass_screened(table: &[u64], near: &mut [u16], mode: Mode) -> usize
     requires { ⌜ (Width (mode .width)) × (slots (mode .width) (now table) ≤ mostSlots) × (checkRecords (mode .width) (now table) ≡ Pass) × (2 * (slots (mode .width) (now table)) ≤ length (now near)) ⌝ }
-    ensures { λ r. ⌜ r ≡ least (disorderAt (mode .width) (now (table .entry))) (slots (mode .width) (now (table .entry))) 0 ⌝ }
-    ensures { λ _. ⌜ Listed (mode .width) (now (table .entry)) (now (near .exit)) ⌝ }
+    ensures { λ r. ⌜ r ≡ least (disorderAt (mode .width) (mode .uncounted) (now (table .entry))) (slots (mode .width) (now (table .entry))) 0 ⌝ }
+    ensures { λ _. ⌜ Listed (mode .width) (mode .uncounted) (now (table .entry)) (now (near .exit)) ⌝ }
 {
     let mut places = [0usize; 64];
     let count = choose_places(table, &mut places, mode.width);
@@ -261,8 +261,8 @@ fn pass_screened(table: &[u64], near: &mut [u16], mode: Mode) -> usize
 // Without maps: no place is chosen.
 fn pass_plain(table: &[u64], near: &mut [u16], mode: Mode) -> usize
     requires { ⌜ (Width (mode .width)) × (slots (mode .width) (now table) ≤ mostSlots) × (checkRecords (mode .width) (now table) ≡ Pass) × (2 * (slots (mode .width) (now table)) ≤ length (now near)) ⌝ }
-    ensures { λ r. ⌜ r ≡ least (disorderAt (mode .width) (now (table .entry))) (slots (mode .width) (now (table .entry))) 0 ⌝ }
-    ensures { λ _. ⌜ Listed (mode .width) (now (table .entry)) (now (near .exit)) ⌝ }
+    ensures { λ r. ⌜ r ≡ least (disorderAt (mode .width) (mode .uncounted) (now (table .entry))) (slots (mode .width) (now (table .entry))) 0 ⌝ }
+    ensures { λ _. ⌜ Listed (mode .width) (mode .uncounted) (now (table .entry)) (now (near .exit)) ⌝ }
 {
     let mut maps = [0u64; 1];
     let places = [0usize; 1];
@@ -274,8 +274,8 @@ fn pass_plain(table: &[u64], near: &mut [u16], mode: Mode) -> usize
 // The neighbour list of a table, into the front of a lent list; the lowest slot that is out of order, or the number of slots.
 pub fn fill_near(table: &[u64], near: &mut [u16], mode: Mode) -> usize
     requires { ⌜ (Width (mode .width)) × (slots (mode .width) (now table) ≤ mostSlots) × (checkRecords (mode .width) (now table) ≡ Pass) × (2 * (slots (mode .width) (now table)) ≤ length (now near)) ⌝ }
-    ensures { λ r. ⌜ r ≡ least (disorderAt (mode .width) (now (table .entry))) (slots (mode .width) (now (table .entry))) 0 ⌝ }
-    ensures { λ _. ⌜ Listed (mode .width) (now (table .entry)) (now (near .exit)) ⌝ }
+    ensures { λ r. ⌜ r ≡ least (disorderAt (mode .width) (mode .uncounted) (now (table .entry))) (slots (mode .width) (now (table .entry))) 0 ⌝ }
+    ensures { λ _. ⌜ Listed (mode .width) (mode .uncounted) (now (table .entry)) (now (near .exit)) ⌝ }
 {
     // Below 160 slots maps cost more than they save.
     if slot_count(table, mode.width) < 160 {

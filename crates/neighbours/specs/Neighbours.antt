@@ -10,7 +10,7 @@ use lib.Dec.{ltb}
 use Rattle.search.specs.Search.{any, least, afterLast}
 use Rattle.ternary.specs.Pattern.{Words}
 use Rattle.records.specs.Record.{slotWords, empty, ident, recordOf}
-use Rattle.records.specs.Order.{slots, sameId, tied, precedes, equalRule}
+use Rattle.records.specs.Order.{slots, sameId, tied, precedes, replaceable}
 use Rattle.records.specs.Checks.{lowest, orElse, tableChecks}
 use Rattle.records.specs.Editions.{Given, ranked, checkGiven}
 use Rattle.records.specs.declared.Rule.{Rule}
@@ -25,58 +25,58 @@ unfoldable pub checkKnown : ℕ → List ℕ → Words → Check
 checkKnown w t new = lowest Known (λ (i : ℕ). sameId w (slotWords w t i) new) (slots w t)
 
 -- 8: overlap at equal rank, the lowest such slot
-unfoldable pub checkTie : ℕ → List ℕ → Words → Check
-checkTie w t new = lowest Tie (λ (i : ℕ). tied w (slotWords w t i) new) (slots w t)
+unfoldable pub checkTie : ℕ → Bool → List ℕ → Words → Check
+checkTie w u t new = lowest Tie (λ (i : ℕ). tied w u (slotWords w t i) new) (slots w t)
 
 -- 9: no slot is empty
 unfoldable pub checkFull : ℕ → List ℕ → Check
 checkFull w t = cond (any (λ (i : ℕ). empty w (slotWords w t i)) (slots w t)) Pass (Fail Full 0)
 
 -- A + 1, where A is the highest slot holding a rule that precedes the new one (−1 if none)
-unfoldable pub afterA : ℕ → List ℕ → Words → ℕ
-afterA w t new = afterLast (λ (i : ℕ). precedes w (slotWords w t i) new) (slots w t)
+unfoldable pub afterA : ℕ → Bool → List ℕ → Words → ℕ
+afterA w u t new = afterLast (λ (i : ℕ). precedes w u (slotWords w t i) new) (slots w t)
 
 -- B, the lowest slot holding a rule that depends on the new one (the number of slots if none)
-unfoldable pub slotB : ℕ → List ℕ → Words → ℕ
-slotB w t new = least (λ (i : ℕ). precedes w new (slotWords w t i)) (slots w t) 0
+unfoldable pub slotB : ℕ → Bool → List ℕ → Words → ℕ
+slotB w u t new = least (λ (i : ℕ). precedes w u new (slotWords w t i)) (slots w t) 0
 
 -- 10: A > B, spot A; by A + 1 and B, and of a rule
 abbrev pub crossedBy : ℕ → ℕ → Check
 crossedBy after dependant = cond (ltb (suc dependant) after) (Fail Crossed (after - 1)) Pass
 
-unfoldable pub checkCrossed : ℕ → List ℕ → Words → Check
-checkCrossed w t new = crossedBy (afterA w t new) (slotB w t new)
+unfoldable pub checkCrossed : ℕ → Bool → List ℕ → Words → Check
+checkCrossed w u t new = crossedBy (afterA w u t new) (slotB w u t new)
 
 -- document 02, 2026-03: the slot of the rule that the new one replaces, the lowest with one of the same value, mask and rank (the number of slots if
 -- none); whether there is one; and the id of that rule
-unfoldable pub replacedSlot : ℕ → List ℕ → Words → ℕ
-replacedSlot w t new = least (λ (i : ℕ). equalRule w (slotWords w t i) new) (slots w t) 0
+unfoldable pub replacedSlot : ℕ → Bool → List ℕ → Words → ℕ
+replacedSlot w u t new = least (λ (i : ℕ). replaceable w u (slotWords w t i) new) (slots w t) 0
 
-unfoldable pub replaces : ℕ → List ℕ → Words → Bool
-replaces w t new = ltb (replacedSlot w t new) (slots w t)
+unfoldable pub replaces : ℕ → Bool → List ℕ → Words → Bool
+replaces w u t new = ltb (replacedSlot w u t new) (slots w t)
 
-abbrev pub replacedId : ℕ → List ℕ → Words → ℕ
-replacedId w t new = ident w (slotWords w t (replacedSlot w t new))
+abbrev pub replacedId : ℕ → Bool → List ℕ → Words → ℕ
+replacedId w u t new = ident w (slotWords w t (replacedSlot w u t new))
 
 -- what a rule with its rank is checked for in a table: 6; then nothing more if it replaces a rule, else 8 and 9
-unfoldable pub newChecks : ℕ → List ℕ → Words → Check
-newChecks w t new = orElse (checkKnown w t new) (cond (replaces w t new) Pass (orElse (checkTie w t new) (checkFull w t)))
+unfoldable pub newChecks : ℕ → Bool → List ℕ → Words → Check
+newChecks w u t new = orElse (checkKnown w t new) (cond (replaces w u t new) Pass (orElse (checkTie w u t new) (checkFull w t)))
 
 -- what planning adds to that: 10, unless it replaces a rule; 11 is its buffer's
-unfoldable pub placeChecks : ℕ → List ℕ → Words → Check
-placeChecks w t new = cond (replaces w t new) Pass (checkCrossed w t new)
+unfoldable pub placeChecks : ℕ → Bool → List ℕ → Words → Check
+placeChecks w u t new = cond (replaces w u t new) Pass (checkCrossed w u t new)
 
 -- the record of a rule, as a table of one slot
 abbrev pub ruleWords : ℕ → Rule → Words
 ruleWords w rule = slotWords w (recordOf w rule) 0
 
 -- all that a rule is checked for as it is given: 5, 18, and those; from 6 on the rule has its rank
-unfoldable pub ruleChecks : ℕ → List ℕ → Given → Check
-ruleChecks w t given = orElse (checkGiven w given) (newChecks w t (ruleWords w (ranked w given)))
+unfoldable pub ruleChecks : ℕ → Bool → List ℕ → Given → Check
+ruleChecks w u t given = orElse (checkGiven w given) (newChecks w u t (ruleWords w (ranked w given)))
 
 -- checks 1 to 10 of an insert, and 18 after 5: 7 does not apply
-unfoldable pub insertChecks : ℕ → List ℕ → Given → Check
-insertChecks w t given = orElse (tableChecks w t) (orElse (ruleChecks w t given) (placeChecks w t (ruleWords w (ranked w given))))
+unfoldable pub insertChecks : ℕ → Bool → List ℕ → Given → Check
+insertChecks w u t given = orElse (tableChecks w u t) (orElse (ruleChecks w u t given) (placeChecks w u t (ruleWords w (ranked w given))))
 
 -- what the code tells of a new rule: the check that it comes to, ..
 abbrev pub foundCheck : NewRule → Check
@@ -85,7 +85,7 @@ foundCheck (Replaces slot) = Pass
 foundCheck (Declined cause spot) = Fail cause spot
 
 -- .. and which rule it replaces
-abbrev pub FoundIn : ℕ → List ℕ → Words → NewRule → Type 0
-FoundIn w t new Adds = replaces w t new ≡ false
-FoundIn w t new (Replaces slot) = (slot ≡ replacedSlot w t new) × (replaces w t new ≡ true)
-FoundIn w t new (Declined cause spot) = Unit {0}
+abbrev pub FoundIn : ℕ → Bool → List ℕ → Words → NewRule → Type 0
+FoundIn w u t new Adds = replaces w u t new ≡ false
+FoundIn w u t new (Replaces slot) = (slot ≡ replacedSlot w u t new) × (replaces w u t new ≡ true)
+FoundIn w u t new (Declined cause spot) = Unit {0}

@@ -1,5 +1,5 @@
 -- Laws on a new rule's checks and neighbours: the searches of the code, and how each check ends.
-use mathlib.Core.Path.{_≡_, refl, sym, _∙_}
+use mathlib.Core.Path.{_≡_, refl, sym, ap, _∙_}
 use mathlib.Core.Bool.{Bool, true, false, cond, true≢false}
 use mathlib.Core.List.{List}
 use Prim.Native.Nat.{ℕ, suc, _+_, _-_, _≤_, _<_}
@@ -9,10 +9,10 @@ use Rattle.search.specs.Search.{least}
 use Rattle.search.specs.SearchLaws.{any-some, any-none, least-law, least-none, after-last-law}
 use Rattle.ternary.specs.Pattern.{Words}
 use Rattle.records.specs.Record.{slotWords, empty, ident}
-use Rattle.records.specs.Order.{slots, sameId, tied, precedes, equalRule, EqualRules}
+use Rattle.records.specs.Order.{slots, sameId, tied, precedes, replaceable, Replaceable}
 use Rattle.records.specs.Laws.{or-else-pass, lowest-pass, same-id-law}
 use Rattle.records.specs.EntriesLaws.{refuted}
-use Rattle.records.specs.EqualLaws.{equal-law, equal-tied}
+use Rattle.records.specs.EqualLaws.{replaceable-law, equal-tied}
 use Rattle.records.specs.Checks.{orElse}
 use Rattle.records.specs.declared.Cause.the-variants.{Known, Tie, Full, Crossed}
 use Rattle.records.specs.declared.Check.{Check}
@@ -29,13 +29,13 @@ unfolding checkFull
 room-none w t f = rw (any-none (λ (k : ℕ). empty w (slotWords w t k)) (slots w t) f)
 
 -- A and B lie within the table
-pub after-a-high : (w : ℕ) (t : List ℕ) (new : Words) → afterA w t new ≤ slots w t
+pub after-a-high : (w : ℕ) (u : Bool) (t : List ℕ) (new : Words) → afterA w u t new ≤ slots w t
 unfolding afterA
-after-a-high w t new = after-last-law (λ (i : ℕ). precedes w (slotWords w t i) new) (slots w t) .high
+after-a-high w u t new = after-last-law (λ (i : ℕ). precedes w u (slotWords w t i) new) (slots w t) .high
 
-pub slot-b-high : (w : ℕ) (t : List ℕ) (new : Words) → slotB w t new ≤ slots w t
+pub slot-b-high : (w : ℕ) (u : Bool) (t : List ℕ) (new : Words) → slotB w u t new ≤ slots w t
 unfolding slotB
-slot-b-high w t new = let l = least-law (λ (i : ℕ). precedes w new (slotWords w t i)) (slots w t) 0 in omega (arith, l .high)
+slot-b-high w u t new = let l = least-law (λ (i : ℕ). precedes w u new (slotWords w t i)) (slots w t) 0 in omega (arith, l .high)
 
 -- the code's comparison of the two
 pub crossed-yes : (a b : ℕ) → b + 1 < a → Fail Crossed (a - 1) ≡ crossedBy a b
@@ -45,60 +45,75 @@ pub crossed-no : (a b : ℕ) → a ≤ b + 1 → Pass ≡ crossedBy a b
 crossed-no a b h = rw (le-ltb (suc b) a (omega arith))
 
 -- the searches for the rule that is replaced, as the code makes them: of 8 and 9 nothing is left where there is one
-pub new-passed : (w : ℕ) (t : List ℕ) (new : Words) {x : Check} → x ≡ orElse (checkTie w t new) (checkFull w t) → x ≡ Pass
-    → checkKnown w t new ≡ Pass → Pass ≡ newChecks w t new
+pub new-passed : (w : ℕ) (u : Bool) (t : List ℕ) (new : Words) {x : Check} → x ≡ orElse (checkTie w u t new) (checkFull w t) → x ≡ Pass
+    → checkKnown w t new ≡ Pass → Pass ≡ newChecks w u t new
 unfolding newChecks
-new-passed w t new e f g = rw g (pick (replaces w t new))
+new-passed w u t new e f g = rw g (pick (replaces w u t new))
   where
-    pick : (b : Bool) → Pass ≡ cond b Pass (orElse (checkTie w t new) (checkFull w t))
+    pick : (b : Bool) → Pass ≡ cond b Pass (orElse (checkTie w u t new) (checkFull w t))
     pick true = refl
     pick false = sym f ∙ e
 
-pub new-replaces : (w : ℕ) (t : List ℕ) (new : Words) → replacedSlot w t new < slots w t → checkKnown w t new ≡ Pass
-    → (Pass ≡ newChecks w t new) × (replaces w t new ≡ true)
-unfolding newChecks replaces
-new-replaces w t new h g = let one = lt-ltb (replacedSlot w t new) (slots w t) h in (rw (g, one), one)
+-- the search for it finds one, or none
+pub search-found : (w : ℕ) (u : Bool) (t : List ℕ) (new : Words) → replacedSlot w u t new < slots w t → replaces w u t new ≡ true
+unfolding replaces
+search-found w u t new h = lt-ltb (replacedSlot w u t new) (slots w t) h
 
-pub new-declined : (w : ℕ) (t : List ℕ) (new : Words) → slots w t ≤ replacedSlot w t new → checkKnown w t new ≡ Pass
-    → orElse (checkTie w t new) (checkFull w t) ≡ newChecks w t new
-unfolding newChecks replaces
-new-declined w t new h g = rw (g, le-ltb (replacedSlot w t new) (slots w t) h)
+pub search-none : (w : ℕ) (u : Bool) (t : List ℕ) (new : Words) → slots w t ≤ replacedSlot w u t new → replaces w u t new ≡ false
+unfolding replaces
+search-none w u t new h = le-ltb (replacedSlot w u t new) (slots w t) h
+
+-- and what 8 and 9 came to counts where there is none
+pub new-searched : (w : ℕ) (u : Bool) (t : List ℕ) (new : Words) {x : Check} → x ≡ orElse (checkTie w u t new) (checkFull w t) → checkKnown w t new ≡ Pass
+    → cond (replaces w u t new) Pass x ≡ newChecks w u t new
+unfolding newChecks
+new-searched w u t new e g = rw g (ap (cond (replaces w u t new) Pass) e)
 
 -- what it means that a rule is replaced, and that none is
-pub replaced-equal : (w : ℕ) (t : List ℕ) (new : Words) → replaces w t new ≡ true
-    → (replacedSlot w t new < slots w t) × EqualRules w (slotWords w t (replacedSlot w t new)) new
+pub replaced-equal : (w : ℕ) (u : Bool) (t : List ℕ) (new : Words) → replaces w u t new ≡ true
+    → (replacedSlot w u t new < slots w t) × Replaceable w u (slotWords w t (replacedSlot w u t new)) new
 unfolding replaces replacedSlot
-replaced-equal w t new e =
-    let p : ℕ → Bool = λ i. equalRule w (slotWords w t i) new in
+replaced-equal w u t new e =
+    let p : ℕ → Bool = λ i. replaceable w u (slotWords w t i) new in
     let inside = ltb-true (least p (slots w t) 0) (slots w t) e in
-    (inside, equal-law w (slotWords w t (least p (slots w t) 0)) new .0 (least-law p (slots w t) 0 .hit (omega (arith, inside))))
+    (inside, replaceable-law w u (slotWords w t (least p (slots w t) 0)) new .0 (least-law p (slots w t) 0 .hit (omega (arith, inside))))
 
-pub replaced-none : (w : ℕ) (t : List ℕ) (new : Words) → replaces w t new ≡ false → (i : ℕ) → i < slots w t → EqualRules w (slotWords w t i) new → ⊥
+pub replaced-lowest : (w : ℕ) (u : Bool) (t : List ℕ) (new : Words) (i : ℕ) → i < replacedSlot w u t new → Replaceable w u (slotWords w t i) new → ⊥
+unfolding replacedSlot
+replaced-lowest w u t new i less equal =
+    let p : ℕ → Bool = λ i. replaceable w u (slotWords w t i) new in
+    true≢false (sym (replaceable-law w u (slotWords w t i) new .1 equal) ∙ least-law p (slots w t) 0 .before i (omega arith) less)
+
+pub replaced-none : (w : ℕ) (u : Bool) (t : List ℕ) (new : Words) → replaces w u t new ≡ false → (i : ℕ) → i < slots w t → Replaceable w u (slotWords w t i) new → ⊥
 unfolding replaces replacedSlot
-replaced-none w t new e i h equal =
-    let p : ℕ → Bool = λ i. equalRule w (slotWords w t i) new in
+replaced-none w u t new e i h equal =
+    let p : ℕ → Bool = λ i. replaceable w u (slotWords w t i) new in
     let none = least-law p (slots w t) 0 .before i (omega arith) (omega (arith, h, ltb-false (least p (slots w t) 0) (slots w t) e)) in
-    true≢false (sym (equal-law w (slotWords w t i) new .1 equal) ∙ none)
+    true≢false (sym (replaceable-law w u (slotWords w t i) new .1 equal) ∙ none)
 
 -- no rule is replaced where none is equal, ..
-pub none-replaced : (w : ℕ) (t : List ℕ) (new : Words) → ((i : ℕ) → i < slots w t → EqualRules w (slotWords w t i) new → ⊥) → replaces w t new ≡ false
+pub none-replaced : (w : ℕ) (u : Bool) (t : List ℕ) (new : Words) → ((i : ℕ) → i < slots w t → Replaceable w u (slotWords w t i) new → ⊥) → replaces w u t new ≡ false
 unfolding replaces replacedSlot
-none-replaced w t new none =
-    let at = least-none (λ (i : ℕ). equalRule w (slotWords w t i) new) (slots w t) (λ i h. refuted (λ e. none i h (equal-law w (slotWords w t i) new .0 e))) in
+none-replaced w u t new none =
+    let at = least-none (λ (i : ℕ). replaceable w u (slotWords w t i) new) (slots w t) (λ i h. refuted (λ e. none i h (replaceable-law w u (slotWords w t i) new .0 e))) in
     rw (at, le-ltb (slots w t) (slots w t) (omega arith))
 
--- .. as where the new rule's id is unknown and it ties with none: 6 and 8 pass
-pub untied-none : (w : ℕ) (t : List ℕ) (new : Words) → ((i : ℕ) → i < slots w t → sameId w (slotWords w t i) new ≡ false)
-    → ((i : ℕ) → i < slots w t → tied w (slotWords w t i) new ≡ false) → replaces w t new ≡ false
-untied-none w t new unknown untied =
-    none-replaced w t new (λ i h equal.
+-- .. as, in a counted table, where the new rule's id is unknown and it ties with none: 6 and 8 pass
+pub untied-none : (w : ℕ) (u : Bool) (t : List ℕ) (new : Words) → ((i : ℕ) → i < slots w t → sameId w (slotWords w t i) new ≡ false)
+    → ((i : ℕ) → i < slots w t → tied w u (slotWords w t i) new ≡ false)
+    → (u ≡ true → (i : ℕ) → i < slots w t → Replaceable w u (slotWords w t i) new → ⊥) → replaces w u t new ≡ false
+untied-none w true t new unknown untied none = none-replaced w true t new (none refl)
+untied-none w false t new unknown untied none =
+    none-replaced w false t new (λ i h found.
+    let equal = found .equal in
     let apart : ident w (slotWords w t i) ≡ ident w new → ⊥ =
     λ f. true≢false (sym (same-id-law w (slotWords w t i) new .1 (equal .first, equal .second, f)) ∙ unknown i h) in
     true≢false (sym (equal-tied w (slotWords w t i) new equal apart) ∙ untied i h))
 
-pub new-adds : (w : ℕ) (t : List ℕ) (new : Words) {x : Check} → x ≡ orElse (checkTie w t new) (checkFull w t) → x ≡ Pass → checkKnown w t new ≡ Pass
-    → replaces w t new ≡ false
+pub new-adds : (w : ℕ) (u : Bool) (t : List ℕ) (new : Words) {x : Check} → u ≡ false → x ≡ orElse (checkTie w u t new) (checkFull w t) → x ≡ Pass
+    → checkKnown w t new ≡ Pass → replaces w u t new ≡ false
 unfolding checkKnown checkTie
-new-adds w t new e f g =
-    untied-none w t new (lowest-pass Known (λ (i : ℕ). sameId w (slotWords w t i) new) (slots w t) .0 g)
-    (lowest-pass Tie (λ (i : ℕ). tied w (slotWords w t i) new) (slots w t) .0 (or-else-pass (checkTie w t new) (checkFull w t) .0 (sym e ∙ f) .0))
+new-adds w u t new counted e f g =
+    untied-none w u t new (lowest-pass Known (λ (i : ℕ). sameId w (slotWords w t i) new) (slots w t) .0 g)
+    (lowest-pass Tie (λ (i : ℕ). tied w u (slotWords w t i) new) (slots w t) .0 (or-else-pass (checkTie w u t new) (checkFull w t) .0 (sym e ∙ f) .0))
+    (λ named. absurd (true≢false (sym named ∙ counted)))

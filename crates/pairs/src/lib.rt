@@ -1,9 +1,10 @@
-// Two slots side by side: overlap, one id in both, tied, equal, one before the other. Each slot is read in its own table.
+// Two slots side by side: overlap, one id in both, compared, tied, equal, one before the other. Each slot is read in its own table.
 // A slot of one table and a slot of another, or of the same; a rule to be inserted is a table of one slot.
 use records::Mode;
 use records::NARROW;
 use records::WIDE;
 use slots::mask_word;
+use slots::slot_action;
 use slots::slot_empty;
 use slots::slot_id;
 use slots::slot_rank;
@@ -13,13 +14,15 @@ use slots::value_word;
 ghost use mathlib.Core.Path.{_≡_};
 ghost use mathlib.Core.Bool.{_&&_};
 ghost use Prim.Native.Nat.{_<_};
-ghost use Rattle.records.specs.Record.{slotWords, occupied};
+ghost use lib.Dec.{eqb};
+ghost use Rattle.records.specs.Record.{slotWords, action, occupied};
 ghost use Rattle.records.specs.Checks.{checkRecords};
 ghost use Rattle.records.specs.Widths.{Width};
 ghost use Rattle.records.specs.declared.Check.the-variants.{Pass};
-ghost use Rattle.records.specs.Order.{slots, sameId, distinct, tied, precedes, overlapAt, overlapping, samePattern, equalRule};
+ghost use Rattle.records.specs.Order.{slots, sameId, actionsCompared, compared, tied, precedes, overlapAt, overlapping, samePattern, equalRule, replaceable};
 
-// Whether two slots' patterns do not differ in one word at bits that both care for.
+// Whether two slots' patterns do not differ in one word at bits that both care for. The other's words come first: in the search for pairs it is the later
+// slot, whose words the compiler keeps at hand.
 fn word_overlaps(
     table: &[u64],
     slot: usize,
@@ -32,19 +35,23 @@ fn word_overlaps(
     ensures { λ r. ⌜ r ≡ overlapAt width (slotWords width (now (table .entry)) slot) (slotWords width (now (others .entry)) other) index ⌝ }
 {
     ternary::words_overlap(
-        value_word(table, slot, index, width),
-        mask_word(table, slot, index, width),
         value_word(others, other, index, width),
         mask_word(others, other, index, width),
+        value_word(table, slot, index, width),
+        mask_word(table, slot, index, width),
     )
 }
 
-// Whether two slots' patterns overlap, the slots read as rules. It ends at the first word that tells them apart.
+// Whether two slots' patterns overlap, the slots read as rules. It ends at the first word that tells them apart. Word 0 stands before the loop: it tells
+// most pairs apart, and the compiled search for pairs is shorter for it.
 fn slots_overlap_by(table: &[u64], slot: usize, others: &[u64], other: usize, width: usize) -> bool
     requires { ⌜ (Width width) × (slot < slots width (now table)) × (other < slots width (now others)) ⌝ }
     ensures { λ r. ⌜ r ≡ overlapping width (slotWords width (now (table .entry)) slot) (slotWords width (now (others .entry)) other) ⌝ }
 {
-    let mut index = 0;
+    if !word_overlaps(table, slot, others, other, 0, width) {
+        return false;
+    }
+    let mut index = 1;
     while index < width {
         if !word_overlaps(table, slot, others, other, index, width) {
             return false;
@@ -88,21 +95,23 @@ pub fn same_id(table: &[u64], slot: usize, others: &[u64], other: usize, width: 
     false
 }
 
-// Whether the slots hold two rules of different ids.
-pub fn distinct_rules(
-    table: &[u64],
-    slot: usize,
-    others: &[u64],
-    other: usize,
-    width: usize,
-) -> bool
+// Whether two slots have one action.
+fn same_action(table: &[u64], slot: usize, others: &[u64], other: usize, width: usize) -> bool
     requires { ⌜ (Width width) × (slot < slots width (now table)) × (other < slots width (now others)) ⌝ }
-    ensures { λ r. ⌜ r ≡ distinct width (slotWords width (now (table .entry)) slot) (slotWords width (now (others .entry)) other) ⌝ }
+    ensures { λ r. ⌜ r ≡ eqb (action width (slotWords width (now (table .entry)) slot)) (action width (slotWords width (now (others .entry)) other)) ⌝ }
 {
-    if both_occupied(table, slot, others, other, width) {
-        return slot_id(table, slot, width) != slot_id(others, other, width);
+    slot_action(table, slot, width) == slot_action(others, other, width)
+}
+
+// Whether the actions of two slots leave them to be compared: they differ, or the table is counted, where they are not asked.
+fn actions_compared(table: &[u64], slot: usize, others: &[u64], other: usize, mode: Mode) -> bool
+    requires { ⌜ (Width (mode .width)) × (slot < slots (mode .width) (now table)) × (other < slots (mode .width) (now others)) ⌝ }
+    ensures { λ r. ⌜ r ≡ actionsCompared (mode .width) (mode .uncounted) (slotWords (mode .width) (now (table .entry)) slot) (slotWords (mode .width) (now (others .entry)) other) ⌝ }
+{
+    if mode.uncounted {
+        return !same_action(table, slot, others, other, mode.width);
     }
-    false
+    true
 }
 
 // Whether both slots are occupied, where check 2 passes.
@@ -117,42 +126,46 @@ fn both_hold_rules(table: &[u64], slot: usize, others: &[u64], other: usize, wid
     !slot_vacant(others, other, width)
 }
 
-// Whether the slots hold two rules of different ids that overlap. Patterns first: they tell most pairs apart.
-pub fn rules_overlap(table: &[u64], slot: usize, others: &[u64], other: usize, width: usize) -> bool
-    requires { ⌜ (Width width) × (slot < slots width (now table)) × (other < slots width (now others)) ⌝ }
-    requires { ⌜ (checkRecords width (now table) ≡ Pass) × (checkRecords width (now others) ≡ Pass) ⌝ }
-    ensures { λ r. ⌜ r ≡ (overlapping width (slotWords width (now (table .entry)) slot) (slotWords width (now (others .entry)) other) && distinct width (slotWords width (now (table .entry)) slot) (slotWords width (now (others .entry)) other)) ⌝ }
+// Whether the slots hold two rules that are compared with each other, where check 2 passes.
+fn compared_rules(table: &[u64], slot: usize, others: &[u64], other: usize, mode: Mode) -> bool
+    requires { ⌜ (Width (mode .width)) × (slot < slots (mode .width) (now table)) × (other < slots (mode .width) (now others)) ⌝ }
+    requires { ⌜ (checkRecords (mode .width) (now table) ≡ Pass) × (checkRecords (mode .width) (now others) ≡ Pass) ⌝ }
+    ensures { λ r. ⌜ r ≡ compared (mode .width) (mode .uncounted) (slotWords (mode .width) (now (table .entry)) slot) (slotWords (mode .width) (now (others .entry)) other) ⌝ }
 {
-    if !slots_overlap(table, slot, others, other, width) {
+    if slot_id(table, slot, mode.width) == slot_id(others, other, mode.width) {
         return false;
     }
-    if !both_hold_rules(table, slot, others, other, width) {
+    if !both_hold_rules(table, slot, others, other, mode.width) {
         return false;
     }
-    slot_id(table, slot, width) != slot_id(others, other, width)
+    actions_compared(table, slot, others, other, mode)
 }
 
-// Whether the slots hold two rules of different ids that overlap, the slots read as rules.
-fn overlapping_rules(table: &[u64], slot: usize, others: &[u64], other: usize, width: usize) -> bool
-    requires { ⌜ (Width width) × (slot < slots width (now table)) × (other < slots width (now others)) ⌝ }
-    ensures { λ r. ⌜ r ≡ (overlapping width (slotWords width (now (table .entry)) slot) (slotWords width (now (others .entry)) other) && distinct width (slotWords width (now (table .entry)) slot) (slotWords width (now (others .entry)) other)) ⌝ }
+// Whether the slots hold two rules that are compared and overlap. Patterns first: they tell most pairs apart.
+pub fn rules_overlap(table: &[u64], slot: usize, others: &[u64], other: usize, mode: Mode) -> bool
+    requires { ⌜ (Width (mode .width)) × (slot < slots (mode .width) (now table)) × (other < slots (mode .width) (now others)) ⌝ }
+    requires { ⌜ (checkRecords (mode .width) (now table) ≡ Pass) × (checkRecords (mode .width) (now others) ≡ Pass) ⌝ }
+    ensures { λ r. ⌜ r ≡ (overlapping (mode .width) (slotWords (mode .width) (now (table .entry)) slot) (slotWords (mode .width) (now (others .entry)) other) && compared (mode .width) (mode .uncounted) (slotWords (mode .width) (now (table .entry)) slot) (slotWords (mode .width) (now (others .entry)) other)) ⌝ }
 {
-    if slots_overlap(table, slot, others, other, width) {
-        return distinct_rules(table, slot, others, other, width);
+    if !slots_overlap(table, slot, others, other, mode.width) {
+        return false;
     }
-    false
+    compared_rules(table, slot, others, other, mode)
 }
 
-// Whether two rules overlap at equal rank.
+// Whether two rules overlap at equal rank. The width is a constant for the compiler where this is called.
 pub fn tied_pair(table: &[u64], slot: usize, others: &[u64], other: usize, mode: Mode) -> bool
     requires { ⌜ (Width (mode .width)) × (slot < slots (mode .width) (now table)) × (other < slots (mode .width) (now others)) ⌝ }
-    ensures { λ r. ⌜ r ≡ tied (mode .width) (slotWords (mode .width) (now (table .entry)) slot) (slotWords (mode .width) (now (others .entry)) other) ⌝ }
+    requires { ⌜ (checkRecords (mode .width) (now table) ≡ Pass) × (checkRecords (mode .width) (now others) ≡ Pass) ⌝ }
+    ensures { λ r. ⌜ r ≡ tied (mode .width) (mode .uncounted) (slotWords (mode .width) (now (table .entry)) slot) (slotWords (mode .width) (now (others .entry)) other) ⌝ }
 {
-    let width = mode.width;
-    if slot_rank(table, slot, width) == slot_rank(others, other, width) {
-        return overlapping_rules(table, slot, others, other, width);
+    if slot_rank(table, slot, mode.width) != slot_rank(others, other, mode.width) {
+        return false;
     }
-    false
+    if !slots_overlap_by(table, slot, others, other, mode.width) {
+        return false;
+    }
+    compared_rules(table, slot, others, other, mode)
 }
 
 // Whether two slots have the same value and mask, the first words of their records.
@@ -171,7 +184,7 @@ pub fn same_pattern(table: &[u64], slot: usize, others: &[u64], other: usize, wi
 }
 
 // Whether two rules have the same value, mask and rank. Ranks first: they tell most pairs apart.
-pub fn equal_pair(table: &[u64], slot: usize, others: &[u64], other: usize, width: usize) -> bool
+fn equal_rules(table: &[u64], slot: usize, others: &[u64], other: usize, width: usize) -> bool
     requires { ⌜ (Width width) × (slot < slots width (now table)) × (other < slots width (now others)) ⌝ }
     ensures { λ r. ⌜ r ≡ equalRule width (slotWords width (now (table .entry)) slot) (slotWords width (now (others .entry)) other) ⌝ }
 {
@@ -184,14 +197,38 @@ pub fn equal_pair(table: &[u64], slot: usize, others: &[u64], other: usize, widt
     false
 }
 
+// Whether of two rules the one replaces the other: they are equal, and in a table without counters have one action.
+pub fn replaceable_pair(
+    table: &[u64],
+    slot: usize,
+    others: &[u64],
+    other: usize,
+    mode: Mode,
+) -> bool
+    requires { ⌜ (Width (mode .width)) × (slot < slots (mode .width) (now table)) × (other < slots (mode .width) (now others)) ⌝ }
+    ensures { λ r. ⌜ r ≡ replaceable (mode .width) (mode .uncounted) (slotWords (mode .width) (now (table .entry)) slot) (slotWords (mode .width) (now (others .entry)) other) ⌝ }
+{
+    if !equal_rules(table, slot, others, other, mode.width) {
+        return false;
+    }
+    if mode.uncounted {
+        return same_action(table, slot, others, other, mode.width);
+    }
+    true
+}
+
 // Whether a rule precedes another: they overlap, and its rank is the higher one.
 pub fn precedes_pair(table: &[u64], slot: usize, others: &[u64], other: usize, mode: Mode) -> bool
     requires { ⌜ (Width (mode .width)) × (slot < slots (mode .width) (now table)) × (other < slots (mode .width) (now others)) ⌝ }
-    ensures { λ r. ⌜ r ≡ precedes (mode .width) (slotWords (mode .width) (now (table .entry)) slot) (slotWords (mode .width) (now (others .entry)) other) ⌝ }
+    requires { ⌜ (checkRecords (mode .width) (now table) ≡ Pass) × (checkRecords (mode .width) (now others) ≡ Pass) ⌝ }
+    ensures { λ r. ⌜ r ≡ precedes (mode .width) (mode .uncounted) (slotWords (mode .width) (now (table .entry)) slot) (slotWords (mode .width) (now (others .entry)) other) ⌝ }
 {
     let width = mode.width;
-    if slot_rank(others, other, width) < slot_rank(table, slot, width) {
-        return overlapping_rules(table, slot, others, other, width);
+    if slot_rank(table, slot, width) <= slot_rank(others, other, width) {
+        return false;
     }
-    false
+    if !slots_overlap_by(table, slot, others, other, width) {
+        return false;
+    }
+    compared_rules(table, slot, others, other, mode)
 }

@@ -1,5 +1,6 @@
 -- End theorems: matching, order, least count, demand 2 and the round trip for any number of words, and each at two words and at five.
 use mathlib.Core.Path.{refl, sym, ap}
+use mathlib.Core.Bool.{Bool}
 use mathlib.Core.List.{List}
 use Prim.Native.Nat.{ℕ}
 use Rattle.ternary.specs.PatternLaws.{overlaps-law}
@@ -23,28 +24,28 @@ use Rattle.promises.specs.SecondDemandLaws.{second-demand}
 use Rattle.promises.specs.ThirdDemandLaws.{least-words, third-demand}
 
 -- document 02: for any number of words
-pub any-words : (w : ℕ) → AnyWords w
-any-words w = record {
+pub any-words : (w : ℕ) (u : Bool) → AnyWords w u
+any-words w u = record {
   matching = λ t i key. compares w t i key (comparedAt w t key i) refl;
   overlap = λ a b. overlaps-law w (value a) (mask w a) (value b) (mask w b);
-  order = order-law w;
-  least = least-words w;
+  order = order-law w u;
+  least = least-words w u;
   replaces = λ t given s r. (
-    replacement-planned w t given s r,
-    λ rules. sym (ap (λ (change : List Rule → List Rule). change rules) (inserted-replaced w t (ranked w given) s (r .replacing))),
+    replacement-planned w u t given s r,
+    λ rules. sym (ap (λ (change : List Rule → List Rule). change rules) (inserted-replaced w u t (ranked w given) s (r .replacing))),
   );
   answered = λ history t reached key. reached-lookup reached key;
-  inserts = demand-2-insert w;
-  deletes = demand-2-delete w;
-  loads = λ narrow t image bytes words. saved-loads w t image bytes narrow words;
+  inserts = demand-2-insert w u;
+  deletes = demand-2-delete w u;
+  loads = λ narrow t image bytes words. saved-loads w u t image bytes narrow words;
 }
 
--- and cited for both
-at-width : (w : ℕ) → Width w → AtWidth w
-at-width w known = record { words = any-words w; offsets = width-numbered known; second = second-demand w known; third = third-demand w known; editions = editions w known; replacements = replacements w known }
+-- and cited for both, of counted and of uncounted tables
+at-width : (w : ℕ) (u : Bool) → Width w → AtWidth w u
+at-width w u known = record { words = any-words w u; offsets = width-numbered known; second = second-demand w u known; third = third-demand w u known; editions = editions w u known; replacements = replacements w u known }
 
-pub at-two-words : AtWidth 2
-at-two-words = at-width 2 two
+pub at-two-words : (u : Bool) → AtWidth 2 u
+at-two-words u = at-width 2 u two
 
-pub at-five-words : AtWidth 5
-at-five-words = at-width 5 five
+pub at-five-words : (u : Bool) → AtWidth 5 u
+at-five-words u = at-width 5 u five

@@ -1,5 +1,6 @@
 -- Laws on calls one after the other: a plan under way is in one of the states that the theorems below speak of.
 use mathlib.Core.Path.{_≡_, refl, sym, ap, _∙_, subst}
+use mathlib.Core.Bool.{Bool}
 use mathlib.Core.List.{List}
 use Prim.Native.Nat.{ℕ, suc, _≤_, _<_}
 use native.Mathlib.Numerals.{add-one}
@@ -49,19 +50,19 @@ pub record At (w : ℕ) (t plan : List ℕ) (given : Given) (count : ℕ) (u : L
   pub done : progress .done ≡ k
   pub total : progress .total ≡ count
 
-module _ (w e : ℕ) (t plan lent : List ℕ) (known : Width w) (size : length lent ≡ recordWords w) (words : List ℕ) (count : ℕ) (change : List Rule → List Rule)
-    (d : Demand2 w t plan (lentRule w e lent) words count change) where
+module _ (w : ℕ) (u : Bool) (e : ℕ) (t plan lent : List ℕ) (known : Width w) (size : length lent ≡ recordWords w) (words : List ℕ) (count : ℕ) (change : List Rule → List Rule)
+    (d : Demand2 w u t plan (lentRule w e lent) words count change) where
   abbrev given : Given
   given = lentRule w e lent
 
   -- a call on such a state: its result, and the state that it leaves
-  call-at : (u : List ℕ) (progress : Progress) (k : ℕ) → At w t plan given count u progress k → (n result : ℕ) → count ≤ n → (after : List ℕ) (progress′ : Progress)
-      → CarryLeft w e u (take n plan) lent progress result after progress′
+  call-at : (s : List ℕ) (progress : Progress) (k : ℕ) → At w t plan given count s progress k → (n result : ℕ) → count ≤ n → (after : List ℕ) (progress′ : Progress)
+      → CarryLeft w e s (take n plan) lent progress result after progress′
       → (result ≡ carryResult (callAnswer w t plan given count k)) × (after ≡ afterCalls w t plan given count (suc k) .table)
       × (progress′ .done ≡ afterCalls w t plan given count (suc k) .done) × (progress′ .total ≡ count)
-  call-at u progress k at n result long after progress′ left =
+  call-at s progress k at n result long after progress′ left =
       let part = subst (λ (m : ℕ). Lent plan m (take n plan)) (sym (at .total)) (lent-part plan count n (demand-2-room d) long) in
-      let whole = carry-lent w e u plan (take n plan) lent progress result after progress′ part left in
+      let whole = carry-lent w e s plan (take n plan) lent progress result after progress′ part left in
       carry-call w e t plan lent count k result after progress progress′ known size (at .done ∙ sym (d .counted k (at .few))) (at .total)
       (subst (λ (v : List ℕ). CarryLeft w e v plan lent progress result after progress′) (at .table) whole)
 
@@ -70,18 +71,18 @@ module _ (w e : ℕ) (t plan lent : List ℕ) (known : Width w) (size : length l
       → (k < count → carryResult (callAnswer w t plan given count k) ≡ wroteResult) × (k ≡ count → carryResult (callAnswer w t plan given count k) ≡ finishedResult)
   result-at k few = (λ h. ap carryResult (d .writes k h), λ all. ap carryResult (d .finished k (omega arith)))
 
-  pub carrying-at : (u : List ℕ) (progress : Progress) → Carrying w e t plan lent count u progress → (k : ℕ) × At w t plan given count u progress k
-  carrying-at u progress Carrying.drawn = (0, record { few = omega arith; table = refl; done = refl; total = refl })
-  carrying-at u progress (Carrying.wrote v before under n long within after progress′ left) =
+  pub carrying-at : (s : List ℕ) (progress : Progress) → Carrying w e t plan lent count s progress → (k : ℕ) × At w t plan given count s progress k
+  carrying-at s progress Carrying.drawn = (0, record { few = omega arith; table = refl; done = refl; total = refl })
+  carrying-at s progress (Carrying.wrote v before under n long within after progress′ left) =
       let ih = carrying-at v before under in
       let k = ih .0 in
-      let call = call-at v before k (ih .1) n wroteResult long u progress left in
+      let call = call-at v before k (ih .1) n wroteResult long s progress left in
       next (ih .0) (ih .1) call (decLt k count)
     where
       next : (k : ℕ) → At w t plan given count v before k
-          → (wroteResult ≡ carryResult (callAnswer w t plan given count k)) × (u ≡ afterCalls w t plan given count (suc k) .table)
+          → (wroteResult ≡ carryResult (callAnswer w t plan given count k)) × (s ≡ afterCalls w t plan given count (suc k) .table)
           × (progress .done ≡ afterCalls w t plan given count (suc k) .done) × (progress .total ≡ count)
-          → Dec (k < count) → (k : ℕ) × At w t plan given count u progress k
+          → Dec (k < count) → (k : ℕ) × At w t plan given count s progress k
       next k at call (yes h) = (suc k, record { few = h; table = call .1; done = call .2 ∙ d .counted (suc k) h; total = call .3 })
       next k at call (no h) =
           let all : k ≡ count = omega (arith, at .few) in
@@ -89,20 +90,20 @@ module _ (w e : ℕ) (t plan lent : List ℕ) (known : Width w) (size : length l
           absurd (omega (arith, other))
 
   -- carried out in full
-  pub carried-at : (u : List ℕ) → CarriedOut w e t plan lent count u → u ≡ afterCalls w t plan given count count .table
-  carried-at u full =
-      let state = carrying-at u (full .0) (full .1) in
+  pub carried-at : (v : List ℕ) → CarriedOut w e t plan lent count v → v ≡ afterCalls w t plan given count count .table
+  carried-at v full =
+      let state = carrying-at v (full .0) (full .1) in
       let all : state .0 ≡ count = sym (state .1 .done) ∙ full .2 in
       state .1 .table ∙ ap (λ (k : ℕ). afterCalls w t plan given count k .table) all
 
-  pub goes-on-at : (u : List ℕ) (progress : Progress) → Carrying w e t plan lent count u progress
-      → (n result : ℕ) → count ≤ n → (after : List ℕ) (progress′ : Progress) → CarryLeft w e u (take n plan) lent progress result after progress′
+  pub goes-on-at : (v : List ℕ) (progress : Progress) → Carrying w e t plan lent count v progress
+      → (n result : ℕ) → count ≤ n → (after : List ℕ) (progress′ : Progress) → CarryLeft w e v (take n plan) lent progress result after progress′
       → (progress .done < count → result ≡ wroteResult) × (progress .done ≡ count → result ≡ finishedResult)
-  goes-on-at u progress under n result long after progress′ left =
-      let state = carrying-at u progress under in
+  goes-on-at v progress under n result long after progress′ left =
+      let state = carrying-at v progress under in
       let k = state .0 in
       let at = state .1 in
-      let call = call-at u progress k at n result long after progress′ left in (
+      let call = call-at v progress k at n result long after progress′ left in (
         λ h. call .0 ∙ result-at k (at .few) .0 (omega (arith, at .done)),
         λ all. call .0 ∙ result-at k (at .few) .1 (sym (at .done) ∙ all),
       )

@@ -1,6 +1,7 @@
 -- Document 01, demand 1: no refused call changes a table, plan, image or progress record; each refusal has one number and one condition.
 -- That no call indexes outside its buffers, wraps a sum or runs on is what the checker proves of every function.
 use mathlib.Core.Path.{_≡_}
+use mathlib.Core.Bool.{Bool}
 use mathlib.Core.Logic.{_↔_, _⊎_}
 use mathlib.Core.List.{List, [], _∷_, map}
 use Prim.Native.Nat.{ℕ, _+_, _%_, _/_}
@@ -54,22 +55,22 @@ pub record FirstDemand : Type 0 where
       ≡ 15 ∷ 16 ∷ 17 ∷ 18 ∷ 19 ∷ 20 ∷ 21 ∷ 22 ∷ []
   pub once : (cause other : Cause) → causeNumber cause ≡ causeNumber other → cause ≡ other
   -- the calls that only read a table decline by their rows, and a refusal leaves what they are lent: at every width and with every
-  -- edition that a call may name, known or not
+  -- edition that a call may name, known or not, and however it names the table, counted or uncounted
   pub lookup : (w : ℕ) (t key : List ℕ) (result slot slot′ id id′ action action′ spot spot′ : ℕ)
       → LookupLeft w t key result slot slot′ id id′ action action′ spot spot′
       → DeclinesBy (lookupCallRows w t key) result spot′ × (IsRefusal result → (slot′ ≡ slot) × (id′ ≡ id) × (action′ ≡ action))
-  pub insert : (w e : ℕ) (t rule : List ℕ) (result : ℕ) (plan after : List ℕ) (count count′ spot spot′ : ℕ)
-      → InsertLeft w e t rule result plan after count count′ spot spot′
-      → DeclinesBy (insertCallRows w e t rule (length plan)) result spot′ × (IsRefusal result → (after ≡ plan) × (count′ ≡ count))
-  pub delete : (w : ℕ) (t : List ℕ) (id result : ℕ) (plan after : List ℕ) (count count′ spot spot′ : ℕ)
-      → DeleteLeft w t id result plan after count count′ spot spot′
-      → DeclinesBy (deleteCallRows w t id (length plan)) result spot′ × (IsRefusal result → (after ≡ plan) × (count′ ≡ count))
-  pub save : (w : ℕ) (t : List ℕ) (result : ℕ) (image after : List ℕ) (bytes bytes′ spot spot′ : ℕ)
-      → SaveLeft w t result image after bytes bytes′ spot spot′
-      → DeclinesBy (saveCallRows w t (length image)) result spot′ × (IsRefusal result → (after ≡ image) × (bytes′ ≡ bytes))
+  pub insert : (w : ℕ) (u : Bool) (e : ℕ) (t rule : List ℕ) (result : ℕ) (plan after : List ℕ) (count count′ spot spot′ : ℕ)
+      → InsertLeft w u e t rule result plan after count count′ spot spot′
+      → DeclinesBy (insertCallRows w u e t rule (length plan)) result spot′ × (IsRefusal result → (after ≡ plan) × (count′ ≡ count))
+  pub delete : (w : ℕ) (u : Bool) (t : List ℕ) (id result : ℕ) (plan after : List ℕ) (count count′ spot spot′ : ℕ)
+      → DeleteLeft w u t id result plan after count count′ spot spot′
+      → DeclinesBy (deleteCallRows w u t id (length plan)) result spot′ × (IsRefusal result → (after ≡ plan) × (count′ ≡ count))
+  pub save : (w : ℕ) (u : Bool) (t : List ℕ) (result : ℕ) (image after : List ℕ) (bytes bytes′ spot spot′ : ℕ)
+      → SaveLeft w u t result image after bytes bytes′ spot spot′
+      → DeclinesBy (saveCallRows w u t (length image)) result spot′ × (IsRefusal result → (after ≡ image) × (bytes′ ≡ bytes))
   -- a load
-  pub load : (w : ℕ) (b : List ℕ) (result : ℕ) (t after : List ℕ) (spot spot′ : ℕ) → LoadLeft w b result t after spot spot′
-      → DeclinesBy (loadCallRows w b t) result spot′ × (IsRefusal result → after ≡ t)
+  pub load : (w : ℕ) (u : Bool) (b : List ℕ) (result : ℕ) (t after : List ℕ) (spot spot′ : ℕ) → LoadLeft w u b result t after spot spot′
+      → DeclinesBy (loadCallRows w u b t) result spot′ × (IsRefusal result → after ≡ t)
   -- carrying out: number and spot are the halves of its result. Where it does not write, a refusal or "finished", the table and the record are as they
   -- were; "finished" it returns exactly where nothing is refused and all writes are done. Where it writes, it makes the next write of the plan and no other,
   -- and one write more is done

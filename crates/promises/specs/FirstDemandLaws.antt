@@ -104,9 +104,9 @@ buffer-kept checks contents buffer refused = pick (orElse checks (checkRoom (len
     pick Pass r = absurd (r refl)
     pick (Fail cause spot) r = refl
 
-load-kept : (w : ℕ) (b t : List ℕ) → IsRefusal (loadAnswer w b t .number) → loadTable w b t ≡ t
+load-kept : (w : ℕ) (u : Bool) (b t : List ℕ) → IsRefusal (loadAnswer w u b t .number) → loadTable w u b t ≡ t
 unfolding loadAnswer loadTable
-load-kept w b t refused = pick (loadChecks w b t) refused
+load-kept w u b t refused = pick (loadChecks w u b t) refused
   where
     pick : (x : Check) → IsRefusal (unless x (success []) .number) → cond (passes x) (meant w b (length t)) t ≡ t
     pick Pass r = absurd (r refl)
@@ -266,8 +266,8 @@ line-refused t number (Table new) e = pick (leb 1 (new .slots) && leb (new .slot
         ≡ outcomeOf t (toldBytes (cond good (lettered 78 (success (new .slots ∷ []))) (lettered 82 (refusal Shape 0)) .told))
     pick true e = absurd (omega (arith, e))
     pick false e = refl
-line-refused t number (Insert insertion) e = change-refused t (insertChecks 2 t (under13 (insertedRule insertion))) _ _ e
-line-refused t number (Delete deletion) e = change-refused t (deleteChecks 2 t (deletion .id)) _ _ e
+line-refused t number (Insert insertion) e = change-refused t (insertChecks 2 false t (under13 (insertedRule insertion))) _ _ e
+line-refused t number (Delete deletion) e = change-refused t (deleteChecks 2 false t (deletion .id)) _ _ e
 line-refused t number (Lookup query) e = looked (lookupAnswer 2 t (word (keyOf query))) e
   where
     looked : (told : Told) → lookedTold told .letter ≡ 82 → outcomeOf t (lookupBytes told) ≡ outcomeOf t (toldBytes (lookedTold told .told))
@@ -375,19 +375,19 @@ first-demand = record {
           left .acted ∙ cell-kept told 2 action declines,
         ),
       );
-  insert = λ w e t rule result plan after count count′ spot spot′ left.
+  insert = λ w u e t rule result plan after count count′ spot spot′ left.
       let given = lentRule w e rule in
-      buffer-call _ (checkRule w (length rule)) (insertChecks w t given) (plannedWords w t (ranked w given)) plan after _ result count count′ spot spot′ refl
-      (insert-call-rows w e t rule (length plan)) (left .left);
-  delete = λ w t id result plan after count count′ spot spot′ left.
-      buffer-call _ (checkWidth w) (deleteChecks w t id) (deleteWords w t id) plan after _ result count count′ spot spot′ refl
-      (delete-call-rows w t id (length plan)) left;
-  save = λ w t result image after bytes bytes′ spot spot′ left.
-      buffer-call _ (checkWidth w) (tableChecks w t) (imageOf w t) image after _ result bytes bytes′ spot spot′ (sym (image-length w t))
-      (save-call-rows w t (length image)) left;
-  load = λ w b result t after spot spot′ left. (
-    told-declines _ (loadCall w b t) result spot spot′ (load-call-rows w b t) (left .number) (left .spotted),
-    λ refused. left .loaded ∙ lent-kept (checkWidth w) (loadAnswer w b t) _ t (load-kept w b t) (λ z. refused (left .number ∙ z)),
+      buffer-call _ (checkRule w (length rule)) (insertChecks w u t given) (plannedWords w u t (ranked w given)) plan after _ result count count′ spot spot′ refl
+      (insert-call-rows w u e t rule (length plan)) (left .left);
+  delete = λ w u t id result plan after count count′ spot spot′ left.
+      buffer-call _ (checkWidth w) (deleteChecks w u t id) (deleteWords w t id) plan after _ result count count′ spot spot′ refl
+      (delete-call-rows w u t id (length plan)) left;
+  save = λ w u t result image after bytes bytes′ spot spot′ left.
+      buffer-call _ (checkWidth w) (tableChecks w u t) (imageOf w t) image after _ result bytes bytes′ spot spot′ (sym (image-length w t))
+      (save-call-rows w u t (length image)) left;
+  load = λ w u b result t after spot spot′ left. (
+    told-declines _ (loadCall w u b t) result spot spot′ (load-call-rows w u b t) (left .number) (left .spotted),
+    λ refused. left .loaded ∙ lent-kept (checkWidth w) (loadAnswer w u b t) _ t (load-kept w u b t) (λ z. refused (left .number ∙ z)),
   );
   carry = λ w e t plan rule progress result after progress′ left. (
     carries-by _ progress _ result (step-call-rows w e t plan rule (progress .done) (progress .total)) (call-case w e t plan rule progress) (left .told),

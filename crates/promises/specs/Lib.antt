@@ -1,5 +1,5 @@
 -- Document 01's three demands, and document 02's requests where a theorem of their own states them. Calls: calls one after the other; FirstDemand,
--- SecondDemand, ThirdDemand, KeysOfSlot, Editions, Replacements, AnyWords: the statements; their theorems are in the files of laws of the same names.
+-- SecondDemand, ThirdDemand, KeysOfSlot, Editions, Replacements, Uncounted, AnyWords: the statements; their theorems are in the files of laws of the same names.
 pub mod Calls
 pub mod CallsLaws
 pub mod FirstDemand
@@ -14,5 +14,7 @@ pub mod Editions
 pub mod EditionsLaws
 pub mod Replacements
 pub mod ReplacementsLaws
+pub mod Uncounted
+pub mod UncountedLaws
 pub mod AnyWords
 pub mod AnyWordsLaws

@@ -2,6 +2,7 @@
 -- matching rule that was inserted and not since deleted, or by a miss. Within a plan every key keeps its old rule or miss until the last write, and from
 -- then on has the reply of the changed rule set. Images load to the table they were saved from. By document 02, 2026-07, the rank counts for the priority.
 use mathlib.Core.Path.{_≡_}
+use mathlib.Core.Bool.{Bool, true, false}
 use mathlib.Core.Logic.{_⊎_}
 use mathlib.Core.List.{List}
 use Prim.Native.Nat.{ℕ, _+_, _*_, _≤_, _<_, min}
@@ -44,31 +45,50 @@ module _ (w : ℕ) (rules : List Rule) (key : List ℕ) where
   KeyReplied result id action =
       (result ≡ 0) × (((rule : Rule) × Highest rule × (id ≡ rule .id) × (action ≡ rule .action)) ⊎ (NoneMatches × (id ≡ 0) × (action ≡ 0)))
 
+  -- document 02, 2026-11: a highest-ranked match: no rule of the list that matches has a higher rank. In an uncounted table there may be several
+  abbrev pub HighestRanked : Rule → Type 0
+  HighestRanked rule =
+      Member rule rules × KeyMatches w key rule × ((other : Rule) → Member other rules → KeyMatches w key other → other .priority ≤ rule .priority)
+
+  -- the cells tell the action of each of them, of which there is one at least, and the id of a rule that matches and has this action; or 0 in both for a miss,
+  -- exactly where none matches
+  abbrev pub ActionReplied : ℕ → ℕ → ℕ → Type 0
+  ActionReplied result id action =
+      (result ≡ 0)
+      × ((((rule : Rule) × HighestRanked rule) × ((rule : Rule) → HighestRanked rule → action ≡ rule .action)
+      × ((rule : Rule) × Member rule rules × KeyMatches w key rule × (id ≡ rule .id) × (action ≡ rule .action)))
+      ⊎ (NoneMatches × (id ≡ 0) × (action ≡ 0)))
+
+  -- what is promised of a counted table, and of an uncounted one
+  abbrev pub Replied : Bool → ℕ → ℕ → ℕ → Type 0
+  Replied false = KeyReplied
+  Replied true = ActionReplied
+
 -- every call of tcam_lookup on the table is replied to so, whatever the key of as many words
-abbrev pub AllReplied : ℕ → List ℕ → List Rule → Type 0
-AllReplied w t rules =
+abbrev pub AllReplied : ℕ → Bool → List ℕ → List Rule → Type 0
+AllReplied w u t rules =
     (key : List ℕ) → length key ≡ w → (result slot slot′ id id′ action action′ spot spot′ : ℕ)
-    → LookupLeft w t key result slot slot′ id id′ action action′ spot spot′ → KeyReplied w rules key result id′ action′
+    → LookupLeft w t key result slot slot′ id id′ action action′ spot spot′ → Replied w rules key u result id′ action′
 
 -- The rules of a table, each with its rank: of one that a caller came to from an empty one, those inserted and not since deleted, with the rank that they
--- were put in with; of any sound one, as a loaded one is, those that stand in its slots.
-pub data RulesOf (w : ℕ) : List Rule → List ℕ → Type 0 where
-  ran : (history : List Change) (t : List ℕ) → CameTo w history t → RulesOf w (ruleSet history) t
-  stand : (t : List ℕ) → Accepts (tableRows w t) → RulesOf w (tableRules w t) t
+-- were put in with; of any sound one, as a loaded one is, those that stand in its slots. u: the table is uncounted.
+pub data RulesOf (w : ℕ) (u : Bool) : List Rule → List ℕ → Type 0 where
+  ran : (history : List Change) (t : List ℕ) → CameTo w u history t → RulesOf w u (ruleSet history) t
+  stand : (t : List ℕ) → Accepts (tableRows w u t) → RulesOf w u (tableRules w t) t
 
 -- Within a plan, from the table it was drawn for, with its rule, lent as a record, its edition and count: old are the rules before it, new those after it.
-pub record DuringPlan (w e : ℕ) (t plan rule : List ℕ) (count : ℕ) (old new : List Rule) : Type 0 where
+pub record DuringPlan (w : ℕ) (u : Bool) (e : ℕ) (t plan rule : List ℕ) (count : ℕ) (old new : List Rule) : Type 0 where
   -- as many writes of the plan are made as are done, one by each call
-  pub made : (u : List ℕ) (progress : Progress) → Carrying w e t plan rule count u progress
-      → u ≡ applyWords w t (ranked w (lentRule w e rule)) (take (progress .done) plan)
-  -- until the last write every key has its old reply, and from then on that of the changed rules
-  pub kept : (u : List ℕ) (progress : Progress) → Carrying w e t plan rule count u progress → progress .done < count → AllReplied w u old
-  pub changed : (u : List ℕ) (progress : Progress) → Carrying w e t plan rule count u progress → progress .done ≡ count → AllReplied w u new
+  pub made : (v : List ℕ) (progress : Progress) → Carrying w e t plan rule count v progress
+      → v ≡ applyWords w t (ranked w (lentRule w e rule)) (take (progress .done) plan)
+  -- until the last write every key has its old reply, and from then on that of the changed rules; in an uncounted table its action
+  pub kept : (v : List ℕ) (progress : Progress) → Carrying w e t plan rule count v progress → progress .done < count → AllReplied w u v old
+  pub changed : (v : List ℕ) (progress : Progress) → Carrying w e t plan rule count v progress → progress .done ≡ count → AllReplied w u v new
   -- until then each call makes a write, and then it answers "finished": so every plan can be carried out in full
-  pub few : (u : List ℕ) (progress : Progress) → Carrying w e t plan rule count u progress → progress .done ≤ count
-  pub goes-on : (u : List ℕ) (progress : Progress) → Carrying w e t plan rule count u progress
+  pub few : (v : List ℕ) (progress : Progress) → Carrying w e t plan rule count v progress → progress .done ≤ count
+  pub goes-on : (v : List ℕ) (progress : Progress) → Carrying w e t plan rule count v progress
       → (words result : ℕ) → count ≤ words → words ≤ length plan → (after : List ℕ) (progress′ : Progress)
-      → CarryLeft w e u (take words plan) rule progress result after progress′
+      → CarryLeft w e v (take words plan) rule progress result after progress′
       → (progress .done < count → result ≡ wroteResult) × (progress .done ≡ count → result ≡ finishedResult)
 
 -- the rule that a caller gives as a record, value words, mask words, id × 2^32 + action, priority, with the edition that it names
@@ -91,22 +111,25 @@ pub record Ranks (w : ℕ) (given : Given) (rule : Rule) : Type 0 where
   pub mask : rule .mask ≡ given .rule .mask
   pub action : rule .action ≡ given .rule .action
 
--- w is the width that the calls name, and is one that there is
-pub record SecondDemand (w : ℕ) : Type 0 where
+-- w is the width that the calls name, and is one that there is; u whether they name the table as uncounted. Of a history that begins counted both are told:
+-- SecondDemand w false up to the first call that names it so, SecondDemand w true from it on.
+pub record SecondDemand (w : ℕ) (u : Bool) : Type 0 where
   -- the contracts of tcam_plan_insert and tcam_carry_out speak of the rule and the edition that they are given, and of the rank that the one gives the other
   pub given : (e : ℕ) (rule : List ℕ) → Gives w e rule (lentRule w e rule)
   pub ranks : (given : Given) → Ranks w given (ranked w given)
-  -- each key is answered by the highest-ranked match of the table's rules, or by a miss
-  pub answered : (rules : List Rule) (t : List ℕ) → RulesOf w rules t → AllReplied w t rules
+  -- each key is answered by the highest-ranked match of the table's rules, or by a miss; in an uncounted table with its action
+  pub answered : (rules : List Rule) (t : List ℕ) → RulesOf w u rules t → AllReplied w u t rules
   -- within the plan of an insert, which adds the rule and takes away the one that it replaces (Replacements), carried out with the edition that it was
   -- planned with, and of a delete, which is carried out with any record of as many words and any edition
-  pub insert : (rules : List Rule) (t : List ℕ) → RulesOf w rules t → (e : ℕ) (rule : List ℕ)
-      → (plan after : List ℕ) (count count′ spot spot′ : ℕ) → InsertLeft w e t rule 0 plan after count count′ spot spot′
-      → DuringPlan w e t after rule count′ rules (rulesInserted w t (ranked w (lentRule w e rule)) rules)
-  pub delete : (rules : List Rule) (t : List ℕ) → RulesOf w rules t → (id : ℕ)
-      → (plan after : List ℕ) (count count′ spot spot′ : ℕ) → DeleteLeft w t id 0 plan after count count′ spot spot′
-      → (e : ℕ) (rule : List ℕ) → length rule ≡ recordWords w → DuringPlan w e t after rule count′ rules (without id rules)
-  -- an image loads, into any table of as many words of 64 bits, to the table it was saved from
-  pub loads : (t image saved : List ℕ) (bytes bytes′ spot spot′ : ℕ) → Words64 t → SaveLeft w t 0 image saved bytes bytes′ spot spot′
-      → (lent loaded : List ℕ) (result place place′ : ℕ) → length lent ≡ length t → LoadLeft w (take bytes′ saved) result lent loaded place place′
+  pub insert : (rules : List Rule) (t : List ℕ) → RulesOf w u rules t → (e : ℕ) (rule : List ℕ)
+      → (plan after : List ℕ) (count count′ spot spot′ : ℕ) → InsertLeft w u e t rule 0 plan after count count′ spot spot′
+      → DuringPlan w u e t after rule count′ rules (rulesInserted w u t (ranked w (lentRule w e rule)) rules)
+  pub delete : (rules : List Rule) (t : List ℕ) → RulesOf w u rules t → (id : ℕ)
+      → (plan after : List ℕ) (count count′ spot spot′ : ℕ) → DeleteLeft w u t id 0 plan after count count′ spot spot′
+      → (e : ℕ) (rule : List ℕ) → length rule ≡ recordWords w → DuringPlan w u e t after rule count′ rules (without id rules)
+  -- an image loads, into any table of as many words of 64 bits, to the table it was saved from, where both calls name the table alike, or where it was saved
+  -- as counted and has been named as uncounted since
+  pub loads : (v : Bool) → (v ≡ true → u ≡ true)
+      → (t image saved : List ℕ) (bytes bytes′ spot spot′ : ℕ) → Words64 t → SaveLeft w v t 0 image saved bytes bytes′ spot spot′
+      → (lent loaded : List ℕ) (result place place′ : ℕ) → length lent ≡ length t → LoadLeft w u (take bytes′ saved) result lent loaded place place′
       → (result ≡ 0) × (loaded ≡ t)

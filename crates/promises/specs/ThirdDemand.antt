@@ -3,7 +3,7 @@
 -- in order after every write and ends with the new rule in place; and every other sequence of writes that does all this from the same table has at least
 -- as many writes.
 use mathlib.Core.Path.{_≡_}
-use mathlib.Core.Bool.{true}
+use mathlib.Core.Bool.{Bool, true}
 use mathlib.Core.Logic.{_↔_, _⊎_}
 use mathlib.Core.List.{List, _++_}
 use Prim.Native.Nat.{ℕ, suc, _+_, _*_, _≤_, _<_}
@@ -29,7 +29,7 @@ LosesNone w t j =
 
 -- A sequence of writes, of any length, from a table and a rule, toward one end: each write but the last copies a rule from one slot to another that way,
 -- the last puts the new rule in; none loses a rule; after each the table is in order.
-pub record WritesToward (toward : ℕ → ℕ → Type 0) (w : ℕ) (t : List ℕ) (rule : Rule) (words : List ℕ) : Type 0 where
+pub record WritesToward (toward : ℕ → ℕ → Type 0) (w : ℕ) (u : Bool) (t : List ℕ) (rule : Rule) (words : List ℕ) : Type 0 where
   pub some : 0 < length words
   pub copies : (k : ℕ) → suc k < length words
       → (from : ℕ) × (to : ℕ) × (writeOf (getD words k 0) ≡ copy from to) × toward from to
@@ -38,29 +38,29 @@ pub record WritesToward (toward : ℕ → ℕ → Type 0) (w : ℕ) (t : List �
   pub last : (k : ℕ) → suc k ≡ length words
       → (to : ℕ) × (writeOf (getD words k 0) ≡ put to)
       × (to < slots w (applyWords w t rule (take k words))) × LosesNone w (applyWords w t rule (take k words)) to
-  pub order : (k : ℕ) → k < length words → InOrder w (applyWords w t rule (take (suc k) words))
+  pub order : (k : ℕ) → k < length words → InOrder w u (applyWords w t rule (take (suc k) words))
 
 -- the comparison class: toward higher slots, or toward lower
-abbrev pub OneWay : ℕ → List ℕ → Rule → List ℕ → Type 0
-OneWay w t rule words = WritesToward Higher w t rule words ⊎ WritesToward Lower w t rule words
+abbrev pub OneWay : ℕ → Bool → List ℕ → Rule → List ℕ → Type 0
+OneWay w u t rule words = WritesToward Higher w u t rule words ⊎ WritesToward Lower w u t rule words
 
 -- a rule's record stands in some slot
 abbrev pub Stands : ℕ → List ℕ → List ℕ → Type 0
 Stands w t x = (occupied w (word x) ≡ true) × ((i : ℕ) × (i < slots w t) × (entryAt w t i ≡ x))
 
 -- What tcam_plan_insert returned and left: words are the plan; the rule is the one that was lent, with its rank.
-pub record InsertPlanned (w : ℕ) (t : List ℕ) (rule : Rule) (result : ℕ) (plan after : List ℕ) (count count′ spot spot′ : ℕ) : Type 0 where
+pub record InsertPlanned (w : ℕ) (u : Bool) (t : List ℕ) (rule : Rule) (result : ℕ) (plan after : List ℕ) (count count′ spot spot′ : ℕ) : Type 0 where
   pub words : List ℕ
   -- it moves rules toward one end only, loses none, keeps the table in order, and its last write puts the new rule in
-  pub class : OneWay w t rule words
+  pub class : OneWay w u t rule words
   -- after it each old rule stands, and the new one, and none besides, each in one slot
   pub stands : (x : List ℕ) → Stands w (applyWords w t rule words) x ↔ (Stands w t x ⊎ (recordOf w rule ≡ x))
   pub once : (i k : ℕ) → i < k → k < slots w (applyWords w t rule words)
       → OneId w (slotWords w (applyWords w t rule words) i) (slotWords w (applyWords w t rule words) k) → ⊥
   -- no other sequence that does all this is shorter
-  pub least : (other : List ℕ) → OneWay w t rule other → length words ≤ length other
+  pub least : (other : List ℕ) → OneWay w u t rule other → length words ≤ length other
   -- buffer enough is the cost plus 1, and as many words as the table has slots always do
-  pub cost : length words ≡ suc (insertChoiceOf w t rule .cost)
+  pub cost : length words ≡ suc (insertChoiceOf w u t rule .cost)
   pub few : length words ≤ slots w t
   -- given buffer enough the call returns the plan and its count, and leaves the words past it; else it declines with 11 and the words needed
   pub enough : length words ≤ length plan → (result ≡ 0) × (count′ ≡ length words) × (after ≡ words ++ drop (length words) plan)
@@ -70,9 +70,9 @@ pub record InsertPlanned (w : ℕ) (t : List ℕ) (rule : Rule) (result : ℕ) (
 -- the empty slot, 10 the crossed neighbours; document 02 adds 18: a rule given with another edition is not sound in this sense. These are the rows of an
 -- insert without 11. Demand 3 covers inserts that are not replacements (2026-03): no slot holds a rule of the same value, mask and rank. The rule is lent as
 -- a record of as many words, whose last word becomes the rank in the record that stands; w is the width that the call names, and is one that there is.
-pub record ThirdDemand (w : ℕ) : Type 0 where
-  pub plans : (e : ℕ) (t rule : List ℕ) → length rule ≡ recordWords w → Accepts (newRuleRows w t (lentRule w e rule))
-      → ReplacesNone w t (word (recordOf w (ranked w (lentRule w e rule))))
-      → (result : ℕ) (plan after : List ℕ) (count count′ spot spot′ : ℕ) → InsertLeft w e t rule result plan after count count′ spot spot′
-      → InsertPlanned w t (ranked w (lentRule w e rule)) result plan after count count′ spot spot′
+pub record ThirdDemand (w : ℕ) (u : Bool) : Type 0 where
+  pub plans : (e : ℕ) (t rule : List ℕ) → length rule ≡ recordWords w → Accepts (newRuleRows w u t (lentRule w e rule))
+      → ReplacesNone w u t (word (recordOf w (ranked w (lentRule w e rule))))
+      → (result : ℕ) (plan after : List ℕ) (count count′ spot spot′ : ℕ) → InsertLeft w u e t rule result plan after count count′ spot spot′
+      → InsertPlanned w u t (ranked w (lentRule w e rule)) result plan after count count′ spot spot′
       × (recordOf w (ranked w (lentRule w e rule)) ≡ set rule (2 * w + 1) (ranked w (lentRule w e rule) .priority))

@@ -97,11 +97,11 @@ put-law w t to =
     (λ e. let p = a .0 e in (ltb-true _ _ (p .0), free-law w t to .0 (p .1)), λ p. a .1 (lt-ltb _ _ (p .0), free-law w t to .1 (p .1)))
 
 -- the class of the words below is that of the demand
-module _ (toward : ℕ → ℕ → Type 0) (apart : (i k : ℕ) → toward i k → i ≡ k → ⊥) (w : ℕ) (t : List ℕ) (rule : Rule) (words : List ℕ) where
+module _ (toward : ℕ → ℕ → Type 0) (apart : (i k : ℕ) → toward i k → i ≡ k → ⊥) (w : ℕ) (u : Bool) (t : List ℕ) (rule : Rule) (words : List ℕ) where
   abbrev then-table : ℕ → List ℕ
   then-table k = applyWords w t rule (take k words)
 
-  sequence-of : ClassToward toward w t rule words → WritesToward toward w t rule words
+  sequence-of : ClassToward toward w u t rule words → WritesToward toward w u t rule words
   sequence-of c = record {
     some = c .some;
     copies = λ k h.
@@ -117,7 +117,7 @@ module _ (toward : ℕ → ℕ → Type 0) (apart : (i k : ℕ) → toward i k �
     order = c .order;
   }
 
-  class-of : WritesToward toward w t rule words → ClassToward toward w t rule words
+  class-of : WritesToward toward w u t rule words → ClassToward toward w u t rule words
   class-of s = record {
     some = s .some;
     copies = λ k h. let x = s .copies k h in (x .0, x .1, x .2, x .3);
@@ -140,12 +140,12 @@ higher-apart i k l e = omega arith
 lower-apart : (i k : ℕ) → Lower i k → i ≡ k → ⊥
 lower-apart i k l e = omega arith
 
-one-way : (w : ℕ) (t : List ℕ) (rule : Rule) (words : List ℕ) → InClassWords w t rule words ↔ OneWay w t rule words
-one-way w t rule words = (
-  λ c. ⊎-elim (λ h. inl (sequence-of Higher higher-apart w t rule words h)) (λ l. inr (sequence-of Lower lower-apart w t rule words l))
-      (class-words-law w t rule words .0 c),
-  λ o. class-words-law w t rule words .1
-      (⊎-elim (λ s. inl (class-of Higher higher-apart w t rule words s)) (λ s. inr (class-of Lower lower-apart w t rule words s)) o),
+one-way : (w : ℕ) (u : Bool) (t : List ℕ) (rule : Rule) (words : List ℕ) → InClassWords w u t rule words ↔ OneWay w u t rule words
+one-way w u t rule words = (
+  λ c. ⊎-elim (λ h. inl (sequence-of Higher higher-apart w u t rule words h)) (λ l. inr (sequence-of Lower lower-apart w u t rule words l))
+      (class-words-law w u t rule words .0 c),
+  λ o. class-words-law w u t rule words .1
+      (⊎-elim (λ s. inl (class-of Higher higher-apart w u t rule words s)) (λ s. inr (class-of Lower lower-apart w u t rule words s)) o),
 )
 
 -- a record that stands is an entry that is held
@@ -158,60 +158,60 @@ stands-law w t x = (
 )
 
 -- an accepted insert that replaces no rule has the demand's premises
-fresh-premises : (w : ℕ) (t : List ℕ) (given : Given) → Accepts (newRuleRows w t given) → ReplacesNone w t (word (recordOf w (ranked w given)))
-    → InsertableGiven w t given
-fresh-premises w t given accepts none =
-    ⊎-elim (λ p. p) (λ r. absurd (none (r .0) (r .1 .replacing .inside) (r .1 .replacing .equal)))
-    (insertable-law w t given .0 (insert-rows w t given .passes .1 accepts))
+fresh-premises : (w : ℕ) (u : Bool) (t : List ℕ) (given : Given) → Accepts (newRuleRows w u t given) → ReplacesNone w u t (word (recordOf w (ranked w given)))
+    → InsertableGiven w u t given
+fresh-premises w u t given accepts none =
+    ⊎-elim (λ p. p) (λ r. absurd (none (r .0) (r .1 .replacing .inside) (r .1 .replacing .replaced)))
+    (insertable-law w u t given .0 (insert-rows w u t given .passes .1 accepts))
 
 -- for any number of words: the plan's words are of the class, no sequence of it is shorter, and with buffer enough they are what the call leaves
-pub least-words : (w : ℕ) (t : List ℕ) (given : Given) → given .rule .action < 4294967296 → Accepts (newRuleRows w t given)
-    → ReplacesNone w t (word (recordOf w (ranked w given)))
-    → (words : List ℕ) × OneWay w t (ranked w given) words × ((other : List ℕ) → OneWay w t (ranked w given) other → length words ≤ length other)
+pub least-words : (w : ℕ) (u : Bool) (t : List ℕ) (given : Given) → given .rule .action < 4294967296 → Accepts (newRuleRows w u t given)
+    → ReplacesNone w u t (word (recordOf w (ranked w given)))
+    → (words : List ℕ) × OneWay w u t (ranked w given) words × ((other : List ℕ) → OneWay w u t (ranked w given) other → length words ≤ length other)
     × ((plan : List ℕ) → length words ≤ length plan
-    → (insertAnswer w t given (length plan) ≡ success (length words ∷ [])) × (insertPlan w t given plan ≡ words ++ drop (length words) plan))
-least-words w t given small accepts none =
+    → (insertAnswer w u t given (length plan) ≡ success (length words ∷ [])) × (insertPlan w u t given plan ≡ words ++ drop (length words) plan))
+least-words w u t given small accepts none =
     let rule = ranked w given in
-    let premises = fresh-premises w t given accepts none in
-    let best = shortest-words w t given small premises in (
-      insertWords w t rule,
-      one-way w t rule (insertWords w t rule) .0 (best .class),
-      λ other o. best .least other (one-way w t rule other .1 o),
-      λ plan room. let p = demand-3 w t given small premises plan .shortest room in (p .answer, p .buffer),
+    let premises = fresh-premises w u t given accepts none in
+    let best = shortest-words w u t given small premises in (
+      insertWords w u t rule,
+      one-way w u t rule (insertWords w u t rule) .0 (best .class),
+      λ other o. best .least other (one-way w u t rule other .1 o),
+      λ plan room. let p = demand-3 w u t given small premises plan .shortest room in (p .answer, p .buffer),
     )
 
 -- document 01's demand 3, at every width that there is
-module _ (w : ℕ) (known : Width w) (e : ℕ) (t lent : List ℕ) (size : length lent ≡ recordWords w) (accepts : Accepts (newRuleRows w t (lentRule w e lent)))
-    (none : ReplacesNone w t (word (recordOf w (ranked w (lentRule w e lent))))) where
+module _ (w : ℕ) (u : Bool) (known : Width w) (e : ℕ) (t lent : List ℕ) (size : length lent ≡ recordWords w) (accepts : Accepts (newRuleRows w u t (lentRule w e lent)))
+    (none : ReplacesNone w u t (word (recordOf w (ranked w (lentRule w e lent))))) where
   abbrev given : Given
   given = lentRule w e lent
 
   abbrev rule : Rule
   rule = ranked w given
 
-  checks : insertChecks w t given ≡ Pass
-  checks = insert-rows w t given .passes .1 accepts
+  checks : insertChecks w u t given ≡ Pass
+  checks = insert-rows w u t given .passes .1 accepts
 
-  premises : InsertableGiven w t given
-  premises = fresh-premises w t given accepts none
+  premises : InsertableGiven w u t given
+  premises = fresh-premises w u t given accepts none
 
-  fresh : plannedWords w t rule ≡ insertWords w t rule
-  fresh = planned-fresh w t rule (insertable-fresh w t rule (premises .insertable .new) (premises .insertable .untied))
+  fresh : plannedWords w u t rule ≡ insertWords w u t rule
+  fresh = planned-fresh w u t rule (insertable-fresh w u t rule (premises .insertable))
 
   abbrev words : List ℕ
-  words = insertWords w t rule
+  words = insertWords w u t rule
 
   abbrev last-table : List ℕ
   last-table = applyWords w t rule words
 
-  best : ShortestPlan w t rule (insertAnswer w t given (length words)) words (insertPlan w t given words)
-  best = shortest-words w t given (rule-action w (word lent)) premises
+  best : ShortestPlan w u t rule (insertAnswer w u t given (length words)) words (insertPlan w u t given words)
+  best = shortest-words w u t given (rule-action w (word lent)) premises
 
-  planned : (result : ℕ) (plan after : List ℕ) (count count′ spot spot′ : ℕ) → InsertLeft w e t lent result plan after count count′ spot spot′
-      → InsertPlanned w t rule result plan after count count′ spot spot′
+  planned : (result : ℕ) (plan after : List ℕ) (count count′ spot spot′ : ℕ) → InsertLeft w u e t lent result plan after count count′ spot spot′
+      → InsertPlanned w u t rule result plan after count count′ spot spot′
   planned result plan after count count′ spot spot′ left = record {
     words = words;
-    class = one-way w t rule words .0 (best .class);
+    class = one-way w u t rule words .0 (best .class);
     stands = λ x. (
       λ s. ⊎-elim (λ h. inl (stands-law w t x .0 h)) inr (best .placed .held x .0 (stands-law w last-table x .1 s)),
       λ s. stands-law w last-table x .0 (best .placed .held x .1 (⊎-elim (λ h. inl (stands-law w t x .1 h)) inr s)),
@@ -219,26 +219,26 @@ module _ (w : ℕ) (known : Width w) (e : ℕ) (t lent : List ℕ) (size : lengt
     once = λ i k h l one.
         true≢false (sym (same-id-law w (slotWords w last-table i) (slotWords w last-table k) .1 one)
         ∙ twice-law w last-table .0 (unique-entries w last-table .0 (best .placed .unique)) i k h l);
-    least = λ other o. best .least other (one-way w t rule other .1 o);
+    least = λ other o. best .least other (one-way w u t rule other .1 o);
     cost = promised .needed;
     few = promised .few;
     enough = λ room.
         let p = promised .shortest room in
         (left .left .number ∙ ap (λ (x : Told). x .number) (p .answer), left .left .counted ∙ ap (λ (x : Told). dataCell x 0 count) (p .answer), p .buffer);
     short = λ less.
-        let r = buffer-short (plannedWords w t rule) plan refl checks (omega (arith, less, ap length fresh)) in
-        let told : insertCall w e t lent (length plan) ≡ refusal Short (length words) =
-        ap (λ (x : Check). unless x (insertAnswer w t given (length plan))) passed ∙ (sym (r .0) ∙ ap (λ (l : List ℕ). refusal Short (length l)) fresh) in (
+        let r = buffer-short (plannedWords w u t rule) plan refl checks (omega (arith, less, ap length fresh)) in
+        let told : insertCall w u e t lent (length plan) ≡ refusal Short (length words) =
+        ap (λ (x : Check). unless x (insertAnswer w u t given (length plan))) passed ∙ (sym (r .0) ∙ ap (λ (l : List ℕ). refusal Short (length l)) fresh) in (
           left .left .number ∙ ap (λ (x : Told). x .number) told,
           left .left .spotted ∙ ap (λ (x : Told). spotCell x spot) told,
-          left .left .plan ∙ (ap (λ (x : Check). leaves x (insertPlan w t given plan) plan) passed ∙ sym (r .1)),
+          left .left .plan ∙ (ap (λ (x : Check). leaves x (insertPlan w u t given plan) plan) passed ∙ sym (r .1)),
         );
   }
     where
       passed : checkRule w (length lent) ≡ Pass
       passed = rule-law w (length lent) .1 (known, size)
 
-      promised : Demand3 w t rule (insertCall w e t lent (length plan)) plan after
+      promised : Demand3 w u t rule (insertCall w u e t lent (length plan)) plan after
       promised = left .shortest (record { width = known; words = size; given = premises })
 
   -- the record that stands is the one that was lent, with the rank for its last word
@@ -248,8 +248,8 @@ module _ (w : ℕ) (known : Width w) (e : ℕ) (t lent : List ℕ) (size : lengt
       let stored = getD-set-same lent (2 * w + 1) (lentRank w e lent) 0 (omega (arith, size)) in
       sym made ∙ ap (set lent (2 * w + 1)) (sym stored ∙ (ap (λ (l : List ℕ). rank w (word l)) made ∙ record-rank w rule))
 
-pub third-demand : (w : ℕ) → Width w → ThirdDemand w
-third-demand w known = record {
+pub third-demand : (w : ℕ) (u : Bool) → Width w → ThirdDemand w u
+third-demand w u known = record {
   plans = λ e t rule size accepts none result plan after count count′ spot spot′ left.
-      (planned w known e t rule size accepts none result plan after count count′ spot spot′ left, same-record w known e t rule size accepts none);
+      (planned w u known e t rule size accepts none result plan after count count′ spot spot′ left, same-record w u known e t rule size accepts none);
 }

@@ -97,18 +97,18 @@ unfoldable pub checkTwice : ℕ → List ℕ → Check
 checkTwice w t = lowest Twice (twiceAt w t) (slots w t)
 
 -- 4: an earlier overlapping rule has no higher rank
-unfoldable pub disorderAt : ℕ → List ℕ → ℕ → Bool
-disorderAt w t j = any (λ (i : ℕ). misordered w (slotWords w t i) (slotWords w t j)) j
+unfoldable pub disorderAt : ℕ → Bool → List ℕ → ℕ → Bool
+disorderAt w u t j = any (λ (i : ℕ). misordered w u (slotWords w t i) (slotWords w t j)) j
 
-unfoldable pub checkOrder : ℕ → List ℕ → Check
-checkOrder w t = lowest Order (disorderAt w t) (slots w t)
+unfoldable pub checkOrder : ℕ → Bool → List ℕ → Check
+checkOrder w u t = lowest Order (disorderAt w u t) (slots w t)
 
 -- checks 1 and 2, which lookup makes; checks 1 to 4, which a sound table passes
 unfoldable pub slotChecks : ℕ → List ℕ → Check
 slotChecks w t = orElse (checkShape w t) (checkRecords w t)
 
-unfoldable pub tableChecks : ℕ → List ℕ → Check
-tableChecks w t = orElse (slotChecks w t) (orElse (checkTwice w t) (checkOrder w t))
+unfoldable pub tableChecks : ℕ → Bool → List ℕ → Check
+tableChecks w u t = orElse (slotChecks w t) (orElse (checkTwice w t) (checkOrder w u t))
 
 -- slot i matches a key
 abbrev pub matchesAt : ℕ → List ℕ → Words → ℕ → Bool

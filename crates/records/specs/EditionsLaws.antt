@@ -1,11 +1,12 @@
 -- End theorems on editions: which rank a rule gets, that a sound rule gets a sound record, and that under 1.0 one without wildcards stands above all that
 -- have them.
-use mathlib.Core.Path.{_≡_, refl, sym, ap, ap₂, _∙_}
+use mathlib.Core.Path.{_≡_, refl, sym, ap, ap₂, _∙_, subst}
 use mathlib.Core.Bool.{Bool, true, false, cond, _&&_, and-false}
 use mathlib.Core.Logic.{_↔_, _⊎_, ⊎-elim}
 use mathlib.Core.Logic._⊎_.{inl, inr}
 use mathlib.Core.List.{List, [], _∷_, _++_}
-use Prim.Native.Nat.{ℕ, _+_, _*_, _<_, min}
+use Prim.Native.Nat.{ℕ, _+_, _*_, _/_, _<_, min}
+use native.Mathlib.Nat.{div-self}
 use native.Mathlib.Omega.{arith}
 use lib.Dec.{eqb}
 use lib.ListN.{length, length-append, set}
@@ -13,11 +14,13 @@ use borrow.Author.Tests.{eqb-true, ne-eqb, leb-true}
 use Rattle.search.specs.SearchLaws.{decided, and-law}
 use Rattle.ternary.specs.Pattern.{Words, FullMask, fullMask}
 use Rattle.ternary.specs.PatternLaws.{full-law, full-cong}
-use Rattle.records.specs.Record.{word, listed, recordWords, slotWords, mask, rank, soundRule, soundRanked, soundLent, recordOf, ruleOf}
+use Rattle.records.specs.Record.{word, listed, recordWords, slotWords, mask, rank, sound, soundRule, soundRanked, soundLent, recordOf, ruleOf}
 use Rattle.records.specs.Sound.{SoundRecord}
-use Rattle.records.specs.Laws.{one-of-two, pass-law, or-else-pass, sound-law, rank-law, sound-rule-law}
+use Rattle.records.specs.Order.{slots}
+use Rattle.records.specs.Checks.{checkRecords}
+use Rattle.records.specs.Laws.{one-of-two, pass-law, or-else-pass, sound-law, rank-law, sound-rule-law, records-law}
 use Rattle.records.specs.WidthsLaws.{lent-words}
-use Rattle.records.specs.RulesLaws.{set-behind, length-listed, word-listed, listed-words, rule-sound, given-record}
+use Rattle.records.specs.RulesLaws.{set-behind, length-listed, word-listed, listed-words, rule-action, record-length, record-sound, rule-sound, given-record}
 use Rattle.records.specs.declared.Rule.{Rule}
 use Rattle.records.specs.declared.Cause.the-variants.{Rule as RuleCause, Edition as EditionCause}
 use Rattle.records.specs.declared.Check.the-variants.{Pass}
@@ -149,3 +152,30 @@ rank-not-given w x e = pick (decided (soundLent w x))
     pick : (soundLent w x ≡ true) ⊎ (soundLent w x ≡ false) → soundLent w x ≡ false
     pick (inl s) = absurd (omega (arith, e, leb-true (rank w x) 65535 (sound-law w _ _ _ _ .0 s .1)))
     pick (inr s) = s
+
+-- such a record, as a table of one slot, passes check 2
+pub ranked-passes : (w e : ℕ) (lent : List ℕ) → length lent ≡ recordWords w → checkGiven w (lentRule w e lent) ≡ Pass
+    → checkRecords w (rankedRecord w e lent) ≡ Pass
+ranked-passes w e lent size pass = subst (λ (l : List ℕ). checkRecords w l ≡ Pass) (sym is) (records-law w own .1 (λ i h. inr (sound-at i h)))
+  where
+    given : Given
+    given = lentRule w e lent
+
+    good : soundRule w (given .rule) ≡ true
+    good = given-law w given .0 pass .0
+
+    own : List ℕ
+    own = recordOf w (ranked w given)
+
+    is : rankedRecord w e lent ≡ own
+    is = ranked-record w e lent size good
+
+    small : ranked w given .action < 4294967296
+    small = omega (arith, rule-action w (word lent), ranked-action w given)
+
+    sound-at : (i : ℕ) → i < slots w own → sound w (slotWords w own i) ≡ true
+    sound-at i h =
+        let one : slots w own ≡ 1 = ap (λ (n : ℕ). n / recordWords w) (record-length w (ranked w given)) ∙ div-self (omega arith) in
+        let first : i ≡ 0 = omega arith in
+        ap (λ (k : ℕ). sound w (slotWords w own k)) first
+        ∙ (ap (sound w) (lent-words w own) ∙ (record-sound w (ranked w given) small ∙ rank-sound w given good))

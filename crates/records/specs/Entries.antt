@@ -27,8 +27,8 @@ entryOccupied w a = occupied w (word a)
 abbrev pub entrySame : ℕ → List ℕ → List ℕ → Bool
 entrySame w a b = sameId w (word a) (word b)
 
-abbrev pub entryMisordered : ℕ → List ℕ → List ℕ → Bool
-entryMisordered w a b = misordered w (word a) (word b)
+abbrev pub entryMisordered : ℕ → Bool → List ℕ → List ℕ → Bool
+entryMisordered w u a b = misordered w u (word a) (word b)
 
 -- the words of two records are the same; past a record's words nothing is said
 abbrev pub SameRecord : ℕ → Words → Words → Type 0

@@ -19,7 +19,7 @@ use Rattle.layout.specs.Held.{Unique}
 use Rattle.layout.specs.HeldLaws.{unique-earlier}
 use Rattle.records.specs.Record.{word, listed, recordWords, slotWords, value, mask, ident, action, rank, empty, occupied, rankFits, sound, soundParts}
 use Rattle.records.specs.Record.{slotMatches, recordOf}
-use Rattle.records.specs.Order.{slots, overlapping, sameId, distinct, misordered, InOrder}
+use Rattle.records.specs.Order.{slots, overlapping, sameId, distinct, compared, misordered, InOrder}
 use Rattle.records.specs.Checks.{checkShape, checkTwice, checkOrder}
 use Rattle.records.specs.Laws.{shape-law, empty-law, ident-occupied, twice-law, same-id-law, misordered-law, ordered-law, order-law}
 use Rattle.records.specs.declared.Check.the-variants.{Pass}
@@ -28,8 +28,8 @@ use Rattle.records.specs.RulesLaws.{length-listed, word-listed, record-i
 use Rattle.records.specs.Entries.{entryAt, entrySame, entryMisordered, entryOccupied, SameRecord, vacant, entries}
 
 -- a layout of entries is in order, and each id stands once
-abbrev pub EntriesInOrder : ℕ → List (List ℕ) → Type 0
-EntriesInOrder w l = LayoutInOrder (vacant w) (entryMisordered w) l
+abbrev pub EntriesInOrder : ℕ → Bool → List (List ℕ) → Type 0
+EntriesInOrder w u l = LayoutInOrder (vacant w) (entryMisordered w u) l
 
 abbrev pub EntriesUnique : ℕ → List (List ℕ) → Type 0
 EntriesUnique w l = Unique (vacant w) (entrySame w) l
@@ -80,9 +80,13 @@ module _ (w : ℕ) {x x′ y y′ : Words} (left : SameRecord w x x′) (right :
   unfolding distinct
   distinct-cong = ap₂ (λ (a b : Bool). not a && b) ids-cong both-cong
 
-  pub misordered-cong : misordered w x y ≡ misordered w x′ y′
+module _ (w : ℕ) (u : Bool) {x x′ y y′ : Words} (left : SameRecord w x x′) (right : SameRecord w y y′) where
+  compared-cong : compared w u x y ≡ compared w u x′ y′
+  compared-cong = ap₂ _&&_ (ap₂ (λ (m n : ℕ). not (u && eqb m n)) (action-cong w left) (action-cong w right)) (distinct-cong w left right)
+
+  pub misordered-cong : misordered w u x y ≡ misordered w u x′ y′
   unfolding misordered
-  misordered-cong = ap₂ _&&_ (ap₂ _&&_ overlapping-cong (ap₂ leb (rank-cong w left) (rank-cong w right))) distinct-cong
+  misordered-cong = ap₂ _&&_ (ap₂ _&&_ (overlapping-cong w left right) (ap₂ leb (rank-cong w left) (rank-cong w right))) compared-cong
 
 -- records of the same words are sound alike
 pub sound-same : (w : ℕ) (x y : Words) → SameRecord w x y → sound w x ≡ sound w y
@@ -128,9 +132,10 @@ module _ (w : ℕ) (t : List ℕ) where
       → entrySame w (getD (entries w t) i (vacant w)) (getD (entries w t) k (vacant w)) ≡ sameId w (slotWords w t i) (slotWords w t k)
   same-at i k h l = same-id-cong w (entry-same w t i h) (entry-same w t k l)
 
+module _ (w : ℕ) (u : Bool) (t : List ℕ) where
   pub misordered-at : (i k : ℕ) → i < slots w t → k < slots w t
-      → entryMisordered w (getD (entries w t) i (vacant w)) (getD (entries w t) k (vacant w)) ≡ misordered w (slotWords w t i) (slotWords w t k)
-  misordered-at i k h l = misordered-cong w (entry-same w t i h) (entry-same w t k l)
+      → entryMisordered w u (getD (entries w t) i (vacant w)) (getD (entries w t) k (vacant w)) ≡ misordered w u (slotWords w t i) (slotWords w t k)
+  misordered-at i k h l = misordered-cong w u (entry-same w t i h) (entry-same w t k l)
 
 -- a test that cannot hold is false, and two tests that hold together are equal
 pub refuted : {b : Bool} → (b ≡ true → ⊥) → b ≡ false
@@ -143,7 +148,7 @@ same-truth false b e = sym (refuted (λ t. false≢true (e .1 t)))
 pub eqb-turned : (a b : ℕ) → eqb a b ≡ eqb b a
 eqb-turned a b = same-truth (eqb a b) (eqb b a) (λ e. eq-eqb b a (sym (eqb-true a b e)), λ e. eq-eqb a b (sym (eqb-true b a e)))
 
--- one id in two slots, and two rules of different ids, in either order
+-- one id in two slots, two rules of different ids, and two that are compared, in either order
 pub same-id-turned : (w : ℕ) (a b : Words) → sameId w a b ≡ sameId w b a
 unfolding sameId
 same-id-turned w a b = ap₂ _&&_ (eqb-turned (ident w a) (ident w b)) (and-comm (occupied w a) (occupied w b))
@@ -152,16 +157,19 @@ pub distinct-turned : (w : ℕ) (a b : Words) → distinct w a b ≡ distinct w 
 unfolding distinct
 distinct-turned w a b = ap₂ (λ (e o : Bool). not e && o) (eqb-turned (ident w a) (ident w b)) (and-comm (occupied w a) (occupied w b))
 
+pub compared-turned : (w : ℕ) (u : Bool) (a b : Words) → compared w u a b ≡ compared w u b a
+compared-turned w u a b = ap₂ (λ (e d : Bool). not (u && e) && d) (eqb-turned (action w a) (action w b)) (distinct-turned w a b)
+
 vacant-empty : (w : ℕ) → entryOccupied w (vacant w) ≡ false
 vacant-empty w = ap not (empty-law w (word (vacant w)) .1 (λ j h. getD-replicate (recordWords w) j 0 0 h))
 
 -- the laws that layouts ask of their entries
-pub entry-laws : (w : ℕ) → Laws (vacant w) (entryOccupied w) (entrySame w) (entryMisordered w)
-entry-laws w = record {
+pub entry-laws : (w : ℕ) (u : Bool) → Laws (vacant w) (entryOccupied w) (entrySame w) (entryMisordered w u)
+entry-laws w u = record {
   vacant = vacant-empty w;
-  misordered-left = λ a b o. refuted (λ e. true≢false (sym (misordered-law w (word a) (word b) .0 e .0 .0) ∙ o));
-  misordered-right = λ a b o. refuted (λ e. true≢false (sym (misordered-law w (word a) (word b) .0 e .0 .1) ∙ o));
-  misordered-same = λ a b s. refuted (λ e. misordered-law w (word a) (word b) .0 e .0 .2 (same-id-law w (word a) (word b) .0 s .2));
+  misordered-left = λ a b o. refuted (λ e. true≢false (sym (misordered-law w u (word a) (word b) .0 e .0 .0) ∙ o));
+  misordered-right = λ a b o. refuted (λ e. true≢false (sym (misordered-law w u (word a) (word b) .0 e .0 .1) ∙ o));
+  misordered-same = λ a b s. refuted (λ e. misordered-law w u (word a) (word b) .0 e .0 .2 (same-id-law w (word a) (word b) .0 s .2));
   same-occupied = λ a b s. same-id-law w (word a) (word b) .0 s .0;
   same-self = λ a o. same-id-law w (word a) (word a) .1 (o, o, refl);
   same-symmetric = λ a b s. same-id-turned w (word b) (word a) ∙ s;
@@ -172,21 +180,21 @@ entry-laws w = record {
 }
 
 -- the layout is in order exactly when the table is, that is, when check 4 passes; each id stands once exactly when check 3 passes
-pub in-order-entries : (w : ℕ) (t : List ℕ) → EntriesInOrder w (entries w t) ↔ InOrder w t
-in-order-entries w t =
+pub in-order-entries : (w : ℕ) (u : Bool) (t : List ℕ) → EntriesInOrder w u (entries w t) ↔ InOrder w u t
+in-order-entries w u t =
     let n = entries-length w t in (
-      λ o x y l h. ordered-law w (slotWords w t x) (slotWords w t y) .0 (sym (misordered-at w t x y (omega arith) h) ∙ o x y l (omega arith)),
-      λ o x y l h. misordered-at w t x y (omega arith) (omega arith) ∙ ordered-law w (slotWords w t x) (slotWords w t y) .1 (o x y l (omega arith)),
+      λ o x y l h. ordered-law w u (slotWords w t x) (slotWords w t y) .0 (sym (misordered-at w u t x y (omega arith) h) ∙ o x y l (omega arith)),
+      λ o x y l h. misordered-at w u t x y (omega arith) (omega arith) ∙ ordered-law w u (slotWords w t x) (slotWords w t y) .1 (o x y l (omega arith)),
     )
 
-pub order-entries : (w : ℕ) (t : List ℕ) → EntriesInOrder w (entries w t) ↔ (checkOrder w t ≡ Pass)
-order-entries w t = let a = in-order-entries w t in let b = order-law w t in (λ o. b .1 (a .0 o), λ e. a .1 (b .0 e))
+pub order-entries : (w : ℕ) (u : Bool) (t : List ℕ) → EntriesInOrder w u (entries w t) ↔ (checkOrder w u t ≡ Pass)
+order-entries w u t = let a = in-order-entries w u t in let b = order-law w u t in (λ o. b .1 (a .0 o), λ e. a .1 (b .0 e))
 
 pub unique-entries : (w : ℕ) (t : List ℕ) → EntriesUnique w (entries w t) ↔ (checkTwice w t ≡ Pass)
 unique-entries w t =
     let n = entries-length w t in (
       λ u. twice-law w t .1 (λ x y l h. sym (same-at w t x y (omega arith) h) ∙ u x y (omega arith) (omega arith) (omega arith)),
-      λ e. unique-earlier (entry-laws w) (entries w t)
+      λ e. unique-earlier (entry-laws w false) (entries w t)
           (λ x y l h. same-at w t x y (omega arith) (omega arith) ∙ twice-law w t .0 e x y l (omega arith)),
     )
 

@@ -17,10 +17,10 @@ use Rattle.search.specs.Search.{least, Least, any}
 use Rattle.search.specs.SearchLaws.{all-law, all-not, least-law, least-cong, any-no, any-none, decided, and-law, and-left, and-right, and-both}
 use Rattle.ternary.specs.Pattern.{Words, Matches, Within, within, fullMask}
 use Rattle.ternary.specs.PatternLaws.{overlaps-law, matches-law, within-law, full-law}
-use Rattle.records.specs.Record.{word, recordWords, slotWords, value, mask, ident, rank, empty, occupied, rankFits, sound, soundParts, soundRule, soundLent}
+use Rattle.records.specs.Record.{word, recordWords, slotWords, value, mask, ident, action, rank, empty, occupied, rankFits, sound, soundParts, soundRule, soundLent}
 use Rattle.records.specs.Record.{slotMatches, patternMatches}
 use Rattle.records.specs.Sound.{RankFits, SoundRecord, SoundRule}
-use Rattle.records.specs.Order.{slots, overlapping, sameId, distinct, precedes, tied, misordered, Ordered, InOrder, Overlapping}
+use Rattle.records.specs.Order.{slots, overlapping, sameId, distinct, compared, precedes, tied, misordered, Ordered, InOrder, Overlapping, ActionsDiffer}
 use Rattle.records.specs.Checks.{causeNumber, Told, refusal, unless, orElse, lowest, shaped, checkShape, slotChecks, tableChecks, unsoundAt}
 use Rattle.records.specs.Checks.{checkRecords, twiceAt, checkTwice, disorderAt, checkOrder, matchesAt, firstMatch, EmptyOrSound, comparedAt, Shaped}
 use Rattle.records.specs.declared.Rule.{Rule}
@@ -159,12 +159,12 @@ pub slot-checks-law : (w : ℕ) (t : List ℕ) → (slotChecks w t ≡ Pass) ↔
 unfolding slotChecks
 slot-checks-law w t = or-else-pass (checkShape w t) (checkRecords w t)
 
-pub table-checks-law : (w : ℕ) (t : List ℕ)
-    → (tableChecks w t ≡ Pass) ↔ ((slotChecks w t ≡ Pass) × (checkTwice w t ≡ Pass) × (checkOrder w t ≡ Pass))
+pub table-checks-law : (w : ℕ) (u : Bool) (t : List ℕ)
+    → (tableChecks w u t ≡ Pass) ↔ ((slotChecks w t ≡ Pass) × (checkTwice w t ≡ Pass) × (checkOrder w u t ≡ Pass))
 unfolding tableChecks
-table-checks-law w t =
-    let a = or-else-pass (slotChecks w t) (orElse (checkTwice w t) (checkOrder w t)) in
-    let b = or-else-pass (checkTwice w t) (checkOrder w t) in (
+table-checks-law w u t =
+    let a = or-else-pass (slotChecks w t) (orElse (checkTwice w t) (checkOrder w u t)) in
+    let b = or-else-pass (checkTwice w t) (checkOrder w u t) in (
       λ e. let f = a .0 e in let g = b .0 (f .1) in (f .0, g .0, g .1),
       λ p. a .1 (p .0, b .1 (p .1, p .2)),
     )
@@ -408,53 +408,66 @@ same-id-law w a b =
       λ s. and-both i o (eq-eqb _ _ (s .2)) (and-both (occupied w a) (occupied w b) (s .0) (s .1)),
     )
 
-pair-law : (w : ℕ) (a b : Words) (test : Bool)
-    → ((overlapping w a b && test) && distinct w a b ≡ true) ↔ (Overlapping w a b × (test ≡ true))
+-- document 02, 2026-11: actions differ where that is asked
+actions-law : (asked : Bool) (a b : ℕ) → (not (asked && eqb a b) ≡ true) ↔ (asked ≡ true → a ≡ b → ⊥)
+actions-law false a b = (λ e named. absurd (false≢true named), λ f. refl)
+actions-law true a b = (λ e named. eqb-false a b (not-true (eqb a b) e), λ f. ap not (ne-eqb a b (f refl)))
+
+pair-law : (w : ℕ) (u : Bool) (a b : Words) (test : Bool)
+    → ((overlapping w a b && test) && compared w u a b ≡ true) ↔ (Overlapping w u a b × (test ≡ true))
 unfolding distinct
-pair-law w a b test =
+pair-law w u a b test =
     let over = overlapping w a b in
     let same = eqb (ident w a) (ident w b) in
+    let asked = not (u && eqb (action w a) (action w b)) in
     let rules = occupied w a && occupied w b in
     let law = overlaps-law w (value a) (mask w a) (value b) (mask w b) in
-    let whole = and-law (over && test) (not same && rules) in
+    let actions = actions-law u (action w a) (action w b) in
+    let whole = and-law (over && test) (asked && (not same && rules)) in
     let left = and-law over test in
+    let named = and-law asked (not same && rules) in
     let right = and-law (not same) rules in
     let both = and-law (occupied w a) (occupied w b) in (
       λ e. let p = whole .0 e in
           let l = left .0 (p .0) in
-          let r = right .0 (p .1) in
+          let n = named .0 (p .1) in
+          let r = right .0 (n .1) in
           let o = both .0 (r .1) in
-          ((o .0, o .1, eqb-false (ident w a) (ident w b) (not-true same (r .0)), law .0 (l .0)), l .1),
-      λ s. whole .1 (left .1 (law .1 (s .0 .3), s .1), right .1 (ap not (ne-eqb (ident w a) (ident w b) (s .0 .2)), both .1 (s .0 .0, s .0 .1))),
+          ((o .0, o .1, eqb-false (ident w a) (ident w b) (not-true same (r .0)), law .0 (l .0), actions .0 (n .0)), l .1),
+      λ s. whole .1 (
+        left .1 (law .1 (s .0 .3), s .1),
+        named .1 (actions .1 (s .0 .4), right .1 (ap not (ne-eqb (ident w a) (ident w b) (s .0 .2)), both .1 (s .0 .0, s .0 .1))),
+      ),
     )
 
 -- a pair out of order: the earlier of two overlapping rules has no higher rank
-pub misordered-law : (w : ℕ) (a b : Words) → (misordered w a b ≡ true) ↔ (Overlapping w a b × (rank w a ≤ rank w b))
+pub misordered-law : (w : ℕ) (u : Bool) (a b : Words) → (misordered w u a b ≡ true) ↔ (Overlapping w u a b × (rank w a ≤ rank w b))
 unfolding misordered
-misordered-law w a b =
-    let l = pair-law w a b (leb (rank w a) (rank w b)) in
+misordered-law w u a b =
+    let l = pair-law w u a b (leb (rank w a) (rank w b)) in
     (λ e. let p = l .0 e in (p .0, leb-true _ _ (p .1)), λ s. l .1 (s .0, le-leb _ _ (s .1)))
 
 -- document 01: the higher of an overlapping pair precedes the other
-pub precedes-law : (w : ℕ) (a b : Words) → (precedes w a b ≡ true) ↔ (Overlapping w a b × (rank w b < rank w a))
+pub precedes-law : (w : ℕ) (u : Bool) (a b : Words) → (precedes w u a b ≡ true) ↔ (Overlapping w u a b × (rank w b < rank w a))
 unfolding precedes
-precedes-law w a b =
-    let l = pair-law w a b (ltb (rank w b) (rank w a)) in
+precedes-law w u a b =
+    let l = pair-law w u a b (ltb (rank w b) (rank w a)) in
     (λ e. let p = l .0 e in (p .0, ltb-true _ _ (p .1)), λ s. l .1 (s .0, lt-ltb _ _ (s .1)))
 
 -- document 01: overlap at equal priority, by document 02 at equal rank
-pub tied-law : (w : ℕ) (a b : Words) → (tied w a b ≡ true) ↔ (Overlapping w a b × (rank w a ≡ rank w b))
+pub tied-law : (w : ℕ) (u : Bool) (a b : Words) → (tied w u a b ≡ true) ↔ (Overlapping w u a b × (rank w a ≡ rank w b))
 unfolding tied
-tied-law w a b =
-    let l = pair-law w a b (eqb (rank w a) (rank w b)) in
+tied-law w u a b =
+    let l = pair-law w u a b (eqb (rank w a) (rank w b)) in
     (λ e. let p = l .0 e in (p .0, eqb-true _ _ (p .1)), λ s. l .1 (s .0, eq-eqb _ _ (s .1)))
 
-pub ordered-law : (w : ℕ) (a b : Words) → (misordered w a b ≡ false) ↔ Ordered w a b
-ordered-law w a b =
-    let law = misordered-law w a b in (
-      λ e oa ob d o. higher (decLe (rank w a) (rank w b)) (λ l. true≢false (sym (law .1 ((oa, ob, d, o), l)) ∙ e)),
+pub ordered-law : (w : ℕ) (u : Bool) (a b : Words) → (misordered w u a b ≡ false) ↔ Ordered w u a b
+ordered-law w u a b =
+    let law = misordered-law w u a b in (
+      λ e oa ob d o n. higher (decLe (rank w a) (rank w b)) (λ l. true≢false (sym (law .1 ((oa, ob, d, o, n), l)) ∙ e)),
       λ f. ⊎-elim
-          (λ e. absurd (let s = law .0 e in let h = f (s .0 .0) (s .0 .1) (s .0 .2) (s .0 .3) in omega (arith, s .1))) (λ e. e) (decided (misordered w a b)),
+          (λ e. absurd (let s = law .0 e in let h = f (s .0 .0) (s .0 .1) (s .0 .2) (s .0 .3) (s .0 .4) in omega (arith, s .1)))
+          (λ e. e) (decided (misordered w u a b)),
     )
   where
     higher : Dec (rank w a ≤ rank w b) → (rank w a ≤ rank w b → ⊥) → rank w b < rank w a
@@ -462,21 +475,34 @@ ordered-law w a b =
     higher (no l) f = omega arith
 
 -- check 4 passes exactly when the table is in order
-pub order-law : (w : ℕ) (t : List ℕ) → (checkOrder w t ≡ Pass) ↔ InOrder w t
+pub order-law : (w : ℕ) (u : Bool) (t : List ℕ) → (checkOrder w u t ≡ Pass) ↔ InOrder w u t
 unfolding checkOrder disorderAt
-order-law w t =
-    let l = earlier-law Order (λ (x y : ℕ). misordered w (slotWords w t x) (slotWords w t y)) (slots w t) in (
-      λ e x y h k. ordered-law w (slotWords w t x) (slotWords w t y) .0 (l .0 e x y h k),
-      λ f. l .1 (λ x y h k. ordered-law w (slotWords w t x) (slotWords w t y) .1 (f x y h k)),
+order-law w u t =
+    let l = earlier-law Order (λ (x y : ℕ). misordered w u (slotWords w t x) (slotWords w t y)) (slots w t) in (
+      λ e x y h k. ordered-law w u (slotWords w t x) (slotWords w t y) .0 (l .0 e x y h k),
+      λ f. l .1 (λ x y h k. ordered-law w u (slotWords w t x) (slotWords w t y) .1 (f x y h k)),
     )
 
+-- document 02, 2026-11: a counted table in order is in order uncounted
+pub order-loosened : (w : ℕ) (u : Bool) (t : List ℕ) → InOrder w false t → InOrder w u t
+order-loosened w u t order x y less h a b apart overlap differ = order x y less h a b apart overlap (λ named. absurd (false≢true named))
+
+-- so what passes checks 1 to 4 counted passes them uncounted
+pub checks-loosened : (w : ℕ) (u : Bool) (t : List ℕ) → tableChecks w false t ≡ Pass → tableChecks w u t ≡ Pass
+checks-loosened w u t passed =
+    let c = table-checks-law w false t .0 passed in
+    table-checks-law w u t .1 (c .0, c .1, order-law w u t .1 (order-loosened w u t (order-law w false t .0 (c .2))))
+
 -- of two rules one precedes the other exactly when the one order of them is out of order and the other is not
-pub precedes-misordered : (w : ℕ) (a b : Words) → precedes w a b ≡ true → (misordered w b a ≡ true) × (misordered w a b ≡ false)
-precedes-misordered w a b e =
-    let s = precedes-law w a b .0 e in
+pub precedes-misordered : (w : ℕ) (u : Bool) (a b : Words) → precedes w u a b ≡ true → (misordered w u b a ≡ true) × (misordered w u a b ≡ false)
+precedes-misordered w u a b e =
+    let s = precedes-law w u a b .0 e in
     let o = s .0 in (
-      misordered-law w b a .1 ((o .1, o .0, λ i. o .2 (sym i), λ j h i c. o .3 j h i (c .1, c .0, λ f. c .2 (sym f))), omega (arith, s .1)),
-      ordered-law w a b .1 (λ oa ob d ov. s .1),
+      misordered-law w u b a .1 (
+        (o .1, o .0, λ i. o .2 (sym i), λ j h i c. o .3 j h i (c .1, c .0, λ f. c .2 (sym f)), λ named i. o .4 named (sym i)),
+        omega (arith, s .1),
+      ),
+      ordered-law w u a b .1 (λ oa ob d ov n. s .1),
     )
 
 -- a hit's id is not 0: so id 0 tells a miss
@@ -486,15 +512,17 @@ hit-id w t key e h =
     let record-at = records-law w t .0 (slot-checks-law w t .0 e .1) (firstMatch w t key) h in
     sound-law w _ _ _ _ .0 (rule-matches-law w key (slotWords w t (firstMatch w t key)) record-at .0 (first-match-law w t key .hit h) .0) .0
 
--- document 01: highest priority match, by document 02 of the highest rank. In a table that passes checks 3 and 4 every other match has a lower rank than the first.
-pub highest-match : (w : ℕ) (t : List ℕ) (key : Words) → checkTwice w t ≡ Pass → checkOrder w t ≡ Pass → (j : ℕ) → j < slots w t
-    → slotMatches w key (slotWords w t j) ≡ true → firstMatch w t key < j → rank w (slotWords w t j) < rank w (slotWords w t (firstMatch w t key))
-highest-match w t key twice order j h m less =
+-- document 01: highest priority match, by document 02 of the highest rank. In a table that passes checks 3 and 4 every other match has a lower rank than the
+-- first; in an uncounted table every other match of another action.
+pub highest-match : (w : ℕ) (u : Bool) (t : List ℕ) (key : Words) → checkTwice w t ≡ Pass → checkOrder w u t ≡ Pass → (j : ℕ) → j < slots w t
+    → slotMatches w key (slotWords w t j) ≡ true → firstMatch w t key < j → ActionsDiffer w u (slotWords w t (firstMatch w t key)) (slotWords w t j)
+    → rank w (slotWords w t j) < rank w (slotWords w t (firstMatch w t key))
+highest-match w u t key twice order j h m less differ =
     let f = firstMatch w t key in
     let l = first-match-law w t key in
     let a = slot-matches-law w key (slotWords w t f) .0 (l .hit (omega arith)) in
     let b = slot-matches-law w key (slotWords w t j) .0 m in
     let d = twice-law w t .0 twice f j less h in
-    order-law w t .0 order f j less h (a .0) (b .0)
+    order-law w u t .0 order f j less h (a .0) (b .0)
     (λ same. true≢false (sym (same-id-law w (slotWords w t f) (slotWords w t j) .1 (a .0, b .0, same)) ∙ d))
-    (λ k hk i c. c .2 (sym (a .1 k hk i (c .0)) ∙ b .1 k hk i (c .1)))
+    (λ k hk i c. c .2 (sym (a .1 k hk i (c .0)) ∙ b .1 k hk i (c .1))) differ

@@ -36,9 +36,10 @@ pub const MOST_PRIORITY: u64 = 65535;
 
 pub const EXACT_RANK: u64 = 65536;
 
-// How a call reads its tables.
+// How a call reads its tables: how many words a value has, and whether the table is one without counters, in which only rules of different actions are ordered.
 pub struct Mode {
     pub width: usize,
+    pub uncounted: bool,
 }
 
 // How many words a slot record has: value, mask, id and action, rank.

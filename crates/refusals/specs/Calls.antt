@@ -2,7 +2,7 @@
 -- A condition is worded by slots, bits and numbers, not by the tests that the code makes; an image by its fields as they are read and the table that it
 -- means, a plan by its words. new is the new rule's record.
 use mathlib.Core.Path.{_≡_}
-use mathlib.Core.Bool.{true}
+use mathlib.Core.Bool.{Bool, true}
 use mathlib.Core.Logic.{_⊎_}
 use mathlib.Core.List.{List, [], _∷_, _++_}
 use Prim.Native.Nat.{ℕ, zero, suc, _+_, _≤_, _<_}
@@ -12,7 +12,7 @@ use Rattle.layout.specs.Write.{Write, put}
 use Rattle.plan_words.specs.PlanWords.{writeOf}
 use Rattle.records.specs.Record.{word, recordWords, slotWords, occupied, ident, rank, recordOf}
 use Rattle.records.specs.Sound.{SoundRecord, SoundRule}
-use Rattle.records.specs.Order.{slots, Overlapping, EqualRules}
+use Rattle.records.specs.Order.{slots, Overlapping, EqualRules, Replaceable}
 use Rattle.records.specs.Checks.{Shaped}
 use Rattle.records.specs.Entries.{entries}
 use Rattle.records.specs.Writes.{EntryFits}
@@ -30,15 +30,15 @@ abbrev pub OneId : ℕ → Words → Words → Type 0
 OneId w a b = (occupied w a ≡ true) × (occupied w b ≡ true) × (ident w a ≡ ident w b)
 
 -- the higher of an overlapping pair precedes the other, which depends on it
-abbrev pub Precedes : ℕ → Words → Words → Type 0
-Precedes w a b = Overlapping w a b × (rank w b < rank w a)
+abbrev pub Precedes : ℕ → Bool → Words → Words → Type 0
+Precedes w u a b = Overlapping w u a b × (rank w b < rank w a)
 
 -- the first of an overlapping pair has no higher rank; the two have the same
-abbrev pub NotHigher : ℕ → Words → Words → Type 0
-NotHigher w a b = Overlapping w a b × (rank w a ≤ rank w b)
+abbrev pub NotHigher : ℕ → Bool → Words → Words → Type 0
+NotHigher w u a b = Overlapping w u a b × (rank w a ≤ rank w b)
 
-abbrev pub Ties : ℕ → Words → Words → Type 0
-Ties w a b = Overlapping w a b × (rank w a ≡ rank w b)
+abbrev pub Ties : ℕ → Bool → Words → Words → Type 0
+Ties w u a b = Overlapping w u a b × (rank w a ≡ rank w b)
 
 module _ (w : ℕ) (t : List ℕ) where
   -- 1: the table's words are not a record's words × (1 to 1,024)
@@ -53,15 +53,8 @@ module _ (w : ℕ) (t : List ℕ) where
   abbrev pub twiceRow : Row
   twiceRow = slotRow Twice (slots w t) (λ j. (i : ℕ) × (i < j) × OneId w (slotWords w t i) (slotWords w t j))
 
-  -- 4: an earlier overlapping rule has no higher rank
-  abbrev pub orderRow : Row
-  orderRow = slotRow Order (slots w t) (λ j. (i : ℕ) × (i < j) × NotHigher w (slotWords w t i) (slotWords w t j))
-
   abbrev pub slotRows : List Row
   slotRows = shapeRow ∷ recordRow ∷ []
-
-  abbrev pub tableRows : List Row
-  tableRows = slotRows ++ (twiceRow ∷ orderRow ∷ [])
 
   -- 6: insert: id present
   abbrev pub knownRow : Words → Row
@@ -71,13 +64,21 @@ module _ (w : ℕ) (t : List ℕ) where
   abbrev pub unknownRow : ℕ → Row
   unknownRow id = rowAt Unknown ((i : ℕ) → i < slots w t → occupied w (slotWords w t i) ≡ true → ident w (slotWords w t i) ≡ id → ⊥) 0
 
+module _ (w : ℕ) (u : Bool) (t : List ℕ) where
+  -- 4: an earlier overlapping rule has no higher rank
+  abbrev pub orderRow : Row
+  orderRow = slotRow Order (slots w t) (λ j. (i : ℕ) × (i < j) × NotHigher w u (slotWords w t i) (slotWords w t j))
+
+  abbrev pub tableRows : List Row
+  tableRows = slotRows w t ++ (twiceRow w t ∷ orderRow ∷ [])
+
   -- 8: overlap at equal rank; document 02, 2026-03: but not with a rule of the same value, mask and rank, which the new one replaces
   abbrev pub tieRow : Words → Row
-  tieRow new = slotRow Tie (slots w t) (λ i. Ties w (slotWords w t i) new × (EqualRules w (slotWords w t i) new → ⊥))
+  tieRow new = slotRow Tie (slots w t) (λ i. Ties w u (slotWords w t i) new × (Replaceable w u (slotWords w t i) new → ⊥))
 
   -- no slot holds such a rule: none is replaced
   abbrev pub ReplacesNone : Words → Type 0
-  ReplacesNone new = (i : ℕ) → i < slots w t → EqualRules w (slotWords w t i) new → ⊥
+  ReplacesNone new = (i : ℕ) → i < slots w t → Replaceable w u (slotWords w t i) new → ⊥
 
   -- 9: insert: no slot empty, and no rule is replaced
   abbrev pub fullRow : Words → Row
@@ -86,13 +87,13 @@ module _ (w : ℕ) (t : List ℕ) where
   -- slot a is A, the highest slot holding a rule that precedes the new one
   abbrev pub IsA : Words → ℕ → Type 0
   IsA new a =
-      (a < slots w t) × Precedes w (slotWords w t a) new × ((i : ℕ) → a < i → i < slots w t → Precedes w (slotWords w t i) new → ⊥)
+      (a < slots w t) × Precedes w u (slotWords w t a) new × ((i : ℕ) → a < i → i < slots w t → Precedes w u (slotWords w t i) new → ⊥)
 
   -- 10: A > B: a rule that depends on the new one stands before one that precedes it
   abbrev pub crossedRow : Words → Row
   crossedRow new = record {
     cause = Crossed;
-    condition = (b : ℕ) × (a : ℕ) × (b < a) × (a < slots w t) × Precedes w new (slotWords w t b) × Precedes w (slotWords w t a) new;
+    condition = (b : ℕ) × (a : ℕ) × (b < a) × (a < slots w t) × Precedes w u new (slotWords w t b) × Precedes w u (slotWords w t a) new;
     spot = IsA new;
   }
 
@@ -119,25 +120,25 @@ abbrev pub lookupRows : ℕ → List ℕ → List Row
 lookupRows w t = slotRows w t
 
 -- planning makes checks 1 to 11, as far as each applies, and 18 after 5; those of a table and a rule, or an id, alone. From 6 on the rule has its rank
-abbrev pub newRuleRows : ℕ → List ℕ → Given → List Row
-newRuleRows w t given =
+abbrev pub newRuleRows : ℕ → Bool → List ℕ → Given → List Row
+newRuleRows w u t given =
     let new = word (recordOf w (ranked w given)) in
-    tableRows w t
-    ++ (ruleRow w (given .rule) ∷ editionRow (given .edition) ∷ knownRow w t new ∷ tieRow w t new ∷ fullRow w t new ∷ crossedRow w t new ∷ [])
+    tableRows w u t
+    ++ (ruleRow w (given .rule) ∷ editionRow (given .edition) ∷ knownRow w t new ∷ tieRow w u t new ∷ fullRow w u t new ∷ crossedRow w u t new ∷ [])
 
-abbrev pub oldRuleRows : ℕ → List ℕ → ℕ → List Row
-oldRuleRows w t id = tableRows w t ++ (idRow id ∷ unknownRow w t id ∷ [])
+abbrev pub oldRuleRows : ℕ → Bool → List ℕ → ℕ → List Row
+oldRuleRows w u t id = tableRows w u t ++ (idRow id ∷ unknownRow w t id ∷ [])
 
 -- and with a buffer of so many words
-abbrev pub insertRows : ℕ → List ℕ → Given → ℕ → List Row
-insertRows w t given room = newRuleRows w t given ++ (shortRow (length (plannedWords w t (ranked w given))) room ∷ [])
+abbrev pub insertRows : ℕ → Bool → List ℕ → Given → ℕ → List Row
+insertRows w u t given room = newRuleRows w u t given ++ (shortRow (length (plannedWords w u t (ranked w given))) room ∷ [])
 
-abbrev pub deleteRows : ℕ → List ℕ → ℕ → ℕ → List Row
-deleteRows w t id room = oldRuleRows w t id ++ (shortRow 1 room ∷ [])
+abbrev pub deleteRows : ℕ → Bool → List ℕ → ℕ → ℕ → List Row
+deleteRows w u t id room = oldRuleRows w u t id ++ (shortRow 1 room ∷ [])
 
 -- save makes 1 to 4, then 11
-abbrev pub saveRows : ℕ → List ℕ → ℕ → List Row
-saveRows w t room = tableRows w t ++ (shortRow (imageBytes w (ruleCount w t)) room ∷ [])
+abbrev pub saveRows : ℕ → Bool → List ℕ → ℕ → List Row
+saveRows w u t room = tableRows w u t ++ (shortRow (imageBytes w (ruleCount w t)) room ∷ [])
 
 -- document 02, 2026-03: a put-in over a rule of the same value, mask and rank as the one put in, which has its rank
 abbrev pub OverEqual : ℕ → List ℕ → Rule → Write → Type 0
@@ -178,15 +179,15 @@ abbrev pub bodyRows : ℕ → List ℕ → ℕ → ℕ → List Row
 bodyRows w b e k = fieldRow (SoundRecord w (word (recordAt w b e k)) → ⊥) (bodyPlace w e k) ∷ []
 
 -- load: 1; the image's header, its entries in turn, its bodies in turn; then 3 and 4 over the table meant
-abbrev pub loadRows : ℕ → List ℕ → List ℕ → List Row
-loadRows w b t =
+abbrev pub loadRows : ℕ → Bool → List ℕ → List ℕ → List Row
+loadRows w u b t =
     (shapeRow w t ∷ [])
     ++ (fieldRow ((length b < 4) ⊎ (slotsIn b ≡ slots w t → ⊥)) 0
     ∷ fieldRow ((slots w t < rulesIn b) ⊎ (length b ≡ imageBytes w (rulesIn b) → ⊥)) 2
     ∷ [])
     ++ rowsInTurn (entryRows w b (slots w t) (rulesIn b)) (rulesIn b)
     ++ rowsInTurn (bodyRows w b (rulesIn b)) (rulesIn b)
-    ++ (twiceRow w (meant w b (length t)) ∷ orderRow w (meant w b (length t)) ∷ [])
+    ++ (twiceRow w (meant w b (length t)) ∷ orderRow w u (meant w b (length t)) ∷ [])
 
 -- Document 02: 1 also covers a width that there is not, and a key or a rule of another number of words than the width asks for.
 abbrev pub OtherWidth : ℕ → Type 0
@@ -207,17 +208,17 @@ rowsOr Other (row ∷ rows) = record { cause = row .cause; condition = Other ⊎
 abbrev pub lookupCallRows : ℕ → List ℕ → List ℕ → List Row
 lookupCallRows w t key = rowsOr (OtherKey w key) (lookupRows w t)
 
-abbrev pub insertCallRows : ℕ → ℕ → List ℕ → List ℕ → ℕ → List Row
-insertCallRows w e t rule room = rowsOr (OtherRule w rule) (insertRows w t (lentRule w e rule) room)
+abbrev pub insertCallRows : ℕ → Bool → ℕ → List ℕ → List ℕ → ℕ → List Row
+insertCallRows w u e t rule room = rowsOr (OtherRule w rule) (insertRows w u t (lentRule w e rule) room)
 
-abbrev pub deleteCallRows : ℕ → List ℕ → ℕ → ℕ → List Row
-deleteCallRows w t id room = rowsOr (OtherWidth w) (deleteRows w t id room)
+abbrev pub deleteCallRows : ℕ → Bool → List ℕ → ℕ → ℕ → List Row
+deleteCallRows w u t id room = rowsOr (OtherWidth w) (deleteRows w u t id room)
 
-abbrev pub saveCallRows : ℕ → List ℕ → ℕ → List Row
-saveCallRows w t room = rowsOr (OtherWidth w) (saveRows w t room)
+abbrev pub saveCallRows : ℕ → Bool → List ℕ → ℕ → List Row
+saveCallRows w u t room = rowsOr (OtherWidth w) (saveRows w u t room)
 
-abbrev pub loadCallRows : ℕ → List ℕ → List ℕ → List Row
-loadCallRows w b t = rowsOr (OtherWidth w) (loadRows w b t)
+abbrev pub loadCallRows : ℕ → Bool → List ℕ → List ℕ → List Row
+loadCallRows w u b t = rowsOr (OtherWidth w) (loadRows w u b t)
 
 abbrev pub stepCallRows : ℕ → ℕ → List ℕ → List ℕ → List ℕ → ℕ → ℕ → List Row
 stepCallRows w e t plan rule done total = rowsOr (OtherRule w rule) (stepRows w t plan (lentRule w e rule) done total)

@@ -43,18 +43,18 @@ unfolding bufferAnswer
 buffer-answered checks rows needed room agree =
     answered _ _ (needed ∷ []) (rows-then checks (checkRoom needed room) rows (shortRow needed room ∷ []) agree (λ e. short-row needed room))
 
-pub insert-by-rows : (w : ℕ) (t : List ℕ) (given : Given) (room : ℕ) → AnsweredBy (insertRows w t given room) (insertAnswer w t given room)
-insert-by-rows w t given room = buffer-answered _ _ (length (plannedWords w t (ranked w given))) room (insert-rows w t given)
+pub insert-by-rows : (w : ℕ) (u : Bool) (t : List ℕ) (given : Given) (room : ℕ) → AnsweredBy (insertRows w u t given room) (insertAnswer w u t given room)
+insert-by-rows w u t given room = buffer-answered _ _ (length (plannedWords w u t (ranked w given))) room (insert-rows w u t given)
 
-pub delete-by-rows : (w : ℕ) (t : List ℕ) (id room : ℕ) → AnsweredBy (deleteRows w t id room) (deleteAnswer w t id room)
-delete-by-rows w t id room = buffer-answered _ _ 1 room (delete-rows w t id)
+pub delete-by-rows : (w : ℕ) (u : Bool) (t : List ℕ) (id room : ℕ) → AnsweredBy (deleteRows w u t id room) (deleteAnswer w u t id room)
+delete-by-rows w u t id room = buffer-answered _ _ 1 room (delete-rows w u t id)
 
-pub save-by-rows : (w : ℕ) (t : List ℕ) (room : ℕ) → AnsweredBy (saveRows w t room) (saveAnswer w t room)
-save-by-rows w t room = buffer-answered _ _ (imageBytes w (ruleCount w t)) room (table-rows w t)
+pub save-by-rows : (w : ℕ) (u : Bool) (t : List ℕ) (room : ℕ) → AnsweredBy (saveRows w u t room) (saveAnswer w u t room)
+save-by-rows w u t room = buffer-answered _ _ (imageBytes w (ruleCount w t)) room (table-rows w u t)
 
-pub load-by-rows : (w : ℕ) (b t : List ℕ) → AnsweredBy (loadRows w b t) (loadAnswer w b t)
+pub load-by-rows : (w : ℕ) (u : Bool) (b t : List ℕ) → AnsweredBy (loadRows w u b t) (loadAnswer w u b t)
 unfolding loadAnswer
-load-by-rows w b t = answered _ _ [] (load-rows w b t)
+load-by-rows w u b t = answered _ _ [] (load-rows w u b t)
 
 pub step-by-rows : (w : ℕ) (t plan : List ℕ) (given : Given) (done total : ℕ)
     → AnsweredBy (stepRows w t plan given done total) (stepAnswer w t plan given done total)
@@ -71,17 +71,17 @@ pub lookup-call-rows : (w : ℕ) (t key : List ℕ) → AnsweredBy (lookupCallRo
 unfolding lookupCall
 lookup-call-rows w t key = lent-answered _ _ _ _ _ (key-row w key) (lookup-by-rows w t (word key))
 
-pub insert-call-rows : (w e : ℕ) (t rule : List ℕ) (room : ℕ) → AnsweredBy (insertCallRows w e t rule room) (insertCall w e t rule room)
-insert-call-rows w e t rule room = lent-answered _ _ _ _ _ (rule-row w rule) (insert-by-rows w t (lentRule w e rule) room)
+pub insert-call-rows : (w : ℕ) (u : Bool) (e : ℕ) (t rule : List ℕ) (room : ℕ) → AnsweredBy (insertCallRows w u e t rule room) (insertCall w u e t rule room)
+insert-call-rows w u e t rule room = lent-answered _ _ _ _ _ (rule-row w rule) (insert-by-rows w u t (lentRule w e rule) room)
 
-pub delete-call-rows : (w : ℕ) (t : List ℕ) (id room : ℕ) → AnsweredBy (deleteCallRows w t id room) (deleteCall w t id room)
-delete-call-rows w t id room = lent-answered _ _ _ _ _ (width-row w) (delete-by-rows w t id room)
+pub delete-call-rows : (w : ℕ) (u : Bool) (t : List ℕ) (id room : ℕ) → AnsweredBy (deleteCallRows w u t id room) (deleteCall w u t id room)
+delete-call-rows w u t id room = lent-answered _ _ _ _ _ (width-row w) (delete-by-rows w u t id room)
 
-pub save-call-rows : (w : ℕ) (t : List ℕ) (room : ℕ) → AnsweredBy (saveCallRows w t room) (saveCall w t room)
-save-call-rows w t room = lent-answered _ _ _ _ _ (width-row w) (save-by-rows w t room)
+pub save-call-rows : (w : ℕ) (u : Bool) (t : List ℕ) (room : ℕ) → AnsweredBy (saveCallRows w u t room) (saveCall w u t room)
+save-call-rows w u t room = lent-answered _ _ _ _ _ (width-row w) (save-by-rows w u t room)
 
-pub load-call-rows : (w : ℕ) (b t : List ℕ) → AnsweredBy (loadCallRows w b t) (loadCall w b t)
-load-call-rows w b t = lent-answered _ _ _ _ _ (width-row w) (load-by-rows w b t)
+pub load-call-rows : (w : ℕ) (u : Bool) (b t : List ℕ) → AnsweredBy (loadCallRows w u b t) (loadCall w u b t)
+load-call-rows w u b t = lent-answered _ _ _ _ _ (width-row w) (load-by-rows w u b t)
 
 pub step-call-rows : (w e : ℕ) (t plan rule : List ℕ) (done total : ℕ) → AnsweredBy (stepCallRows w e t plan rule done total) (stepCall w e t plan rule done total)
 step-call-rows w e t plan rule done total = lent-answered _ _ _ _ _ (rule-row w rule) (step-by-rows w t plan (lentRule w e rule) done total)

@@ -94,14 +94,14 @@ module _ (w : ℕ) (b : List ℕ) (n : ℕ) where
       let law = sound-record-law w x in
       field-row (sound w x) _ (bodyPlace w e k) (λ s bad. bad (law .0 s)) (λ s good. true≢false (sym (law .1 good) ∙ s))
 
-pub load-rows : (w : ℕ) (b t : List ℕ) → Agrees (loadChecks w b t) (loadRows w b t)
+pub load-rows : (w : ℕ) (u : Bool) (b t : List ℕ) → Agrees (loadChecks w u b t) (loadRows w u b t)
 unfolding loadChecks imageChecks checkContents checkBodies
-load-rows w b t =
+load-rows w u b t =
     let n = slots w t in
     let e = rulesIn b in
-    rows-then _ _ _ (twiceRow w (meant w b (length t)) ∷ orderRow w (meant w b (length t)) ∷ [])
+    rows-then _ _ _ (twiceRow w (meant w b (length t)) ∷ orderRow w u (meant w b (length t)) ∷ [])
     (rows-then _ _ (shapeRow w t ∷ []) _ (shape-row w t)
     (λ f. rows-then _ _ _ _ (header-rows w b n)
     (λ g. rows-then _ _ (rowsInTurn (entryRows w b n e) e) (rowsInTurn (bodyRows w b e) e)
     (turn-rows _ _ (entry-rows w b n e) e) (λ h. turn-rows _ _ (body-rows w b n e) e))))
-    (λ f. rows-then _ _ (twiceRow w (meant w b (length t)) ∷ []) _ (twice-row w (meant w b (length t))) (λ g. order-row w (meant w b (length t))))
+    (λ f. rows-then _ _ (twiceRow w (meant w b (length t)) ∷ []) _ (twice-row w (meant w b (length t))) (λ g. order-row w u (meant w b (length t))))

@@ -54,13 +54,13 @@ change-told (Fail cause spot) words = refl
 change-answered : (checks : Check) (rows : List Row) (words : List ℕ) → Agrees checks rows → AnsweredBy rows (changeTold checks words .told)
 change-answered checks rows words agree = subst (AnsweredBy rows) (change-told checks words) (answered checks rows (length words ∷ []) agree)
 
-insert-line-answered : (t : List ℕ) (rule : Rule) → AnsweredBy (newRuleRows 2 t (under13 rule)) (insertTold t rule .told)
+insert-line-answered : (t : List ℕ) (rule : Rule) → AnsweredBy (newRuleRows 2 false t (under13 rule)) (insertTold t rule .told)
 unfolding insertTold
-insert-line-answered t rule = change-answered _ _ (plannedWords 2 t rule) (insert-rows 2 t (under13 rule))
+insert-line-answered t rule = change-answered _ _ (plannedWords 2 false t rule) (insert-rows 2 false t (under13 rule))
 
-delete-line-answered : (t : List ℕ) (id : ℕ) → AnsweredBy (oldRuleRows 2 t id) (deleteTold t id .told)
+delete-line-answered : (t : List ℕ) (id : ℕ) → AnsweredBy (oldRuleRows 2 false t id) (deleteTold t id .told)
 unfolding deleteTold
-delete-line-answered t id = change-answered _ _ (deleteWords 2 t id) (delete-rows 2 t id)
+delete-line-answered t id = change-answered _ _ (deleteWords 2 t id) (delete-rows 2 false t id)
 
 looked-told : (told : Told) → lookedTold told .told ≡ told
 looked-told told = pick (eqb (told .number) 0) (eqb (length (told .values)) 0)

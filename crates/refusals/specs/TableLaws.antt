@@ -96,21 +96,23 @@ module _ (w : ℕ) (t : List ℕ) where
       (λ j h. earlier-law (λ (i k : ℕ). sameId w (slotWords w t i) (slotWords w t k)) (λ i k. OneId w (slotWords w t i) (slotWords w t k))
       (λ i k. same-id-law w (slotWords w t i) (slotWords w t k)) j)
 
-  pub order-row : Agrees (checkOrder w t) (orderRow w t ∷ [])
-  unfolding checkOrder disorderAt
-  order-row =
-      lowest-row Order (slots w t) (disorderAt w t) _
-      (λ j h. earlier-law (λ (i k : ℕ). misordered w (slotWords w t i) (slotWords w t k))
-      (λ i k. NotHigher w (slotWords w t i) (slotWords w t k))
-      (λ i k. misordered-law w (slotWords w t i) (slotWords w t k)) j)
-
-  -- checks 1 and 2; checks 1 to 4
+  -- checks 1 and 2
   pub slot-rows : Agrees (slotChecks w t) (slotRows w t)
   unfolding slotChecks
   slot-rows = rows-then _ _ (shapeRow w t ∷ []) (recordRow w t ∷ []) shape-row (λ e. record-row)
 
-  pub table-rows : Agrees (tableChecks w t) (tableRows w t)
+module _ (w : ℕ) (u : Bool) (t : List ℕ) where
+  pub order-row : Agrees (checkOrder w u t) (orderRow w u t ∷ [])
+  unfolding checkOrder disorderAt
+  order-row =
+      lowest-row Order (slots w t) (disorderAt w u t) _
+      (λ j h. earlier-law w t (λ (i k : ℕ). misordered w u (slotWords w t i) (slotWords w t k))
+      (λ i k. NotHigher w u (slotWords w t i) (slotWords w t k))
+      (λ i k. misordered-law w u (slotWords w t i) (slotWords w t k)) j)
+
+  -- checks 1 to 4
+  pub table-rows : Agrees (tableChecks w u t) (tableRows w u t)
   unfolding tableChecks
   table-rows =
-      rows-then _ _ (slotRows w t) (twiceRow w t ∷ orderRow w t ∷ []) slot-rows
-      (λ e. rows-then _ _ (twiceRow w t ∷ []) (orderRow w t ∷ []) twice-row (λ f. order-row))
+      rows-then _ _ (slotRows w t) (twiceRow w t ∷ orderRow w u t ∷ []) (slot-rows w t)
+      (λ e. rows-then _ _ (twiceRow w t ∷ []) (orderRow w u t ∷ []) (twice-row w t) (λ f. order-row))

@@ -137,8 +137,8 @@ fn put_image(image: &mut [u8], rules: usize, table: &[u64], width: usize)
 // The image of a table at a width that there is.
 fn save_at(table: &[u64], image: &mut [u8], mode: Mode) -> SaveAnswer
     requires { ⌜ Width (mode .width) ⌝ }
-    ensures { λ r. ⌜ saveTold r ≡ saveAnswer (mode .width) (now (table .entry)) (length (now (image .entry))) ⌝ }
-    ensures { λ _. ⌜ now (image .exit) ≡ saveBuffer (mode .width) (now (table .entry)) (now (image .entry)) ⌝ }
+    ensures { λ r. ⌜ saveTold r ≡ saveAnswer (mode .width) (mode .uncounted) (now (table .entry)) (length (now (image .entry))) ⌝ }
+    ensures { λ _. ⌜ now (image .exit) ≡ saveBuffer (mode .width) (mode .uncounted) (now (table .entry)) (now (image .entry)) ⌝ }
 {
     let check = check_table(table, mode);
     if let Check::Fail(cause, spot) = check {
@@ -157,8 +157,8 @@ fn save_at(table: &[u64], image: &mut [u8], mode: Mode) -> SaveAnswer
 
 // The image of a table, into the lent buffer: its bytes, or a refusal that leaves the buffer as it was.
 pub fn save(table: &[u64], image: &mut [u8], mode: Mode) -> SaveAnswer
-    ensures { λ r. ⌜ saveTold r ≡ saveCall (mode .width) (now (table .entry)) (length (now (image .entry))) ⌝ }
-    ensures { λ _. ⌜ now (image .exit) ≡ saveCallBuffer (mode .width) (now (table .entry)) (now (image .entry)) ⌝ }
+    ensures { λ r. ⌜ saveTold r ≡ saveCall (mode .width) (mode .uncounted) (now (table .entry)) (length (now (image .entry))) ⌝ }
+    ensures { λ _. ⌜ now (image .exit) ≡ saveCallBuffer (mode .width) (mode .uncounted) (now (table .entry)) (now (image .entry)) ⌝ }
 {
     let known = check_width(mode.width);
     if let Check::Fail(cause, spot) = known {

@@ -1,7 +1,7 @@
 -- Document 01, "The script program": what an insert and a delete do to the table, and the bytes that they and a lookup print.
 -- The table is the list of its words.
 use mathlib.Core.Path.{_≡_}
-use mathlib.Core.Bool.{cond}
+use mathlib.Core.Bool.{cond, false}
 use mathlib.Core.List.{List, [], _∷_}
 use Prim.Native.Nat.{ℕ, _≤_}
 use lib.Dec.{eqb}
@@ -36,14 +36,14 @@ changeOutcome t (Fail cause spot) words after = refused t (causeNumber cause) sp
 
 -- `I id priority pattern action` inserts and carries out, under 1.3: a rule's rank is its priority
 unfoldable pub insertOutcome : List ℕ → Rule → Outcome (List ℕ)
-insertOutcome t rule = changeOutcome t (insertChecks 2 t (under13 rule)) (plannedWords 2 t rule) (applyWords 2 t rule (plannedWords 2 t rule))
+insertOutcome t rule = changeOutcome t (insertChecks 2 false t (under13 rule)) (plannedWords 2 false t rule) (applyWords 2 t rule (plannedWords 2 false t rule))
 
 -- `D id`; its one write puts no rule in
 abbrev pub noRule : Rule
 noRule = record { id = 0; priority = 0; value = 0 ∷ 0 ∷ []; mask = 0 ∷ 0 ∷ []; action = 0 }
 
 unfoldable pub deleteOutcome : List ℕ → ℕ → Outcome (List ℕ)
-deleteOutcome t id = changeOutcome t (deleteChecks 2 t id) (deleteWords 2 t id) (applyWords 2 t noRule (deleteWords 2 t id))
+deleteOutcome t id = changeOutcome t (deleteChecks 2 false t id) (deleteWords 2 t id) (applyWords 2 t noRule (deleteWords 2 t id))
 
 -- `A slot id action`, or `M` for a miss, or `R number spot`
 abbrev pub lookupBytes : Told → List ℕ

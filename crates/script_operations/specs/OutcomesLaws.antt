@@ -1,7 +1,7 @@
 -- Laws by which the code meets the definitions: what a planning call answered comes to the outcome of its line.
 -- A buffer of 1,024 words is never too short, since no plan has more words than the table slots.
 use mathlib.Core.Path.{_≡_, refl, sym, ap, ap₂, _∙_, subst, subst₂}
-use mathlib.Core.Bool.{true≢false}
+use mathlib.Core.Bool.{true≢false, false}
 use mathlib.Core.List.{List, [], _∷_}
 use Prim.Native.Nat.{ℕ, _≤_, _+_, _-_, _<_}
 use lib.Dec.{eqb}
@@ -79,45 +79,45 @@ told-is (Fail cause spot) words room long = rw (cause-not-zero cause)
 told-is Pass words room long = rw (le-ltb room (length words) (long refl))
 
 -- the plan of an insert has at most as many words as the table has slots
-insert-short : (t : List ℕ) (rule : Rule) → rule .action < 4294967296 → insertChecks 2 t (under13 rule) ≡ Pass → length (plannedWords 2 t rule) ≤ 1024
+insert-short : (t : List ℕ) (rule : Rule) → rule .action < 4294967296 → insertChecks 2 false t (under13 rule) ≡ Pass → length (plannedWords 2 false t rule) ≤ 1024
 unfolding ranked rankOf insertChecks
 insert-short t rule small e =
-    let table = or-else-pass (tableChecks 2 t) _ .0 e .0 in
-    let shape = slot-checks-law 2 t .0 (table-checks-law 2 t .0 table .0) .0 in
-    omega (arith, planned-few 2 t (under13 rule) small e, shaped-slots 2 t shape .1)
+    let table = or-else-pass (tableChecks 2 false t) _ .0 e .0 in
+    let shape = slot-checks-law 2 t .0 (table-checks-law 2 false t .0 table .0) .0 in
+    omega (arith, planned-few 2 false t (under13 rule) small e, shaped-slots 2 t shape .1)
 
 -- an I line
 pub insert-is : (t : List ℕ) (rule : Rule) (plan plan′ : List ℕ) (told : Told) → rule .action < 4294967296 → length plan ≡ 1024
-    → told ≡ insertAnswer 2 t (under13 rule) (length plan) → plan′ ≡ insertPlan 2 t (under13 rule) plan
+    → told ≡ insertAnswer 2 false t (under13 rule) (length plan) → plan′ ≡ insertPlan 2 false t (under13 rule) plan
     → WithinRoom told (length plan′) × (planOutcome told t plan′ rule ≡ insertOutcome t rule)
 unfolding insertOutcome ranked rankOf
 insert-is t rule plan plan′ told small n e f =
-    let words = plannedWords 2 t rule in
-    let long : insertChecks 2 t (under13 rule) ≡ Pass → length words ≤ length plan = λ p. omega (arith, insert-short t rule small p, n) in
-    let r = plan-is t rule (insertChecks 2 t (under13 rule)) words plan (applyWords 2 t rule words) long
-    (λ p. carried-whole (demand-2-insert 2 t (under13 rule) plan (length words) small (sym (buffer-written words plan refl p (long p) .0)))) in
+    let words = plannedWords 2 false t rule in
+    let long : insertChecks 2 false t (under13 rule) ≡ Pass → length words ≤ length plan = λ p. omega (arith, insert-short t rule small p, n) in
+    let r = plan-is t rule (insertChecks 2 false t (under13 rule)) words plan (applyWords 2 t rule words) long
+    (λ p. carried-whole (demand-2-insert 2 false t (under13 rule) plan (length words) small (sym (buffer-written words plan refl p (long p) .0)))) in
     subst₂ (λ (x : Told) (y : List ℕ). WithinRoom x (length y) × (planOutcome x t y rule ≡ insertOutcome t rule)) (sym e) (sym f) r
 
 pub insert-told : (t : List ℕ) (rule : Rule) (room : ℕ) (told : Told) → rule .action < 4294967296 → room ≡ 1024
-    → told ≡ insertAnswer 2 t (under13 rule) room → plannedTold told ≡ insertTold t rule
+    → told ≡ insertAnswer 2 false t (under13 rule) room → plannedTold told ≡ insertTold t rule
 unfolding insertTold ranked rankOf
 insert-told t rule room told small n e =
-    ap plannedTold e ∙ told-is (insertChecks 2 t (under13 rule)) (plannedWords 2 t rule) room (λ p. omega (arith, insert-short t rule small p, n))
+    ap plannedTold e ∙ told-is (insertChecks 2 false t (under13 rule)) (plannedWords 2 false t rule) room (λ p. omega (arith, insert-short t rule small p, n))
 
 -- a D line
 pub delete-is : (t : List ℕ) (id : ℕ) (plan plan′ : List ℕ) (told : Told) → length plan ≡ 1024
-    → told ≡ deleteAnswer 2 t id (length plan) → plan′ ≡ deletePlan 2 t id plan
+    → told ≡ deleteAnswer 2 false t id (length plan) → plan′ ≡ deletePlan 2 false t id plan
     → WithinRoom told (length plan′) × (planOutcome told t plan′ noRule ≡ deleteOutcome t id)
 unfolding deleteOutcome ranked rankOf
 delete-is t id plan plan′ told n e f =
     let words = deleteWords 2 t id in
-    let r = plan-is t noRule (deleteChecks 2 t id) words plan (applyWords 2 t noRule words) (λ p. omega (arith, n))
-    (λ p. carried-whole (demand-2-delete 2 t id plan 1 (under13 noRule) (sym (buffer-written words plan refl p (omega (arith, n)) .0)))) in
+    let r = plan-is t noRule (deleteChecks 2 false t id) words plan (applyWords 2 t noRule words) (λ p. omega (arith, n))
+    (λ p. carried-whole (demand-2-delete 2 false t id plan 1 (under13 noRule) (sym (buffer-written words plan refl p (omega (arith, n)) .0)))) in
     subst₂ (λ (x : Told) (y : List ℕ). WithinRoom x (length y) × (planOutcome x t y noRule ≡ deleteOutcome t id)) (sym e) (sym f) r
 
-pub delete-told : (t : List ℕ) (id room : ℕ) (told : Told) → room ≡ 1024 → told ≡ deleteAnswer 2 t id room → plannedTold told ≡ deleteTold t id
+pub delete-told : (t : List ℕ) (id room : ℕ) (told : Told) → room ≡ 1024 → told ≡ deleteAnswer 2 false t id room → plannedTold told ≡ deleteTold t id
 unfolding deleteTold
-delete-told t id room told n e = ap plannedTold e ∙ told-is (deleteChecks 2 t id) (deleteWords 2 t id) room (λ p. omega (arith, n))
+delete-told t id room told n e = ap plannedTold e ∙ told-is (deleteChecks 2 false t id) (deleteWords 2 t id) room (λ p. omega (arith, n))
 
 -- the same of what is left
 pub changed-is : {a b : Outcome (List ℕ)} {r : ℕ} {after out out′ : List ℕ} → a ≡ b → Changed a r after out out′ → Changed b r after out out′

@@ -1,6 +1,6 @@
 -- What a line is answered: the letter that is printed, and document 01's number and values for each case of the answer.
 -- Of a change it is the plan's own count: nothing is said of the buffer in which it was planned.
-use mathlib.Core.Bool.{cond}
+use mathlib.Core.Bool.{cond, false}
 use mathlib.Core.List.{List, [], _∷_}
 use Prim.Native.Nat.{ℕ}
 use lib.Dec.{eqb}
@@ -38,10 +38,10 @@ changeTold Pass words = lettered 80 (success (length words ∷ []))
 changeTold (Fail cause spot) words = lettered 82 (refusal cause spot)
 
 unfoldable pub insertTold : List ℕ → Rule → LineTold
-insertTold t rule = changeTold (insertChecks 2 t (under13 rule)) (plannedWords 2 t rule)
+insertTold t rule = changeTold (insertChecks 2 false t (under13 rule)) (plannedWords 2 false t rule)
 
 unfoldable pub deleteTold : List ℕ → ℕ → LineTold
-deleteTold t id = changeTold (deleteChecks 2 t id) (deleteWords 2 t id)
+deleteTold t id = changeTold (deleteChecks 2 false t id) (deleteWords 2 t id)
 
 -- a planning call's answer, and a lookup's
 abbrev pub plannedTold : Told → LineTold

@@ -139,7 +139,15 @@ fn delete(table: &mut [u64], id: u32, plan: &mut [u32], out: &mut [u8; 14343]) -
     ensures { λ r. ⌜ Changed (deleteOutcome (now (table .entry)) id) (r .length) (now (table .exit)) (now (out .entry)) (now (out .exit)) ⌝ }
     ensures { λ r. ⌜ lineTold (r .answer) ≡ deleteTold (now (table .entry)) id ⌝ }
 {
-    let answer = plan_delete(table, id, plan, Mode { width: NARROW });
+    let answer = plan_delete(
+        table,
+        id,
+        plan,
+        Mode {
+            width: NARROW,
+            uncounted: false,
+        },
+    );
     let rule = Rule {
         id: 0,
         priority: 0,

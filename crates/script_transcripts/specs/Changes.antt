@@ -1,6 +1,6 @@
 -- Demand 2 of scripts: the changes accepted since the last good T, and the tables that they reach.
 use mathlib.Core.Path.{_≡_}
-use mathlib.Core.Bool.{cond, _&&_}
+use mathlib.Core.Bool.{cond, _&&_, false}
 use mathlib.Core.Logic.{_⊎_}
 use mathlib.Core.Option.{Option, none, some}
 use mathlib.Core.List.{List, [], _∷_}
@@ -25,8 +25,8 @@ use Rattle.script.specs.Script.{lineOutcome}
 -- the rule that it replaces, and an accepted delete are changes, anything else keeps them
 abbrev pub historyAfter : List ℕ → List Change → Command → List Change
 historyAfter t history (Table new) = cond (leb 1 (new .slots) && leb (new .slots) 1024) [] history
-historyAfter t history (Insert insertion) = cond (passes (insertChecks 2 t (under13 (insertedRule insertion)))) (insertChanges 2 t (insertedRule insertion) history) history
-historyAfter t history (Delete deletion) = cond (passes (deleteChecks 2 t (deletion .id))) (delete (deletion .id) ∷ history) history
+historyAfter t history (Insert insertion) = cond (passes (insertChecks 2 false t (under13 (insertedRule insertion)))) (insertChanges 2 false t (insertedRule insertion) history) history
+historyAfter t history (Delete deletion) = cond (passes (deleteChecks 2 false t (deletion .id))) (delete (deletion .id) ∷ history) history
 historyAfter t history (Lookup query) = history
 historyAfter t history Malformed = history
 
@@ -38,7 +38,7 @@ historyOf t number history (line ∷ lines) =
 
 -- the table has no slots, and nothing was accepted; or it is reached by the changes
 abbrev pub Since : List Change → List ℕ → Type 0
-Since history t = ((t ≡ []) × (history ≡ [])) ⊎ Reached 2 history t
+Since history t = ((t ≡ []) × (history ≡ [])) ⊎ Reached 2 false history t
 
 -- what an L line prints by the highest-priority match among the rules: `A slot id action` with some slot, or `M`
 abbrev pub AnswerOf : Option Rule → List ℕ → Type 0

@@ -101,11 +101,11 @@ unfolding commandOf
 line-small line = small-if (leb (length line) 256) (ofFields (parts 32 line)) Malformed (λ e. fields-small (parts 32 line)) tt
 
 -- a table without slots refuses every change with 1
-none-inserts : (rule : Rule) → insertChecks 2 [] (under13 rule) ≡ Fail Shape 0
+none-inserts : (rule : Rule) → insertChecks 2 false [] (under13 rule) ≡ Fail Shape 0
 unfolding insertChecks tableChecks slotChecks checkShape shaped
 none-inserts rule = refl
 
-none-deletes : (id : ℕ) → deleteChecks 2 [] id ≡ Fail Shape 0
+none-deletes : (id : ℕ) → deleteChecks 2 false [] id ≡ Fail Shape 0
 unfolding deleteChecks tableChecks slotChecks checkShape shaped
 none-deletes id = refl
 
@@ -118,31 +118,31 @@ unfolding deleteOutcome
 delete-none id = rw (none-deletes id)
 
 -- one accepted change more
-module _ (history : List Change) (t : List ℕ) (reached : Reached 2 history t) where
+module _ (history : List Change) (t : List ℕ) (reached : Reached 2 false history t) where
   -- the plan's own words are buffer enough, and as many calls as it has carry it out
-  insert-reached : (rule : Rule) → rule .action < 4294967296 → (x : Check) → insertChecks 2 t (under13 rule) ≡ x
-      → Reached 2 (cond (passes (insertChecks 2 t (under13 rule))) (insertChanges 2 t rule history) history) (insertOutcome t rule .table)
+  insert-reached : (rule : Rule) → rule .action < 4294967296 → (x : Check) → insertChecks 2 false t (under13 rule) ≡ x
+      → Reached 2 false (cond (passes (insertChecks 2 false t (under13 rule))) (insertChanges 2 false t rule history) history) (insertOutcome t rule .table)
   unfolding insertOutcome ranked rankOf
   insert-reached rule small (Fail cause spot) e = rw e reached
   insert-reached rule small Pass e =
-      let words = plannedWords 2 t rule in
+      let words = plannedWords 2 false t rule in
       let count = length words in
       let accepted = sym (buffer-written words words refl e (omega arith) .0) in
       let after = reached-insert reached (under13 rule) small words count accepted in
-      let made = carried-whole (demand-2-insert 2 t (under13 rule) words count small accepted) in
-      let there : Reached 2 (insertChanges 2 t rule history) (applyWords 2 t rule words) = subst (Reached 2 (insertChanges 2 t rule history)) made after in
+      let made = carried-whole (demand-2-insert 2 false t (under13 rule) words count small accepted) in
+      let there : Reached 2 false (insertChanges 2 false t rule history) (applyWords 2 t rule words) = subst (Reached 2 false (insertChanges 2 false t rule history)) made after in
       rw e there
 
-  delete-reached : (id : ℕ) (x : Check) → deleteChecks 2 t id ≡ x
-      → Reached 2 (cond (passes (deleteChecks 2 t id)) (delete id ∷ history) history) (deleteOutcome t id .table)
+  delete-reached : (id : ℕ) (x : Check) → deleteChecks 2 false t id ≡ x
+      → Reached 2 false (cond (passes (deleteChecks 2 false t id)) (delete id ∷ history) history) (deleteOutcome t id .table)
   unfolding deleteOutcome ranked rankOf
   delete-reached id (Fail cause spot) e = rw e reached
   delete-reached id Pass e =
       let words = deleteWords 2 t id in
       let accepted = sym (buffer-written words words refl e (omega arith) .0) in
       let after = reached-delete reached id words 1 accepted (under13 noRule) in
-      let made = carried-whole (demand-2-delete 2 t id words 1 (under13 noRule) accepted) in
-      let there : Reached 2 (delete id ∷ history) (applyWords 2 t noRule words) = subst (Reached 2 (delete id ∷ history)) made after in
+      let made = carried-whole (demand-2-delete 2 false t id words 1 (under13 noRule) accepted) in
+      let there : Reached 2 false (delete id ∷ history) (applyWords 2 t noRule words) = subst (Reached 2 false (delete id ∷ history)) made after in
       rw e there
 
 table-since : (history : List Change) (t : List ℕ) → Since history t → (slots : ℕ) (b : Bool) → leb 1 slots && leb slots 1024 ≡ b
@@ -154,18 +154,18 @@ table-since history t since slots true e =
 table-since history t since slots false e = rw e since
 
 insert-since : (history : List Change) (t : List ℕ) → Since history t → (rule : Rule) → rule .action < 4294967296
-    → Since (cond (passes (insertChecks 2 t (under13 rule))) (insertChanges 2 t rule history) history) (insertOutcome t rule .table)
+    → Since (cond (passes (insertChecks 2 false t (under13 rule))) (insertChanges 2 false t rule history) history) (insertOutcome t rule .table)
 insert-since history t (inl (e, f)) rule small =
-    subst (λ (u : List ℕ). Since (cond (passes (insertChecks 2 u (under13 rule))) (insertChanges 2 u rule history) history) (insertOutcome u rule .table)) (sym e)
+    subst (λ (u : List ℕ). Since (cond (passes (insertChecks 2 false u (under13 rule))) (insertChanges 2 false u rule history) history) (insertOutcome u rule .table)) (sym e)
     (rw (none-inserts rule) (inl (ap (λ (x : Outcome (List ℕ)). x .table) (insert-none rule), f)))
-insert-since history t (inr reached) rule small = inr (insert-reached history t reached rule small (insertChecks 2 t (under13 rule)) refl)
+insert-since history t (inr reached) rule small = inr (insert-reached history t reached rule small (insertChecks 2 false t (under13 rule)) refl)
 
 delete-since : (history : List Change) (t : List ℕ) → Since history t → (id : ℕ)
-    → Since (cond (passes (deleteChecks 2 t id)) (delete id ∷ history) history) (deleteOutcome t id .table)
+    → Since (cond (passes (deleteChecks 2 false t id)) (delete id ∷ history) history) (deleteOutcome t id .table)
 delete-since history t (inl (e, f)) id =
-    subst (λ (u : List ℕ). Since (cond (passes (deleteChecks 2 u id)) (delete id ∷ history) history) (deleteOutcome u id .table)) (sym e)
+    subst (λ (u : List ℕ). Since (cond (passes (deleteChecks 2 false u id)) (delete id ∷ history) history) (deleteOutcome u id .table)) (sym e)
     (rw (none-deletes id) (inl (ap (λ (x : Outcome (List ℕ)). x .table) (delete-none id), f)))
-delete-since history t (inr reached) id = inr (delete-reached history t reached id (deleteChecks 2 t id) refl)
+delete-since history t (inr reached) id = inr (delete-reached history t reached id (deleteChecks 2 false t id) refl)
 
 command-since : (history : List Change) (t : List ℕ) → Since history t → (number : ℕ) (c : Command) → Small c
     → Since (historyAfter t history c) (commandOutcome t number c .table)
@@ -193,11 +193,11 @@ pub script-since : (lines : List (List ℕ)) → Since (historyOf [] 1 [] lines)
 script-since lines = lines-since lines [] [] 1 (inl (refl, refl))
 
 -- so once there is a table it passes checks 1 to 4: 2, 3 and 4 are never printed, and 1 only before a good T or for a T
-pub script-sound : (lines : List (List ℕ)) → (answered lineOutcome [] 1 lines .table ≡ []) ⊎ (tableChecks 2 (answered lineOutcome [] 1 lines .table) ≡ Pass)
+pub script-sound : (lines : List (List ℕ)) → (answered lineOutcome [] 1 lines .table ≡ []) ⊎ (tableChecks 2 false (answered lineOutcome [] 1 lines .table) ≡ Pass)
 script-sound lines = pick (script-since lines)
   where
     pick : Since (historyOf [] 1 [] lines) (answered lineOutcome [] 1 lines .table)
-        → (answered lineOutcome [] 1 lines .table ≡ []) ⊎ (tableChecks 2 (answered lineOutcome [] 1 lines .table) ≡ Pass)
+        → (answered lineOutcome [] 1 lines .table ≡ []) ⊎ (tableChecks 2 false (answered lineOutcome [] 1 lines .table) ≡ Pass)
     pick (inl (e, f)) = inl e
     pick (inr reached) = inr (reached-sound reached)
 
@@ -212,7 +212,7 @@ answer-missed (some rule) e = let n : _≡_ {A = ℕ} 0 2 = ap length e in absur
 
 -- Demand 2 of scripts: on a table reached by changes an L line keeps the table and prints id and action of the highest-priority match among
 -- the rules inserted and not since deleted, or a miss.
-pub lookup-answered : (history : List Change) (t : List ℕ) → Reached 2 history t → (key : List ℕ)
+pub lookup-answered : (history : List Change) (t : List ℕ) → Reached 2 false history t → (key : List ℕ)
     → AnswerOf (highestMatch 2 (word key) (ruleSet history)) (lookupBytes (lookupAnswer 2 t (word key)))
 unfolding hitAt
 lookup-answered history t reached key = pick (lookup-cases 2 t (word key)) (reached-lookup reached (word key))
@@ -283,10 +283,10 @@ unfolding insertOutcome deleteOutcome
 command-kept t number (Table new) e = table-kept t (new .slots) e
 command-kept t number (Insert insertion) e =
     let rule = insertedRule insertion in
-    change-kept t (insertChecks 2 t (under13 rule)) (plannedWords 2 t rule) (applyWords 2 t rule (plannedWords 2 t rule)) e
+    change-kept t (insertChecks 2 false t (under13 rule)) (plannedWords 2 false t rule) (applyWords 2 t rule (plannedWords 2 false t rule)) e
 command-kept t number (Delete deletion) e =
     let id = deletion .id in
-    change-kept t (deleteChecks 2 t id) (deleteWords 2 t id) (applyWords 2 t noRule (deleteWords 2 t id)) e
+    change-kept t (deleteChecks 2 false t id) (deleteWords 2 t id) (applyWords 2 t noRule (deleteWords 2 t id)) e
 command-kept t number (Lookup query) e = refl
 command-kept t number Malformed e = refl
 

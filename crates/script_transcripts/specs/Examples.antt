@@ -14,7 +14,7 @@ use Rattle.layout.specs.Plan.{downCost, upCost, downChain, upChain, bestDown, b
 use Rattle.layout.specs.Plan.{insertChoice}
 use Rattle.plan_words.specs.PlanWords.{writeOf}
 use Rattle.records.specs.Record.{listed, empty, rankFits, soundParts, recordOf, putSlot, slotMatches}
-use Rattle.records.specs.Order.{distinct, precedes, tied, sameId, samePattern, equalRule, misordered}
+use Rattle.records.specs.Order.{distinct, precedes, tied, sameId, samePattern, equalRule, replaceable, misordered}
 use Rattle.records.specs.Checks.{lowest, shaped, checkShape, unsoundAt, checkRecords, twiceAt, checkTwice, disorderAt, checkOrder, slotChecks}
 use Rattle.records.specs.Checks.{tableChecks, firstMatch}
 use Rattle.records.specs.Entries.{entries}
@@ -72,5 +72,5 @@ output =
     77 ∷ 10 ∷ []
 
 document-script : scriptOutcome input .printed ≡ output
-unfolding input output scriptOutcome answered linesOf lastKept firstPart parts every decimalOn digitsOf digitsIn isNumber binary symbolWord letterOf tableCommand insertCommand deleteCommand lookupCommand shortCommand longCommand commandOf tableOutcome insertOutcome deleteOutcome planBytes printedWrites writeOf putSlot hitAt matchTold lookupAnswer firstMatch slotMatches matches all any least afterLast agree inside both overlaps within minimum lowestOf highestOf windowEnd costs nextSlot steps moves downCost upCost downChain upChain bestDown bestUp slotDown slotUp choose afterPreceding firstDependant insertChoice listed empty rankFits fullMask soundParts recordOf distinct precedes tied sameId samePattern equalRule misordered entries lowest shaped checkShape unsoundAt checkRecords twiceAt checkTwice disorderAt checkOrder slotChecks tableChecks checkGiven checkSound checkEdition knownEdition ranked rankOf checkKnown checkTie checkFull afterA slotB checkCrossed replacedSlot replaces newChecks placeChecks ruleChecks insertChecks hasId slotOfId checkId checkUnknown deleteChecks
+unfolding input output scriptOutcome answered linesOf lastKept firstPart parts every decimalOn digitsOf digitsIn isNumber binary symbolWord letterOf tableCommand insertCommand deleteCommand lookupCommand shortCommand longCommand commandOf tableOutcome insertOutcome deleteOutcome planBytes printedWrites writeOf putSlot hitAt matchTold lookupAnswer firstMatch slotMatches matches all any least afterLast agree inside both overlaps within minimum lowestOf highestOf windowEnd costs nextSlot steps moves downCost upCost downChain upChain bestDown bestUp slotDown slotUp choose afterPreceding firstDependant insertChoice listed empty rankFits fullMask soundParts recordOf distinct precedes tied sameId samePattern equalRule replaceable misordered entries lowest shaped checkShape unsoundAt checkRecords twiceAt checkTwice disorderAt checkOrder slotChecks tableChecks checkGiven checkSound checkEdition knownEdition ranked rankOf checkKnown checkTie checkFull afterA slotB checkCrossed replacedSlot replaces newChecks placeChecks ruleChecks insertChecks hasId slotOfId checkId checkUnknown deleteChecks
 document-script = refl

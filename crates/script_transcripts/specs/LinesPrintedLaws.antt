@@ -97,36 +97,36 @@ parted-printed words (copies, slot, e) =
 
 -- an accepted insert's words are copies and then the put-in, of a replacement the put-in alone
 insert-parted : (t : List ℕ) (rule : Rule) → rule .action < 4294967296
-    → InsertableGiven 2 t (under13 rule) ⊎ ((s : ℕ) × ReplacingGiven 2 t (under13 rule) s) → Parted (map writeOf (plannedWords 2 t rule))
+    → InsertableGiven 2 false t (under13 rule) ⊎ ((s : ℕ) × ReplacingGiven 2 false t (under13 rule) s) → Parted (map writeOf (plannedWords 2 false t rule))
 unfolding Parted ranked rankOf
 insert-parted t rule small (inl p) =
-    let is = planned-fresh 2 t rule (insertable-fresh 2 t rule (p .insertable .new) (p .insertable .untied)) in
-    subst (λ (words : List ℕ). Parted (map writeOf words)) (sym is) (⊎-elim sequence-parted sequence-parted (shortest-words 2 t (under13 rule) small p .class))
+    let is = planned-fresh 2 false t rule (insertable-fresh 2 false t rule (p .insertable)) in
+    subst (λ (words : List ℕ). Parted (map writeOf words)) (sym is) (⊎-elim sequence-parted sequence-parted (shortest-words 2 false t (under13 rule) small p .class))
 insert-parted t rule small (inr (s, p)) =
-    let is = planned-replaced 2 t rule s (p .replacing) in
-    let puts = replacement-word 2 t rule small s (p .replacing) in
+    let is = planned-replaced 2 false t rule s (p .replacing) in
+    let puts = replacement-word 2 false t rule small s (p .replacing) in
     subst (λ (words : List ℕ). Parted (map writeOf words)) (sym is) ([], s, ap (λ (x : Write). x ∷ []) puts)
 
 -- An accepted I line prints `P count`, a line for each write of its plan, in order, and makes these writes.
 pub insert-printed : (t : List ℕ) (number : ℕ) (line : List ℕ) (insertion : Insertion) → commandOf line ≡ Insert insertion
-    → insertChecks 2 t (under13 (insertedRule insertion)) ≡ Pass
-    → InsertPrinted (plannedWords 2 t (insertedRule insertion)) (lineOutcome t number line .printed)
-    × (lineOutcome t number line .table ≡ applyWords 2 t (insertedRule insertion) (plannedWords 2 t (insertedRule insertion)))
+    → insertChecks 2 false t (under13 (insertedRule insertion)) ≡ Pass
+    → InsertPrinted (plannedWords 2 false t (insertedRule insertion)) (lineOutcome t number line .printed)
+    × (lineOutcome t number line .table ≡ applyWords 2 t (insertedRule insertion) (plannedWords 2 false t (insertedRule insertion)))
 unfolding insertOutcome ranked rankOf
 insert-printed t number line insertion e pass =
     let rule = insertedRule insertion in
     let small : Small (Insert insertion) = subst Small e (line-small line) in
-    let parted = insert-parted t rule small (insertable-law 2 t (under13 rule) .0 pass) in
-    rw (e, pass) (parted-printed (plannedWords 2 t rule) parted, refl)
+    let parted = insert-parted t rule small (insertable-law 2 false t (under13 rule) .0 pass) in
+    rw (e, pass) (parted-printed (plannedWords 2 false t rule) parted, refl)
 
 -- An accepted D line prints `P 1` and `E slot`, the slot of the rule to delete, and empties that slot.
-pub delete-printed : (t : List ℕ) (number : ℕ) (line : List ℕ) (deletion : Deletion) → commandOf line ≡ Delete deletion → deleteChecks 2 t (deletion .id) ≡ Pass
+pub delete-printed : (t : List ℕ) (number : ℕ) (line : List ℕ) (deletion : Deletion) → commandOf line ≡ Delete deletion → deleteChecks 2 false t (deletion .id) ≡ Pass
     → (slot : ℕ) × (hasId 2 t (deletion .id) slot ≡ true) × (lineOutcome t number line .printed ≡ ended (countLine 1 ∷ emptyingLine slot ∷ []))
     × (lineOutcome t number line .table ≡ putSlot 2 t slot (vacant 2))
 unfolding deleteOutcome
 delete-printed t number line deletion e pass =
-    let planned = delete-planned 2 t (deletion .id) pass in
-    let shape = shaped-slots 2 t (slot-checks-law 2 t .0 (table-checks-law 2 t .0 (planned .table) .0) .0) in
+    let planned = delete-planned 2 false t (deletion .id) pass in
+    let shape = shaped-slots 2 t (slot-checks-law 2 t .0 (table-checks-law 2 false t .0 (planned .table) .0) .0) in
     let slot = slotOfId 2 t (deletion .id) in
     let back = write-of-word (clear slot) (omega (arith, planned .exists, shape .1)) in
     let lines = plan-lines (deleteWords 2 t (deletion .id)) ∙ ap (λ (x : Write). ended (countLine 1 ∷ writeLine x ∷ [])) back in

@@ -16,7 +16,7 @@ ghost use lib.Dec.{eqb};
 ghost use lib.ListN.{length};
 ghost use Rattle.ternary.specs.Word.{agree, inside};
 ghost use Rattle.ternary.specs.Pattern.{within, fullMask};
-ghost use Rattle.records.specs.Record.{word, recordWords, slotWords, value, mask, rank, empty, ident, rankFits, soundLent, patternMatches, putSlot};
+ghost use Rattle.records.specs.Record.{word, recordWords, slotWords, value, mask, rank, empty, ident, action, rankFits, soundLent, patternMatches, putSlot};
 ghost use Rattle.records.specs.Order.{slots};
 ghost use Rattle.records.specs.Entries.{entryAt};
 ghost use Rattle.records.specs.Checks.{unsoundAt, checkRecords, comparedAt};
@@ -39,7 +39,7 @@ pub fn slot_word(table: &[u64], slot: usize, index: usize, width: usize) -> u64
     table[slot * record_words(width) + index]
 }
 
-// A slot's word of id and action, and its id.
+// A slot's word of id and action, its id, and its action.
 pub fn named_word(table: &[u64], slot: usize, width: usize) -> u64
     requires { ⌜ (Width width) × (slot < slots width (now table)) ⌝ }
     ensures { λ r. ⌜ r ≡ slotWords width (now (table .entry)) slot (2 * width) ⌝ }
@@ -52,6 +52,13 @@ pub fn slot_id(table: &[u64], slot: usize, width: usize) -> u64
     ensures { λ r. ⌜ r ≡ ident width (slotWords width (now (table .entry)) slot) ⌝ }
 {
     named_word(table, slot, width) / 4294967296
+}
+
+pub fn slot_action(table: &[u64], slot: usize, width: usize) -> u64
+    requires { ⌜ (Width width) × (slot < slots width (now table)) ⌝ }
+    ensures { λ r. ⌜ r ≡ action width (slotWords width (now (table .entry)) slot) ⌝ }
+{
+    named_word(table, slot, width) % 4294967296
 }
 
 // Word `index` of a slot's value, and of its mask.

@@ -117,8 +117,8 @@ fn check_twice(table: &[u64], width: usize) -> Check
 fn check_order(table: &[u64], near: &mut [u16], mode: Mode) -> Check
     requires { ⌜ (Width (mode .width)) × (slots (mode .width) (now table) ≤ mostSlots) × (2 * (slots (mode .width) (now table)) ≤ length (now near)) ⌝ }
     requires { ⌜ checkRecords (mode .width) (now table) ≡ Pass ⌝ }
-    ensures { λ r. ⌜ r ≡ checkOrder (mode .width) (now (table .entry)) ⌝ }
-    ensures { λ _. ⌜ Listed (mode .width) (now (table .entry)) (now (near .exit)) ⌝ }
+    ensures { λ r. ⌜ r ≡ checkOrder (mode .width) (mode .uncounted) (now (table .entry)) ⌝ }
+    ensures { λ _. ⌜ Listed (mode .width) (mode .uncounted) (now (table .entry)) (now (near .exit)) ⌝ }
 {
     let first = fill_near(table, near, mode);
     if first < slot_count(table, mode.width) {
@@ -267,8 +267,8 @@ pub fn check_slots(table: &[u64], width: usize) -> Check
 pub fn check_pairs(table: &[u64], near: &mut [u16], mode: Mode) -> Check
     requires { ⌜ (Width (mode .width)) × (slots (mode .width) (now table) ≤ mostSlots) × (2 * (slots (mode .width) (now table)) ≤ length (now near)) ⌝ }
     requires { ⌜ checkRecords (mode .width) (now table) ≡ Pass ⌝ }
-    ensures { λ r. ⌜ r ≡ orElse (checkTwice (mode .width) (now (table .entry))) (checkOrder (mode .width) (now (table .entry))) ⌝ }
-    ensures { λ r. ⌜ (r ≡ Pass → Listed (mode .width) (now (table .entry)) (now (near .exit))) ⌝ }
+    ensures { λ r. ⌜ r ≡ orElse (checkTwice (mode .width) (now (table .entry))) (checkOrder (mode .width) (mode .uncounted) (now (table .entry))) ⌝ }
+    ensures { λ r. ⌜ (r ≡ Pass → Listed (mode .width) (mode .uncounted) (now (table .entry)) (now (near .exit))) ⌝ }
 {
     let twice = check_twice(table, mode.width);
     if let Check::Fail(cause, spot) = twice {
@@ -280,8 +280,8 @@ pub fn check_pairs(table: &[u64], near: &mut [u16], mode: Mode) -> Check
 // Checks 1 to 4, with the list.
 pub fn check_listed(table: &[u64], near: &mut [u16], mode: Mode) -> Check
     requires { ⌜ (Width (mode .width)) × (2 * mostSlots ≤ length (now near)) ⌝ }
-    ensures { λ r. ⌜ r ≡ tableChecks (mode .width) (now (table .entry)) ⌝ }
-    ensures { λ r. ⌜ (r ≡ Pass → Listed (mode .width) (now (table .entry)) (now (near .exit))) ⌝ }
+    ensures { λ r. ⌜ r ≡ tableChecks (mode .width) (mode .uncounted) (now (table .entry)) ⌝ }
+    ensures { λ r. ⌜ (r ≡ Pass → Listed (mode .width) (mode .uncounted) (now (table .entry)) (now (near .exit))) ⌝ }
 {
     let slots = check_slots(table, mode.width);
     if let Check::Fail(cause, spot) = slots {
@@ -293,7 +293,7 @@ pub fn check_listed(table: &[u64], near: &mut [u16], mode: Mode) -> Check
 // Checks 1 to 4.
 pub fn check_table(table: &[u64], mode: Mode) -> Check
     requires { ⌜ Width (mode .width) ⌝ }
-    ensures { λ r. ⌜ r ≡ tableChecks (mode .width) (now (table .entry)) ⌝ }
+    ensures { λ r. ⌜ r ≡ tableChecks (mode .width) (mode .uncounted) (now (table .entry)) ⌝ }
 {
     let mut near = [0u16; LIST_NUMBERS];
     check_listed(table, &mut near, mode)

@@ -1,6 +1,7 @@
 -- What the exported calls that look up and plan leave: their result, the plan buffer and the lent cells, before and after.
 -- The answers and the plans are the table library's; a key crosses as lent words, a rule as a lent record.
 use mathlib.Core.Path.{_≡_}
+use mathlib.Core.Bool.{Bool}
 use Prim.Native.Nat.{ℕ}
 use lib.ListN.{length}
 use mathlib.Core.List.{List}
@@ -44,10 +45,10 @@ pub record PlanLeft (told : Told) (planned : List ℕ) (result : ℕ) (after : L
   pub spotted : spot′ ≡ spotCell told spot
 
 -- an insert, whose rule is given with the edition e; demand 3 of it too
-pub record InsertLeft (w e : ℕ) (t rule : List ℕ) (result : ℕ) (plan after : List ℕ) (count count′ spot spot′ : ℕ) : Type 0 where
-  pub left : PlanLeft (insertCall w e t rule (length plan)) (insertCallPlan w e t rule plan) result after count count′ spot spot′
-  pub shortest : InsertableCall w e t rule → Demand3 w t (ranked w (lentRule w e rule)) (insertCall w e t rule (length plan)) plan after
+pub record InsertLeft (w : ℕ) (u : Bool) (e : ℕ) (t rule : List ℕ) (result : ℕ) (plan after : List ℕ) (count count′ spot spot′ : ℕ) : Type 0 where
+  pub left : PlanLeft (insertCall w u e t rule (length plan)) (insertCallPlan w u e t rule plan) result after count count′ spot spot′
+  pub shortest : InsertableCall w u e t rule → Demand3 w u t (ranked w (lentRule w e rule)) (insertCall w u e t rule (length plan)) plan after
 
 -- a delete
-abbrev pub DeleteLeft : ℕ → List ℕ → ℕ → ℕ → List ℕ → List ℕ → ℕ → ℕ → ℕ → ℕ → Type 0
-DeleteLeft w t id result plan after = PlanLeft (deleteCall w t id (length plan)) (deleteCallPlan w t id plan) result after
+abbrev pub DeleteLeft : ℕ → Bool → List ℕ → ℕ → ℕ → List ℕ → List ℕ → ℕ → ℕ → ℕ → ℕ → Type 0
+DeleteLeft w u t id result plan after = PlanLeft (deleteCall w u t id (length plan)) (deleteCallPlan w u t id plan) result after

@@ -5,6 +5,7 @@ pub mod images;
 
 ghost use mathlib.Core.Path.{_≡_};
 ghost use Rattle.lookups.specs.Lookup.{partStartCall, partLengthCall};
+ghost use Rattle.marshalling.specs.Cells.{flagOf};
 ghost use Rattle.tcam.specs.Cells.{LookupLeft, InsertLeft, DeleteLeft};
 use delete_plans::plan_delete;
 use insert_plans::plan_insert;
@@ -69,16 +70,18 @@ pub extern "C" fn tcam_slot_record(table: &[u64], width: u32, slot: u32, first: 
 pub extern "C" fn tcam_plan_insert(
     table: &[u64],
     width: u32,
+    uncounted: u32,
     rule: &[u64],
     edition: u32,
     plan: &mut [u32],
     count: &mut u32,
     spot: &mut u32,
 ) -> u32
-    ensures { λ r. ⌜ InsertLeft width edition (now (table .entry)) (now (rule .entry)) r (now (plan .entry)) (now (plan .exit)) (now (count .entry)) (now (count .exit)) (now (spot .entry)) (now (spot .exit)) ⌝ }
+    ensures { λ r. ⌜ InsertLeft width (flagOf uncounted) edition (now (table .entry)) (now (rule .entry)) r (now (plan .entry)) (now (plan .exit)) (now (count .entry)) (now (count .exit)) (now (spot .entry)) (now (spot .exit)) ⌝ }
 {
     let mode = Mode {
         width: width as usize,
+        uncounted: uncounted != 0,
     };
     let answer = plan_insert(table, rule, edition, plan, mode);
     spread(answer, count, spot)
@@ -89,15 +92,17 @@ pub extern "C" fn tcam_plan_insert(
 pub extern "C" fn tcam_plan_delete(
     table: &[u64],
     width: u32,
+    uncounted: u32,
     id: u32,
     plan: &mut [u32],
     count: &mut u32,
     spot: &mut u32,
 ) -> u32
-    ensures { λ r. ⌜ DeleteLeft width (now (table .entry)) id r (now (plan .entry)) (now (plan .exit)) (now (count .entry)) (now (count .exit)) (now (spot .entry)) (now (spot .exit)) ⌝ }
+    ensures { λ r. ⌜ DeleteLeft width (flagOf uncounted) (now (table .entry)) id r (now (plan .entry)) (now (plan .exit)) (now (count .entry)) (now (count .exit)) (now (spot .entry)) (now (spot .exit)) ⌝ }
 {
     let mode = Mode {
         width: width as usize,
+        uncounted: uncounted != 0,
     };
     let answer = plan_delete(table, id, plan, mode);
     spread(answer, count, spot)

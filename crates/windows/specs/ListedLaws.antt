@@ -21,15 +21,15 @@ use Rattle.neighbour_lists.specs.Lists.{Listed, precedesSlot, nextDependant, la
 use Rattle.windows.specs.Windows.{windowEndAt, misplacedAt, endAfter, endBefore, listedEnd}
 
 -- document 01: in a table in order no two rules tie, so the rule in y may not stand before that in i exactly when it depends on it
-pub dependant-after : (w : ℕ) (t : List ℕ) → checkOrder w t ≡ Pass → (i y : ℕ) → i < y → y < slots w t
-    → misordered w (slotWords w t y) (slotWords w t i) ≡ precedes w (slotWords w t i) (slotWords w t y)
-dependant-after w t order i y l h =
+pub dependant-after : (w : ℕ) (u : Bool) (t : List ℕ) → checkOrder w u t ≡ Pass → (i y : ℕ) → i < y → y < slots w t
+    → misordered w u (slotWords w t y) (slotWords w t i) ≡ precedes w u (slotWords w t i) (slotWords w t y)
+dependant-after w u t order i y l h =
     let a = slotWords w t i in
     let b = slotWords w t y in
-    sym (precedes-untied w a b (refuted (λ e.
-    let s = tied-law w a b .0 e in
+    sym (precedes-untied w u a b (refuted (λ e.
+    let s = tied-law w u a b .0 e in
     let o = s .0 in
-    let higher = order-law w t .0 order i y l h (o .0) (o .1) (o .2) (o .3) in
+    let higher = order-law w u t .0 order i y l h (o .0) (o .1) (o .2) (o .3) (o .4) in
     omega (arith, s .1))))
 
 -- the end of a window, told by the search for the nearest dependant, and by that for the nearest preceding rule
@@ -50,14 +50,14 @@ before-search a n few h = pick (decLt 0 a)
     pick (no l) = rw (le-ltb 0 a (omega arith), le-ltb 65535 n few) (omega arith)
 
 -- in a table in order a window ends at the nearest dependant going down, and at the nearest preceding rule going up
-module _ (w : ℕ) (t : List ℕ) (order : checkOrder w t ≡ Pass) (few : slots w t ≤ 65535) (p : ℕ) (h : p < slots w t) where
-  pub window-down : windowEndAt w t false p ≡ endAfter (slots w t) (nextDependant w t p)
+module _ (w : ℕ) (u : Bool) (t : List ℕ) (order : checkOrder w u t ≡ Pass) (few : slots w t ≤ 65535) (p : ℕ) (h : p < slots w t) where
+  pub window-down : windowEndAt w u t false p ≡ endAfter (slots w t) (nextDependant w u t p)
   unfolding windowEndAt misplacedAt nextDependant firstFrom
   window-down =
-      ap (λ (m : ℕ). min (suc m) (slots w t)) (least-cong (slots w t - suc p) (suc p) (λ q l r. dependant-after w t order p q l (omega arith)))
-      ∙ after-search (least (precedesSlot w t p) (slots w t - suc p) (suc p)) (slots w t) few
+      ap (λ (m : ℕ). min (suc m) (slots w t)) (least-cong (slots w t - suc p) (suc p) (λ q l r. dependant-after w u t order p q l (omega arith)))
+      ∙ after-search (least (precedesSlot w u t p) (slots w t - suc p) (suc p)) (slots w t) few
 
-  pub window-up : windowEndAt w t true p ≡ endBefore (slots w t) (lastPreceding w t (slots w t - 1 - p))
+  pub window-up : windowEndAt w u t true p ≡ endBefore (slots w t) (lastPreceding w u t (slots w t - 1 - p))
   unfolding windowEndAt misplacedAt lastPreceding lastBelow
   window-up =
       ap (λ (m : ℕ). min (suc m) (slots w t)) found ∙ before-search a (slots w t) few (omega (arith, law .high))
@@ -66,19 +66,19 @@ module _ (w : ℕ) (t : List ℕ) (order : checkOrder w t ≡ Pass) (few : slots
       s = slots w t - 1 - p
 
       a : ℕ
-      a = afterLast (λ (k : ℕ). precedesSlot w t k s) s
+      a = afterLast (λ (k : ℕ). precedesSlot w u t k s) s
 
-      law : AfterLast (λ (k : ℕ). precedesSlot w t k s) s a
-      law = after-last-law (λ (k : ℕ). precedesSlot w t k s) s
+      law : AfterLast (λ (k : ℕ). precedesSlot w u t k s) s a
+      law = after-last-law (λ (k : ℕ). precedesSlot w u t k s) s
 
-      at : (q : ℕ) → p < q → q < slots w t → misplacedAt w t true p q ≡ precedesSlot w t (slots w t - suc q) s
+      at : (q : ℕ) → p < q → q < slots w t → misplacedAt w u t true p q ≡ precedesSlot w u t (slots w t - suc q) s
       at q l r =
-          ap (λ (k : ℕ). misordered w (slotWords w t k) (slotWords w t (slots w t - suc q))) {x = slots w t - suc p} {y = s} (omega arith)
-          ∙ dependant-after w t order (slots w t - suc q) s (omega arith) (omega arith)
+          ap (λ (k : ℕ). misordered w u (slotWords w t k) (slotWords w t (slots w t - suc q))) {x = slots w t - suc p} {y = s} (omega arith)
+          ∙ dependant-after w u t order (slots w t - suc q) s (omega arith) (omega arith)
 
-      found : least (misplacedAt w t true p) (slots w t - suc p) (suc p) ≡ slots w t - a
+      found : least (misplacedAt w u t true p) (slots w t - suc p) (suc p) ≡ slots w t - a
       found =
-          least-unique (least-law (misplacedAt w t true p) (slots w t - suc p) (suc p))
+          least-unique (least-law (misplacedAt w u t true p) (slots w t - suc p) (suc p))
           (record {
             low = omega (arith, law .high);
             high = omega (arith, law .high);
@@ -87,17 +87,17 @@ module _ (w : ℕ) (t : List ℕ) (order : checkOrder w t ≡ Pass) (few : slots
           })
 
 -- so the list of a table that passes checks 1 to 4 tells its windows
-pub listed-window : (w : ℕ) (t near : List ℕ) → tableChecks w t ≡ Pass → Listed w t near → (up : Bool) (p : ℕ) → p < slots w t
-    → listedEnd near (slots w t) up p ≡ windowEndAt w t up p
+pub listed-window : (w : ℕ) (u : Bool) (t near : List ℕ) → tableChecks w u t ≡ Pass → Listed w u t near → (up : Bool) (p : ℕ) → p < slots w t
+    → listedEnd near (slots w t) up p ≡ windowEndAt w u t up p
 unfolding listedEnd
-listed-window w t near checks list up p h = along up
+listed-window w u t near checks list up p h = along up
   where
-    order : checkOrder w t ≡ Pass
-    order = table-checks-law w t .0 checks .2
+    order : checkOrder w u t ≡ Pass
+    order = table-checks-law w u t .0 checks .2
 
     few : slots w t ≤ 65535
-    few = omega (arith, shaped-slots w t (slot-checks-law w t .0 (table-checks-law w t .0 checks .0) .0) .1)
+    few = omega (arith, shaped-slots w t (slot-checks-law w t .0 (table-checks-law w u t .0 checks .0) .0) .1)
 
-    along : (up : Bool) → listedEnd near (slots w t) up p ≡ windowEndAt w t up p
-    along true = ap (endBefore (slots w t)) (list (slots w t - 1 - p) (omega arith) .1) ∙ sym (window-up w t order few p h)
-    along false = ap (endAfter (slots w t)) (list p h .0) ∙ sym (window-down w t order few p h)
+    along : (up : Bool) → listedEnd near (slots w t) up p ≡ windowEndAt w u t up p
+    along true = ap (endBefore (slots w t)) (list (slots w t - 1 - p) (omega arith) .1) ∙ sym (window-up w u t order few p h)
+    along false = ap (endAfter (slots w t)) (list p h .0) ∙ sym (window-down w u t order few p h)

@@ -11,17 +11,17 @@ use Rattle.records.specs.Record.{slotWords, empty}
 use Rattle.records.specs.Order.{slots, misordered}
 
 -- the rule at position q, later along the direction, stands on the wrong side if it comes before the one at p
-unfoldable pub misplacedAt : ℕ → List ℕ → Bool → ℕ → ℕ → Bool
-misplacedAt w t true p q = misordered w (slotWords w t (slotAt (slots w t) true p)) (slotWords w t (slotAt (slots w t) true q))
-misplacedAt w t false p q = misordered w (slotWords w t (slotAt (slots w t) false q)) (slotWords w t (slotAt (slots w t) false p))
+unfoldable pub misplacedAt : ℕ → Bool → List ℕ → Bool → ℕ → ℕ → Bool
+misplacedAt w u t true p q = misordered w u (slotWords w t (slotAt (slots w t) true p)) (slotWords w t (slotAt (slots w t) true q))
+misplacedAt w u t false p q = misordered w u (slotWords w t (slotAt (slots w t) false q)) (slotWords w t (slotAt (slots w t) false p))
 
 -- one past the last position of p's window: the nearest such rule, or the last position
-unfoldable pub windowEndAt : ℕ → List ℕ → Bool → ℕ → ℕ
-windowEndAt w t up p = min (suc (least (misplacedAt w t up p) (slots w t - suc p) (suc p))) (slots w t)
+unfoldable pub windowEndAt : ℕ → Bool → List ℕ → Bool → ℕ → ℕ
+windowEndAt w u t up p = min (suc (least (misplacedAt w u t up p) (slots w t - suc p) (suc p))) (slots w t)
 
 -- the planner's number for a position: 0 where it is empty, else the end of its window
-unfoldable pub endAt : ℕ → List ℕ → Bool → ℕ → ℕ
-endAt w t up p = cond (empty w (slotWords w t (slotAt (slots w t) up p))) 0 (windowEndAt w t up p)
+unfoldable pub endAt : ℕ → Bool → List ℕ → Bool → ℕ → ℕ
+endAt w u t up p = cond (empty w (slotWords w t (slotAt (slots w t) up p))) 0 (windowEndAt w u t up p)
 
 -- the end of a window among n positions, told by the slot of the nearest dependant going down and of the nearest preceding rule going up;
 -- a number that is no slot's stands for none

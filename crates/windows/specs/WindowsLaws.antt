@@ -33,27 +33,27 @@ pub end-before-none : (n before : ℕ) → n ≤ before → n ≡ endBefore n be
 unfolding endBefore
 end-before-none n before l = rw (le-ltb before n l)
 
-pub window-high : (w : ℕ) (t : List ℕ) (up : Bool) (p : ℕ) → windowEndAt w t up p ≤ slots w t
+pub window-high : (w : ℕ) (u : Bool) (t : List ℕ) (up : Bool) (p : ℕ) → windowEndAt w u t up p ≤ slots w t
 unfolding windowEndAt
-window-high w t up p = omega arith
+window-high w u t up p = omega arith
 
-pub end-high : (w : ℕ) (t : List ℕ) (up : Bool) (p : ℕ) → endAt w t up p ≤ slots w t
+pub end-high : (w : ℕ) (u : Bool) (t : List ℕ) (up : Bool) (p : ℕ) → endAt w u t up p ≤ slots w t
 unfolding endAt windowEndAt
-end-high w t up p = pick (empty w (slotWords w t (slotAt (slots w t) up p)))
+end-high w u t up p = pick (empty w (slotWords w t (slotAt (slots w t) up p)))
   where
-    pick : (b : Bool) → cond b 0 (min (suc (least (misplacedAt w t up p) (slots w t - suc p) (suc p))) (slots w t)) ≤ slots w t
+    pick : (b : Bool) → cond b 0 (min (suc (least (misplacedAt w u t up p) (slots w t - suc p) (suc p))) (slots w t)) ≤ slots w t
     pick true = omega arith
     pick false = omega arith
 
 -- a position that is empty, and one that is not
-pub end-empty : (w : ℕ) (t : List ℕ) (up : Bool) (p : ℕ) → empty w (slotWords w t (slotAt (slots w t) up p)) ≡ true → endAt w t up p ≡ 0
+pub end-empty : (w : ℕ) (u : Bool) (t : List ℕ) (up : Bool) (p : ℕ) → empty w (slotWords w t (slotAt (slots w t) up p)) ≡ true → endAt w u t up p ≡ 0
 unfolding endAt
-end-empty w t up p e = rw e
+end-empty w u t up p e = rw e
 
-pub end-window : (w : ℕ) (t : List ℕ) (up : Bool) (p : ℕ) → empty w (slotWords w t (slotAt (slots w t) up p)) ≡ false
-    → endAt w t up p ≡ windowEndAt w t up p
+pub end-window : (w : ℕ) (u : Bool) (t : List ℕ) (up : Bool) (p : ℕ) → empty w (slotWords w t (slotAt (slots w t) up p)) ≡ false
+    → endAt w u t up p ≡ windowEndAt w u t up p
 unfolding endAt
-end-window w t up p e = rw e
+end-window w u t up p e = rw e
 
 -- one store more of a list that is filled from the front
 pub fill-next : (f : Words) (d : List ℕ) (i : ℕ) → i < length d → set (listed i f ++ drop i d) i (f i) ≡ listed (i + 1) f ++ drop (i + 1) d

@@ -54,8 +54,8 @@ fn window_end(near: &[u16], slots: usize, up: bool, position: usize) -> usize
 // The planner's number for a position: 0 where it is empty, else the end of its window.
 fn end_at(table: &[u64], near: &[u16], up: bool, position: usize, mode: Mode) -> u16
     requires { ⌜ (Width (mode .width)) × (slotsOf (mode .width) (now table) ≤ mostSlots) × (position < slotsOf (mode .width) (now table)) × (2 * (slotsOf (mode .width) (now table)) ≤ length (now near)) ⌝ }
-    requires { ⌜ (tableChecks (mode .width) (now table) ≡ Pass) × Listed (mode .width) (now table) (now near) ⌝ }
-    ensures { λ r. ⌜ r ≡ endAt (mode .width) (now (table .entry)) up position ⌝ }
+    requires { ⌜ (tableChecks (mode .width) (mode .uncounted) (now table) ≡ Pass) × Listed (mode .width) (mode .uncounted) (now table) (now near) ⌝ }
+    ensures { λ r. ⌜ r ≡ endAt (mode .width) (mode .uncounted) (now (table .entry)) up position ⌝ }
 {
     let slots = slot_count(table, mode.width);
     let slot = slot_at(slots, up, position);
@@ -68,8 +68,8 @@ fn end_at(table: &[u64], near: &[u16], up: bool, position: usize, mode: Mode) ->
 // The numbers of all positions, into the front of a lent array.
 fn fill_ends_by(table: &[u64], near: &[u16], up: bool, ends: &mut [u16], mode: Mode)
     requires { ⌜ (Width (mode .width)) × (slotsOf (mode .width) (now table) ≤ mostSlots) × (slotsOf (mode .width) (now table) ≤ length (now ends)) × (2 * (slotsOf (mode .width) (now table)) ≤ length (now near)) ⌝ }
-    requires { ⌜ (tableChecks (mode .width) (now table) ≡ Pass) × Listed (mode .width) (now table) (now near) ⌝ }
-    ensures { λ _. ⌜ now (ends .exit) ≡ listed (slotsOf (mode .width) (now (table .entry))) (endAt (mode .width) (now (table .entry)) up) ++ drop (slotsOf (mode .width) (now (table .entry))) (now (ends .entry)) ⌝ }
+    requires { ⌜ (tableChecks (mode .width) (mode .uncounted) (now table) ≡ Pass) × Listed (mode .width) (mode .uncounted) (now table) (now near) ⌝ }
+    ensures { λ _. ⌜ now (ends .exit) ≡ listed (slotsOf (mode .width) (now (table .entry))) (endAt (mode .width) (mode .uncounted) (now (table .entry)) up) ++ drop (slotsOf (mode .width) (now (table .entry))) (now (ends .entry)) ⌝ }
 {
     let slots = slot_count(table, mode.width);
     let mut position = 0;
@@ -82,12 +82,30 @@ fn fill_ends_by(table: &[u64], near: &[u16], up: bool, ends: &mut [u16], mode: M
 // The same, with the width a constant for the compiler: it makes a copy for each.
 pub fn fill_ends(table: &[u64], near: &[u16], up: bool, ends: &mut [u16], mode: Mode)
     requires { ⌜ (Width (mode .width)) × (slotsOf (mode .width) (now table) ≤ mostSlots) × (slotsOf (mode .width) (now table) ≤ length (now ends)) × (2 * (slotsOf (mode .width) (now table)) ≤ length (now near)) ⌝ }
-    requires { ⌜ (tableChecks (mode .width) (now table) ≡ Pass) × Listed (mode .width) (now table) (now near) ⌝ }
-    ensures { λ _. ⌜ now (ends .exit) ≡ listed (slotsOf (mode .width) (now (table .entry))) (endAt (mode .width) (now (table .entry)) up) ++ drop (slotsOf (mode .width) (now (table .entry))) (now (ends .entry)) ⌝ }
+    requires { ⌜ (tableChecks (mode .width) (mode .uncounted) (now table) ≡ Pass) × Listed (mode .width) (mode .uncounted) (now table) (now near) ⌝ }
+    ensures { λ _. ⌜ now (ends .exit) ≡ listed (slotsOf (mode .width) (now (table .entry))) (endAt (mode .width) (mode .uncounted) (now (table .entry)) up) ++ drop (slotsOf (mode .width) (now (table .entry))) (now (ends .entry)) ⌝ }
 {
     if mode.width == NARROW {
-        fill_ends_by(table, near, up, ends, Mode { width: NARROW });
+        fill_ends_by(
+            table,
+            near,
+            up,
+            ends,
+            Mode {
+                width: NARROW,
+                uncounted: mode.uncounted,
+            },
+        );
     } else {
-        fill_ends_by(table, near, up, ends, Mode { width: WIDE });
+        fill_ends_by(
+            table,
+            near,
+            up,
+            ends,
+            Mode {
+                width: WIDE,
+                uncounted: mode.uncounted,
+            },
+        );
     }
 }

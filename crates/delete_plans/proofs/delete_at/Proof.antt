@@ -20,7 +20,7 @@ use Rattle.delete_plans.proofs.delete_at.Tie as tie
 
 -- the slot is one of at most 1,024
 low : (c : tie.After-slot-of-id) → c .slot-of-id .result ≤ 1024
-low c = omega (arith, c .slot-of-id .ensures, delete-small _ _ _ (sym (c .before .before .before .check-delete .ensures) ∙ c .before .enum-told .given .1))
+low c = omega (arith, c .slot-of-id .ensures, delete-small _ _ _ _ (sym (c .before .before .before .check-delete .ensures) ∙ c .before .enum-told .given .1))
 
 check-delete-requires : tie.Need-check-delete-requires
 check-delete-requires c κs = search needs
@@ -53,7 +53,7 @@ returns-2 : tie.Need-returns-2
 returns-2 c =
     let a = c .before .before .before .before .before .before .before .before .before .before .before .args in
     let plan = now (a .plan) in
-    let checks : Pass ≡ deleteChecks (a .mode .width) (now (a .table)) (a .id) = sym (c .before .before .before .before .before .before .enum-told .given .1) ∙ c .before .before .before .before .before .before .before .before .check-delete .ensures in
+    let checks : Pass ≡ deleteChecks (a .mode .width) (a .mode .uncounted) (now (a .table)) (a .id) = sym (c .before .before .before .before .before .before .enum-told .given .1) ∙ c .before .before .before .before .before .before .before .before .check-delete .ensures in
     let word = c .before .before .before .before .word-of .ensures ∙ ap (λ (slot : ℕ). writeWord (clear slot)) (c .before .before .before .before .before .slot-of-id .ensures) in
     let told = c .before .before .answer-word .ensures in (
       told .0 ∙ ap (λ (x : Check). bufferAnswer x 1 (length plan)) checks,

@@ -19,7 +19,7 @@ returns c =
     let a = c .before .before .before .before .before .before .args in
     let checked = c .before .before .before .check-width .ensures in
     let fails = c .before .known .given .1 in
-    call-refused _ (deletePlan (a .mode .width) (now (a .table)) (a .id) (now (a .plan))) (now (a .plan)) checked fails
+    call-refused _ (deletePlan (a .mode .width) (a .mode .uncounted) (now (a .table)) (a .id) (now (a .plan))) (now (a .plan)) checked fails
 
 enum-told : tie.Need-enum-told
 enum-told c = search needs

@@ -29,9 +29,9 @@ fill-costs-requires c κs =
     bounded p h =
         let a = c .before .before .before .before .before .before .before .before .before .before .before .args in
         let n = slots (a .mode .width) (now (a .table)) in
-        let at : getD (c .before .before .before .before .fill-ends .last .1 .1 .1 .0) p 0 ≡ endAt (a .mode .width) (now (a .table)) (a .up) p =
-        ap (λ (l : List ℕ). getD l p 0) (c .before .before .before .before .fill-ends .ensures) ∙ numbers-front n (endAt (a .mode .width) (now (a .table)) (a .up)) (drop n (now (a .ends))) p h in
-        omega (arith, at, end-high (a .mode .width) (now (a .table)) (a .up) p, c .before .before .before .before .before .before .slot-count .ensures)
+        let at : getD (c .before .before .before .before .fill-ends .last .1 .1 .1 .0) p 0 ≡ endAt (a .mode .width) (a .mode .uncounted) (now (a .table)) (a .up) p =
+        ap (λ (l : List ℕ). getD l p 0) (c .before .before .before .before .fill-ends .ensures) ∙ numbers-front n (endAt (a .mode .width) (a .mode .uncounted) (now (a .table)) (a .up)) (drop n (now (a .ends))) p h in
+        omega (arith, at, end-high (a .mode .width) (a .mode .uncounted) (now (a .table)) (a .up) p, c .before .before .before .before .before .before .slot-count .ensures)
 
 same-length : tie.Need-same-length
 same-length c = search needs
@@ -44,7 +44,7 @@ returns c =
     let a = c .before .before .before .before .before .before .before .before .before .before .before .before .before .before .args in
     let ends = c .before .before .before .before .before .before .before .fill-ends .last .1 .1 .1 .0 in
     let costs = c .before .before .fill-costs .last .1 .0 in
-    costed _ (now (a .table)) (a .up) ends (drop (slots (a .mode .width) (now (a .table))) (now (a .ends))) costs
+    costed _ _ (now (a .table)) (a .up) ends (drop (slots (a .mode .width) (now (a .table))) (now (a .ends))) costs
     (c .before .before .before .before .before .before .before .fill-ends .ensures)
     (subst (λ (n : ℕ). SolvedFrom ends n 0 (costOf costs)) (c .before .before .before .before .before .before .before .before .before .slot-count .ensures) (c .before .before .fill-costs .ensures .solved))
 

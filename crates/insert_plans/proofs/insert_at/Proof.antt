@@ -25,7 +25,7 @@ returns : tie.Need-returns
 unfolding insertChecks
 returns c =
     let a = c .before .before .before .before .before .before .before .before .before .args in
-    buffer-refused (plannedWords (a .mode .width) (now (a .table)) (ranked (a .mode .width) (lentRule (a .mode .width) (a .edition) (now (a .rule))))) (now (a .plan))
+    buffer-refused (plannedWords (a .mode .width) (a .mode .uncounted) (now (a .table)) (ranked (a .mode .width) (lentRule (a .mode .width) (a .edition) (now (a .rule))))) (now (a .plan))
     (failed _ (c .before .before .before .before .check-listed .ensures .0) (c .before .check .given .1)) refl
 
 enum-told : tie.Need-enum-told

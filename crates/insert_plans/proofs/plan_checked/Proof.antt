@@ -26,8 +26,8 @@ plan-between-neighbours-requires : tie.Need-plan-between-neighbours-requires
 plan-between-neighbours-requires c κs =
     let s = c .before .before .before .before .before .before .before in
     let a = s .args in
-    let adds = found-adds (a .mode .width) (now (a .table)) (slotWords (a .mode .width) (now (a .new)) 0) (now (a .plan)) (c .before .enum-told .given .1) (s .pre .1 .0 .1) in
-    (s .pre .0, (s .pre .1 .0 .0, λ e. s .pre .1 .1 (adds .0) (adds .1) (adds .2 ∙ e)))
+    let adds = found-adds (a .mode .width) (a .mode .uncounted) (now (a .table)) (slotWords (a .mode .width) (now (a .new)) 0) (now (a .plan)) (c .before .enum-told .given .1) (s .pre .1 .0 .1) in
+    (s .pre .0, ((s .pre .1 .0 .0, s .pre .1 .0 .2 (adds .0)), λ e. s .pre .1 .1 (adds .0) (adds .1) (adds .2 ∙ e)))
 
 enum-known-found : tie.Need-enum-known-found
 enum-known-found c = search needs
@@ -40,8 +40,8 @@ plan-replacement-requires c κs =
     let s = c .before .before .before .before .before .before .before .before in
     let a = s .args in
     let new = slotWords (a .mode .width) (now (a .new)) 0 in
-    let in-slot : FoundIn (a .mode .width) (now (a .table)) new (Replaces _) = subst (FoundIn (a .mode .width) (now (a .table)) new) (c .before .before .found .given .1) (s .pre .1 .0 .1) in
-    omega (arith, in-slot .0, replaced-equal (a .mode .width) (now (a .table)) new (in-slot .1) .0, table-few (a .mode .width) (now (a .table)) (s .pre .0 .1))
+    let in-slot : FoundIn (a .mode .width) (a .mode .uncounted) (now (a .table)) new (Replaces _) = subst (FoundIn (a .mode .width) (a .mode .uncounted) (now (a .table)) new) (c .before .before .found .given .1) (s .pre .1 .0 .1) in
+    omega (arith, in-slot .0, replaced-equal (a .mode .width) (a .mode .uncounted) (now (a .table)) new (in-slot .1) .0, table-few (a .mode .width) (a .mode .uncounted) (now (a .table)) (s .pre .0 .1))
 
 enum-known-found-2 : tie.Need-enum-known-found-2
 enum-known-found-2 c = search needs
@@ -54,7 +54,7 @@ returns c =
     let s = c .before .before .before .before .before .before .before .before .before .before in
     let a = s .args in
     let plan = now (a .plan) in
-    let adds = found-adds (a .mode .width) (now (a .table)) (slotWords (a .mode .width) (now (a .new)) 0) plan (c .before .before .before .before .enum-told .given .1) (s .pre .1 .0 .1) in
+    let adds = found-adds (a .mode .width) (a .mode .uncounted) (now (a .table)) (slotWords (a .mode .width) (now (a .new)) 0) plan (c .before .before .before .before .enum-told .given .1) (s .pre .1 .0 .1) in
     let check = sym (ap₂ orElse (adds .0) (adds .2)) in
     let told = c .before .before .plan-between-neighbours .ensures in (
       told .0 ∙ ap₂ (λ (x : Check) (l : List ℕ). bufferAnswer x (length l) (length plan)) check (sym (adds .3)),
@@ -68,14 +68,14 @@ returns-2 : tie.Need-returns-2
 returns-2 c =
     let s = c .before .before .before .before .before .before .before .before .before .before .before in
     let a = s .args in
-    let law = found-replaces (a .mode .width) (now (a .table)) (slotWords (a .mode .width) (now (a .new)) 0) (now (a .plan)) (c .before .before .before .before .before .found .given .1) (s .pre .1 .0 .1) in
+    let law = found-replaces (a .mode .width) (a .mode .uncounted) (now (a .table)) (slotWords (a .mode .width) (now (a .new)) 0) (now (a .plan)) (c .before .before .before .before .before .found .given .1) (s .pre .1 .0 .1) in
     let told = c .before .before .plan-replacement .ensures in
     (told .0 ∙ law .0, told .1 ∙ law .1)
 
 returns-3 : tie.Need-returns-3
 returns-3 c =
     let a = c .before .before .before .before .before .before .before .args in
-    found-declined (a .mode .width) (now (a .table)) (slotWords (a .mode .width) (now (a .new)) 0) (now (a .plan)) (c .before .found2 .given .1)
+    found-declined (a .mode .width) (a .mode .uncounted) (now (a .table)) (slotWords (a .mode .width) (now (a .new)) 0) (now (a .plan)) (c .before .found2 .given .1)
 
 pub plan-checked-spec : {M : Type 1} → statement M
 plan-checked-spec =

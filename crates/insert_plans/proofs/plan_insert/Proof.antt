@@ -24,10 +24,11 @@ returns : tie.Need-returns
 returns c =
     let a = c .before .before .before .before .before .before .before .args in
     let w = a .mode .width in
+    let u = a .mode .uncounted in
     let plan = now (a .plan) in
     let checked = c .before .before .before .check-rule .ensures in
     let fails = c .before .lent .given .1 in
-    let refused = call-refused _ (insertPlan w (now (a .table)) (lentRule w (a .edition) (now (a .rule))) plan) plan checked fails in
+    let refused = call-refused _ (insertPlan w u (now (a .table)) (lentRule w (a .edition) (now (a .rule))) plan) plan checked fails in
     (refused .0, (refused .1, λ p. absurd (false≢true (ap passes (sym fails ∙ (checked ∙ rule-law _ _ .1 (p .width, p .words)))))))
 
 enum-told : tie.Need-enum-told
@@ -43,13 +44,14 @@ returns-2 : tie.Need-returns-2
 returns-2 c =
     let a = c .before .before .before .before .before .before .before .before .before .before .args in
     let w = a .mode .width in
+    let u = a .mode .uncounted in
     let given = lentRule w (a .edition) (now (a .rule)) in
     let plan = now (a .plan) in
     let checked = c .before .before .before .before .before .before .check-rule .ensures in
     let pass = c .before .before .before .before .enum-told .given .1 in
     let called = c .before .before .insert-at .ensures in
     let answered = call-answered plan checked pass called in
-    (answered .0, (answered .1, λ p. demand-3-call w (now (a .table)) given plan _ _ (rule-action w (word (now (a .rule)))) (called .0) (called .1) (p .given)))
+    (answered .0, (answered .1, λ p. demand-3-call w u (now (a .table)) given plan _ _ (rule-action w (word (now (a .rule)))) (called .0) (called .1) (p .given)))
 
 pub plan-insert-spec : {M : Type 1} → statement M
 plan-insert-spec =

@@ -10,9 +10,11 @@ use lib.Seq.{take-at}
 use denote.Ref.{now}
 use borrow.Author.Needs.{needs}
 use Rattle.records.specs.Record.{recordWords, slotWords}
-use Rattle.table_checks.specs.SlotsLaws.{table-few}
+use Rattle.records.specs.Checks.{checkRecords}
+use Rattle.records.specs.declared.Check.the-variants.{Pass}
+use Rattle.table_checks.specs.SlotsLaws.{table-few, table-records}
 use Rattle.neighbours.specs.Neighbours.{FoundIn}
-use Rattle.insert_plans.specs.InsertsLaws.{lent-finite, lent-ranked, lent-found}
+use Rattle.insert_plans.specs.InsertsLaws.{lent-passes, lent-finite, lent-ranked, lent-found}
 use Rattle.insert_plans.proofs.plan_listed.Statement.{statement}
 use Rattle.insert_plans.proofs.plan_listed.Tie as tie
 
@@ -31,7 +33,10 @@ part-ranked-end c = search needs
 check-for-insert-requires : tie.Need-check-for-insert-requires
 check-for-insert-requires c κs =
     let s = c .before .before .before .before .before .before in
-    (s .pre .0 .0, table-few (s .args .mode .width) (now (s .args .table)) (s .pre .0 .1), s .pre .1, search needs)
+    let w = s .args .mode .width in
+    let u = s .args .mode .uncounted in
+    let t = now (s .args .table) in
+    (s .pre .0 .0, table-few w u t (s .pre .0 .1), s .pre .1, search needs, table-records w u t (s .pre .0 .1))
 
 sub-plan-checked : tie.Need-sub-plan-checked
 sub-plan-checked c = search needs
@@ -50,17 +55,22 @@ plan-checked-requires c κs =
     let s = c .before .before .before .before .before .before .before .before .before .before .before in
     let a = s .args in
     let w = a .mode .width in
+    let u = a .mode .uncounted in
     let t = now (a .table) in
     let lent = now (a .rule) in
     let called = c .before .before .before .before .check-for-insert in
     let number = c .before .before .before .before .before .before .record-words in
     let long : length (called .last .1 .1 .1 .0) ≡ recordWords w = search needs in
     let front = take-at _ _ _ (long ∙ (sym (number .ensures) ∙ sym (sub-zero (number .result)))) in
-    let ranks = lent-ranked w (a .edition) t lent _ _ (called .ensures .0) (called .ensures .1 .0) in (
+    let ranks = lent-ranked w u (a .edition) t lent _ _ (called .ensures .0) (called .ensures .1 .0) in (
       s .pre .0,
       (
-        (ap length front ∙ long, subst (λ (l : List ℕ). FoundIn w t (slotWords w l 0) (called .result)) (sym front) (called .ensures .1 .1)),
-        λ pass. lent-finite w (a .edition) t lent _ (s .pre .0 .1) (s .pre .1) (sym (called .ensures .0) ∙ pass) (front ∙ ranks pass),
+        (
+          ap length front ∙ long,
+          subst (λ (l : List ℕ). FoundIn w u t (slotWords w l 0) (called .result)) (sym front) (called .ensures .1 .1),
+          λ pass. subst (λ (l : List ℕ). checkRecords w l ≡ Pass) (sym (front ∙ ranks pass)) (lent-passes w u (a .edition) t lent (s .pre .1) (called .ensures .0) pass),
+        ),
+        λ pass. lent-finite w u (a .edition) t lent _ (s .pre .0 .1) (s .pre .1) (sym (called .ensures .0) ∙ pass) (front ∙ ranks pass),
       ),
     )
 
@@ -72,14 +82,15 @@ returns c =
     let s = c .before .before .before .before .before .before .before .before .before .before .before .before .before .before in
     let a = s .args in
     let w = a .mode .width in
+    let u = a .mode .uncounted in
     let t = now (a .table) in
     let lent = now (a .rule) in
     let called = c .before .before .before .before .before .before .before .check-for-insert in
     let number = c .before .before .before .before .before .before .before .before .before .record-words in
     let long : length (called .last .1 .1 .1 .0) ≡ recordWords w = search needs in
     let front = take-at _ _ _ (long ∙ (sym (number .ensures) ∙ sym (sub-zero (number .result)))) in
-    let ranks = lent-ranked w (a .edition) t lent _ _ (called .ensures .0) (called .ensures .1 .0) in
-    let answered = lent-found w (a .edition) t lent _ (now (a .plan)) (s .pre .0 .1) (s .pre .1) _ (called .ensures .0) (λ pass. front ∙ ranks pass) in
+    let ranks = lent-ranked w u (a .edition) t lent _ _ (called .ensures .0) (called .ensures .1 .0) in
+    let answered = lent-found w u (a .edition) t lent _ (now (a .plan)) (s .pre .0 .1) (s .pre .1) _ (called .ensures .0) (λ pass. front ∙ ranks pass) in
     let planned = c .before .before .plan-checked .ensures in
     (planned .0 ∙ answered .0, planned .1 ∙ answered .1)
 

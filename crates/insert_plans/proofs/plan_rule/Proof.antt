@@ -1,6 +1,7 @@
 -- `insert_plans::plan_rule` meets its contract.
 -- The rule of its record is the rule.
 use mathlib.Core.Path.{sym, ap, _∙_}
+use mathlib.Core.Bool.{false}
 use mathlib.Core.List.{List}
 use Prim.Native.Nat.{ℕ}
 use native.Mathlib.Omega.{arith}
@@ -46,9 +47,9 @@ returns c =
     } in
     let same = ap (λ (l : List ℕ). ruleOf 2 (word l)) (c .before .before .before .before .before .record-of .ensures) ∙ rule-of-record 2 (a .rule) fields in
     let called = c .before .before .insert-at .ensures in
-    let told = called .0 ∙ ap (λ (r : Rule). insertAnswer 2 t (under13 r) (length plan)) same in
-    let buffer = called .1 ∙ ap (λ (r : Rule). insertPlan 2 t (under13 r) plan) same in
-    (told, (buffer, demand-3-rule 2 t (a .rule) plan _ _ (fields .action32) told buffer))
+    let told = called .0 ∙ ap (λ (r : Rule). insertAnswer 2 false t (under13 r) (length plan)) same in
+    let buffer = called .1 ∙ ap (λ (r : Rule). insertPlan 2 false t (under13 r) plan) same in
+    (told, (buffer, demand-3-rule 2 false t (a .rule) plan _ _ (fields .action32) told buffer))
 
 pub plan-rule-spec : {M : Type 1} → statement M
 plan-rule-spec =

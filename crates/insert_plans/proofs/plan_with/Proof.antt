@@ -17,11 +17,11 @@ use Rattle.insert_plans.proofs.plan_with.Tie as tie
 
 -- the choice that the planner took is the layout's
 taken : (c : tie.After-choose-insert)
-    → Joined (c .before .before .before .before .before .before .before .before .before .before .before .before .before .before .before .before .before .slot-count .result) (choiceBetween (c .before .before .before .before .before .before .before .before .before .before .before .before .before .before .before .before .before .before .before .before .before .before .before .before .args .mode .width) (now (c .before .before .before .before .before .before .before .before .before .before .before .before .before .before .before .before .before .before .before .before .before .before .before .before .args .table)) (c .before .before .before .before .before .before .before .before .before .before .before .before .before .before .before .before .before .before .before .before .before .before .before .before .args .after) (c .before .before .before .before .before .before .before .before .before .before .before .before .before .before .before .before .before .before .before .before .before .before .before .before .args .dependant)) (c .before .before .before .before .before .before .before .before .before .before .before .before .before .before .costs-along .last .1 .1 .1 .1 .0) (c .before .before .before .before .before .before .before .costs-along2 .last .1 .1 .1 .1 .0) (c .choose-insert .result)
+    → Joined (c .before .before .before .before .before .before .before .before .before .before .before .before .before .before .before .before .before .slot-count .result) (choiceBetween (c .before .before .before .before .before .before .before .before .before .before .before .before .before .before .before .before .before .before .before .before .before .before .before .before .args .mode .width) (c .before .before .before .before .before .before .before .before .before .before .before .before .before .before .before .before .before .before .before .before .before .before .before .before .args .mode .uncounted) (now (c .before .before .before .before .before .before .before .before .before .before .before .before .before .before .before .before .before .before .before .before .before .before .before .before .args .table)) (c .before .before .before .before .before .before .before .before .before .before .before .before .before .before .before .before .before .before .before .before .before .before .before .before .args .after) (c .before .before .before .before .before .before .before .before .before .before .before .before .before .before .before .before .before .before .before .before .before .before .before .before .args .dependant)) (c .before .before .before .before .before .before .before .before .before .before .before .before .before .before .costs-along .last .1 .1 .1 .1 .0) (c .before .before .before .before .before .before .before .costs-along2 .last .1 .1 .1 .1 .0) (c .choose-insert .result)
 taken c =
     let a = c .before .before .before .before .before .before .before .before .before .before .before .before .before .before .before .before .before .before .before .before .before .before .before .before .args in
     let count = c .before .before .before .before .before .before .before .before .before .before .before .before .before .before .before .before .before .slot-count .ensures in
-    choice-joined (a .mode .width) (now (a .table)) _ (a .after) (a .dependant) count (omega (arith, count, c .before .before .before .before .before .before .before .before .before .before .before .before .before .before .before .before .before .before .before .before .before .before .before .before .pre .1 .0 .1)) (c .before .before .before .before .before .before .before .before .before .before .before .before .before .before .costs-along .last .1 .1 .1 .1 .0) (c .before .before .before .before .before .before .before .costs-along2 .last .1 .1 .1 .1 .0)
+    choice-joined (a .mode .width) (a .mode .uncounted) (now (a .table)) _ (a .after) (a .dependant) count (omega (arith, count, c .before .before .before .before .before .before .before .before .before .before .before .before .before .before .before .before .before .before .before .before .before .before .before .before .pre .1 .0 .1)) (c .before .before .before .before .before .before .before .before .before .before .before .before .before .before .costs-along .last .1 .1 .1 .1 .0) (c .before .before .before .before .before .before .before .costs-along2 .last .1 .1 .1 .1 .0)
     (c .before .before .before .before .before .before .before .before .before .before .before .before .before .before .costs-along .ensures) (c .before .before .before .before .before .before .before .costs-along2 .ensures) (c .choose-insert .result) (c .choose-insert .ensures)
 
 slot-count-requires : tie.Need-slot-count-requires
@@ -31,21 +31,21 @@ costs-along-requires : tie.Need-costs-along-requires
 costs-along-requires c κs =
     let start = c .before .before .before .before .before .before .before .before .before in
     let pre = start .pre in
-    let few = table-few (start .args .mode .width) (now (start .args .table)) (pre .0 .1) in
+    let few = table-few (start .args .mode .width) (start .args .mode .uncounted) (now (start .args .table)) (pre .0 .1) in
     ((pre .0 .0, few, omega (arith, pre .1 .1), omega (arith, pre .1 .1), omega (arith, pre .0 .2)), (pre .0 .1, pre .0 .3))
 
 costs-along-requires-2 : tie.Need-costs-along-requires-2
 costs-along-requires-2 c κs =
     let start = c .before .before .before .before .before .before .before .before .before .before .before .before .before .before .before .before in
     let pre = start .pre in
-    let few = table-few (start .args .mode .width) (now (start .args .table)) (pre .0 .1) in
+    let few = table-few (start .args .mode .width) (start .args .mode .uncounted) (now (start .args .table)) (pre .0 .1) in
     ((pre .0 .0, few, omega (arith, pre .1 .1, c .before .before .before .before .before .before .costs-along .kept .1 .1 .1 .0), omega (arith, pre .1 .1), omega (arith, pre .0 .2)), (pre .0 .1, pre .0 .3))
 
 choose-insert-requires : tie.Need-choose-insert-requires
 choose-insert-requires c κs =
     let start = c .before .before .before .before .before .before .before .before .before .before .before .before .before .before .before .before .before .before .before .before .before .before .before in
     let pre = start .pre in
-    let few = table-few (start .args .mode .width) (now (start .args .table)) (pre .0 .1) in
+    let few = table-few (start .args .mode .width) (start .args .mode .uncounted) (now (start .args .table)) (pre .0 .1) in
     let count = c .before .before .before .before .before .before .before .before .before .before .before .before .before .before .before .before .slot-count .ensures in
     (omega arith, omega (arith, count, pre .1 .0 .0), omega (arith, count, pre .1 .1, c .before .before .before .before .before .before .before .before .before .before .before .before .before .costs-along .kept .1 .1 .1 .1 .0), omega (arith, count, pre .1 .1, c .before .before .before .before .before .before .costs-along2 .kept .1 .1 .1 .1 .0))
 
@@ -53,7 +53,7 @@ write-choice-requires : tie.Need-write-choice-requires
 write-choice-requires c κs =
     let start = c .before .before .before .before .before .before .before .before .before .before .before .before .before .before .before .before .before .before .before .before .before .before .before .before .before .before .before in
     let pre = start .pre in
-    let few = table-few (start .args .mode .width) (now (start .args .table)) (pre .0 .1) in
+    let few = table-few (start .args .mode .width) (start .args .mode .uncounted) (now (start .args .table)) (pre .0 .1) in
     let count = c .before .before .before .before .before .before .before .before .before .before .before .before .before .before .before .before .before .before .before .before .slot-count .ensures in
     let j = taken (c .before .before .before) in
     ((omega arith, omega (arith, count, pre .1 .1, c .before .before .before .before .before .before .before .before .before .before .before .before .before .before .before .before .before .costs-along .kept .1 .1 .1 .1 .0), omega (arith, count, pre .1 .1, c .before .before .before .before .before .before .before .before .before .before .costs-along2 .kept .1 .1 .1 .1 .0), j .finite), j .stays)

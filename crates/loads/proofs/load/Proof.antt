@@ -16,7 +16,7 @@ enum-known-known c = search needs
 returns : tie.Need-returns
 returns c =
     let a = c .before .before .before .before .before .before .args in
-    call-refused (loadAnswer (a .mode .width) (a .image .now) (a .table .now)) (loadTable (a .mode .width) (a .image .now) (a .table .now)) (a .table .now)
+    call-refused (loadAnswer (a .mode .width) (a .mode .uncounted) (a .image .now) (a .table .now)) (loadTable (a .mode .width) (a .mode .uncounted) (a .image .now) (a .table .now)) (a .table .now)
     (c .before .before .before .check-width .ensures) (c .before .known .given .1)
 
 enum-told : tie.Need-enum-told

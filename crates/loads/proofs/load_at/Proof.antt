@@ -18,7 +18,7 @@ same-length c = search needs
 returns : tie.Need-returns
 returns c =
     let a = c .before .before .before .before .before .before .before .args in
-    load-wrong (a .mode .width) (a .image .now) (a .table .now) (c .before .before .before .check-fields .ensures) (c .before .check .given .1)
+    load-wrong (a .mode .width) (a .mode .uncounted) (a .image .now) (a .table .now) (c .before .before .before .check-fields .ensures) (c .before .check .given .1)
 
 enum-told : tie.Need-enum-told
 enum-told c = search needs

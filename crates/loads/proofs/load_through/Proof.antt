@@ -60,9 +60,10 @@ returns : tie.Need-returns
 returns c =
     let a = c .before .before .before .before .before .before .before .before .before .before .before .before .before .args in
     let w = a .mode .width in
+    let u = a .mode .uncounted in
     let asked = c .before .before .before .before .before .before .before .before .before .before .before .before .before .pre .1 in
     let built = meant-built w (a .image .now) (length (a .table .now)) (c .before .before .before .before .before .before .before .before .before .number-at .ensures) (asked .1) (c .before .before .before .before .before .before .before .fill .ensures) in
-    load-unsound w (a .image .now) (a .table .now) (asked .0) (c .before .before .before .check-meant .ensures ∙ ap (λ (m : List ℕ). orElse (checkTwice w m) (checkOrder w m)) built) (c .before .check .given .1)
+    load-unsound w u (a .image .now) (a .table .now) (asked .0) (c .before .before .before .check-meant .ensures ∙ ap (λ (m : List ℕ). orElse (checkTwice w m) (checkOrder w u m)) built) (c .before .check .given .1)
 
 enum-told : tie.Need-enum-told
 enum-told c = search needs
@@ -81,9 +82,10 @@ returns-2 : tie.Need-returns-2
 returns-2 c =
     let a = c .before .before .before .before .before .before .before .before .before .before .before .before .before .before .before .before .before .args in
     let w = a .mode .width in
+    let u = a .mode .uncounted in
     let asked = c .before .before .before .before .before .before .before .before .before .before .before .before .before .before .before .before .before .pre .1 in
     let built = meant-built w (a .image .now) (length (a .table .now)) (c .before .before .before .before .before .before .before .before .before .before .before .before .before .number-at .ensures) (asked .1) (c .before .before .before .before .before .before .before .before .before .before .before .fill .ensures) in
-    let p = load-written w (a .image .now) (a .table .now) (asked .0) (c .before .before .before .before .before .before .before .check-meant .ensures ∙ ap (λ (m : List ℕ). orElse (checkTwice w m) (checkOrder w m)) built) (c .before .before .before .before .before .enum-told .given .1) in
+    let p = load-written w u (a .image .now) (a .table .now) (asked .0) (c .before .before .before .before .before .before .before .check-meant .ensures ∙ ap (λ (m : List ℕ). orElse (checkTwice w m) (checkOrder w u m)) built) (c .before .before .before .before .before .enum-told .given .1) in
     (p .0, c .before .before .copy-words .ensures ∙ (built ∙ p .1))
 
 pub load-through-spec : {M : Type 1} → statement M

@@ -1,9 +1,12 @@
 -- `pairs::precedes_pair` meets its contract.
--- Ranks first; the patterns and the ids only where they ask for it.
-use mathlib.Core.Bool.{and-true, and-false}
-use borrow.Author.Tests.{lt-ltb, le-ltb}
+-- Ranks first; then the patterns, and then whether the rules are compared.
+use mathlib.Core.Path.{sym, _∙_}
+use denote.Ref.{now}
+use borrow.Author.Tests.{lt-ltb, le-ltb, not-true, not-false}
 use borrow.Author.Needs.{needs}
+use Rattle.records.specs.Record.{slotWords}
 use Rattle.records.specs.Order.{precedes}
+use Rattle.records.specs.OrderLaws.{pair-ranked, pair-apart, pair-both}
 use Rattle.pairs.proofs.precedes_pair.Statement.{statement}
 use Rattle.pairs.proofs.precedes_pair.Tie as tie
 
@@ -13,18 +16,43 @@ slot-rank-requires c κs = search needs
 slot-rank-requires-2 : tie.Need-slot-rank-requires-2
 slot-rank-requires-2 c κs = search needs
 
-overlapping-rules-requires : tie.Need-overlapping-rules-requires
-overlapping-rules-requires c κs = search needs
-
 returns : tie.Need-returns
 unfolding precedes
-returns c = rw (← c .before .before .slot-rank2 .ensures, ← c .before .before .before .slot-rank .ensures, lt-ltb _ _ (c .before .if1 .taken), and-true) (c .overlapping-rules .ensures)
+returns c =
+    let a = c .before .before .before .before .before .args in
+    rw (← c .before .slot-rank2 .ensures, ← c .before .before .slot-rank .ensures)
+    (pair-ranked (a .mode .width) (a .mode .uncounted) (slotWords (a .mode .width) (now (a .table)) (a .slot)) (slotWords (a .mode .width) (now (a .others)) (a .other)) (le-ltb _ _ (c .if1 .taken)))
+
+slots-overlap-by-requires : tie.Need-slots-overlap-by-requires
+slots-overlap-by-requires c κs = search needs
 
 returns-2 : tie.Need-returns-2
 unfolding precedes
-returns-2 c = rw (← c .before .slot-rank2 .ensures, ← c .before .before .slot-rank .ensures, le-ltb _ _ (c .if1 .left), and-false)
+returns-2 c =
+    let a = c .before .before .before .before .before .before .before .args in
+    pair-apart (a .mode .width) (a .mode .uncounted) (slotWords (a .mode .width) (now (a .table)) (a .slot)) (slotWords (a .mode .width) (now (a .others)) (a .other)) _
+    (sym (c .before .slots-overlap-by .ensures) ∙ not-true _ (c .if2 .taken))
+
+compared-rules-requires : tie.Need-compared-rules-requires
+compared-rules-requires c κs = search needs
+
+returns-3 : tie.Need-returns-3
+unfolding precedes
+returns-3 c =
+    let a = c .before .before .before .before .before .before .before .before .args in
+    c .compared-rules .ensures
+    ∙ pair-both (a .mode .width) (a .mode .uncounted) (slotWords (a .mode .width) (now (a .table)) (a .slot)) (slotWords (a .mode .width) (now (a .others)) (a .other))
+    (sym (c .before .before .slots-overlap-by .ensures) ∙ not-false _ (c .before .if2 .left))
+    (rw (← c .before .before .before .before .slot-rank2 .ensures, ← c .before .before .before .before .before .slot-rank .ensures) (lt-ltb _ _ (c .before .before .before .if1 .left)))
 
 pub precedes-pair-spec : {M : Type 1} → statement M
 precedes-pair-spec =
     tie.close
-    (tie.spec slot-rank-requires slot-rank-requires-2 overlapping-rules-requires returns returns-2)
+    (tie.spec
+    slot-rank-requires
+    slot-rank-requires-2
+    returns
+    slots-overlap-by-requires
+    returns-2
+    compared-rules-requires
+    returns-3)

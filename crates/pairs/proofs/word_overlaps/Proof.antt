@@ -1,7 +1,13 @@
 -- `pairs::word_overlaps` meets its contract.
--- The words read are the two slots'.
-use mathlib.Core.Path.{_∙_}
+-- The words read are the two slots', and the test is the same for either order of them.
+use mathlib.Core.Path.{_≡_, _∙_, ap₂}
+use denote.Ref.{now}
+use Prim.Native.Nat.{ℕ}
+use lib.Bits.{bitAnd, xor-comm, and-comm}
+use lib.Dec.{eqb}
+use Rattle.ternary.specs.Word.{agree, both}
 use borrow.Author.Needs.{needs}
+use Rattle.records.specs.Record.{slotWords, value, mask}
 use Rattle.pairs.proofs.word_overlaps.Statement.{statement}
 use Rattle.pairs.proofs.word_overlaps.Tie as tie
 
@@ -20,8 +26,18 @@ mask-word-requires-2 c κs = search needs
 words-overlap-requires : tie.Need-words-overlap-requires
 words-overlap-requires c κs = search needs
 
+swapped : (value mask other-value other-mask : ℕ) → agree other-value value (both other-mask mask) ≡ agree value other-value (both mask other-mask)
+unfolding agree both
+swapped value mask other-value other-mask = ap₂ (λ (x m : ℕ). eqb (bitAnd x m) 0) (xor-comm other-value value) (and-comm other-mask mask)
+
 returns : tie.Need-returns
-returns c = c .words-overlap .ensures ∙ rw (c .before .mask-word2 .ensures, c .before .before .value-word2 .ensures, c .before .before .before .mask-word .ensures, c .before .before .before .before .value-word .ensures)
+returns c =
+    let a = c .before .before .before .before .before .before .before .args in
+    let words = slotWords (a .width) (now (a .table)) (a .slot) in
+    let others = slotWords (a .width) (now (a .others)) (a .other) in
+    c .words-overlap .ensures
+    ∙ rw (c .before .mask-word2 .ensures, c .before .before .value-word2 .ensures, c .before .before .before .mask-word .ensures, c .before .before .before .before .value-word .ensures)
+    (swapped (value words (a .index)) (mask (a .width) words (a .index)) (value others (a .index)) (mask (a .width) others (a .index)))
 
 pub word-overlaps-spec : {M : Type 1} → statement M
 word-overlaps-spec =

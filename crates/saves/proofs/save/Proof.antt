@@ -17,7 +17,7 @@ enum-known-known c = search needs
 returns : tie.Need-returns
 returns c =
     let a = c .before .before .before .before .before .before .args in
-    call-refused (saveAnswer (a .mode .width) (a .table .now) (length (a .image .now))) (saveBuffer (a .mode .width) (a .table .now) (a .image .now)) (a .image .now)
+    call-refused (saveAnswer (a .mode .width) (a .mode .uncounted) (a .table .now) (length (a .image .now))) (saveBuffer (a .mode .width) (a .mode .uncounted) (a .table .now) (a .image .now)) (a .image .now)
     (c .before .before .before .check-width .ensures) (c .before .known .given .1)
 
 enum-told : tie.Need-enum-told

@@ -6,7 +6,7 @@ use borrow.Author.Needs.{needs}
 use Rattle.records.specs.Checks.{Told}
 use Rattle.records.specs.Editions.{lentRule, ranked}
 use Rattle.insert_plans.specs.Demand3.{Demand3}
-use Rattle.marshalling.specs.Cells.{dataCell, spotCell}
+use Rattle.marshalling.specs.Cells.{flagOf, dataCell, spotCell}
 use Rattle.tcam.proofs.tcam_plan_insert.Statement.{statement}
 use Rattle.tcam.proofs.tcam_plan_insert.Tie as tie
 
@@ -31,7 +31,7 @@ returns c =
         spotted = c .spread .ensures .1 .1 ∙ ap (λ (t : Told). spotCell t (now (a .spot))) (told .0);
       };
       shortest = λ insertable.
-          subst (λ (t : Told). Demand3 (a .width) (now (a .table)) (ranked (a .width) (lentRule (a .width) (a .edition) (now (a .rule)))) t (now (a .plan)) (c .before .before .before .before .before .plan-insert .last .1 .1 .1 .0)) (told .0)
+          subst (λ (t : Told). Demand3 (a .width) (flagOf (a .uncounted)) (now (a .table)) (ranked (a .width) (lentRule (a .width) (a .edition) (now (a .rule)))) t (now (a .plan)) (c .before .before .before .before .before .plan-insert .last .1 .1 .1 .0)) (told .0)
           (told .1 .1 insertable);
     }
 

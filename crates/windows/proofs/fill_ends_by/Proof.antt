@@ -16,7 +16,7 @@ use Rattle.windows.proofs.fill_ends_by.Tie as tie
 
 abbrev Inv-loop : tie.InvT-loop
 Inv-loop table near up ends₀ mode slots position₀ ends position =
-    (position ≤ slots) × (length ends ≡ length ends₀) × (ends ≡ listed position (endAt (mode .width) table up) ++ drop position ends₀)
+    (position ≤ slots) × (length ends ≡ length ends₀) × (ends ≡ listed position (endAt (mode .width) (mode .uncounted) table up) ++ drop position ends₀)
 
 abbrev μ-loop : tie.MeasureT-loop
 μ-loop table near up ends₀ mode slots position₀ ends position = slots - position
@@ -50,7 +50,7 @@ loop-again c =
     let i = c .before .before .loop .position in (
       omega arith,
       length-set (c .before .before .loop .ends) i (c .end-at .result) ∙ inv .1,
-      ap₂ (λ (l : List ℕ) (v : ℕ). set l i v) (inv .2) (c .end-at .ensures) ∙ fill-next (endAt (a .mode .width) (now (a .table)) (a .up)) (now (a .ends)) i (omega arith),
+      ap₂ (λ (l : List ℕ) (v : ℕ). set l i v) (inv .2) (c .end-at .ensures) ∙ fill-next (endAt (a .mode .width) (a .mode .uncounted) (now (a .table)) (a .up)) (now (a .ends)) i (omega arith),
     )
 
 same-length : tie.Need-same-length Inv-loop μ-loop
@@ -60,7 +60,7 @@ returns : tie.Need-returns Inv-loop μ-loop
 returns c =
     let a = c .before .before .before .before .before .before .args in
     let done : c .before .loop .position ≡ slots (a .mode .width) (now (a .table)) = omega arith in
-    c .before .loop .inv .2 ∙ ap (λ (n : ℕ). listed n (endAt (a .mode .width) (now (a .table)) (a .up)) ++ drop n (now (a .ends))) done
+    c .before .loop .inv .2 ∙ ap (λ (n : ℕ). listed n (endAt (a .mode .width) (a .mode .uncounted) (now (a .table)) (a .up)) ++ drop n (now (a .ends))) done
 
 pub fill-ends-by-spec : {M : Type 1} → statement M
 fill-ends-by-spec =

@@ -15,7 +15,7 @@ use Rattle.neighbour_lists.proofs.asking.ask_block.Tie as tie
 
 abbrev Inv-loop : tie.InvT-loop
 Inv-loop table near₀ full free₀ low block some later rank before mode left₀ bad₀ near free left bad =
-    (length near ≡ length near₀) × (length free ≡ length free₀) × InRow (precedesSlot (mode .width) table) (misorderedSlots (mode .width) table) near later block left bad
+    (length near ≡ length near₀) × (length free ≡ length free₀) × InRow (precedesSlot (mode .width) (mode .uncounted) table) (misorderedSlots (mode .width) (mode .uncounted) table) near later block left bad
     × Marks (rankAt (mode .width) table) (occupiedAt (mode .width) table) near full free low later × Inside later block left
 
 abbrev μ-loop : tie.MeasureT-loop
@@ -60,7 +60,7 @@ turned-row : (c : tie.After-needed Inv-loop μ-loop)
     let k = c .before .before .before .before .before .before .before .before .ask-pair in
     let rest = bitAnd (c .before .before .before .drop-bit .result) (c .needed .result) in
     (length (k .last .1 .0) ≡ length (l .near)) × (length (k .last .1 .1 .0) ≡ length (l .free))
-    × InRow (precedesSlot (a .mode .width) (a .table .now)) (misorderedSlots (a .mode .width) (a .table .now)) (k .last .1 .0) (a .later) (a .block) rest (k .result || l .bad)
+    × InRow (precedesSlot (a .mode .width) (a .mode .uncounted) (a .table .now)) (misorderedSlots (a .mode .width) (a .mode .uncounted) (a .table .now)) (k .last .1 .0) (a .later) (a .block) rest (k .result || l .bad)
     × Marks (rankAt (a .mode .width) (a .table .now)) (occupiedAt (a .mode .width) (a .table .now)) (k .last .1 .0) (a .full .now) (k .last .1 .1 .0) (a .low .now) (a .later)
     × Inside (a .later) (a .block) rest
 turned-row c =
@@ -71,8 +71,8 @@ turned-row c =
     let k = c .before .before .before .before .before .before .before .before .ask-pair in
     let e = l .inv .0 in
     let f = l .inv .1 in
-    turn-block (precedesSlot (a .mode .width) (a .table .now)) (misorderedSlots (a .mode .width) (a .table .now)) (rankAt (a .mode .width) (a .table .now)) (occupiedAt (a .mode .width) (a .table .now)) (l .near) (a .full .now) (l .free) (a .low .now) (a .later) (a .block) (l .left) (t .result) (l .bad)
-    (pairing-at (a .mode .width) (a .table .now)) (l .inv .2) (l .inv .3) (l .inv .4) (omega arith) (omega arith) (omega arith) (omega arith) (t .ensures)
+    turn-block (precedesSlot (a .mode .width) (a .mode .uncounted) (a .table .now)) (misorderedSlots (a .mode .width) (a .mode .uncounted) (a .table .now)) (rankAt (a .mode .width) (a .table .now)) (occupiedAt (a .mode .width) (a .table .now)) (l .near) (a .full .now) (l .free) (a .low .now) (a .later) (a .block) (l .left) (t .result) (l .bad)
+    (pairing-at (a .mode .width) (a .mode .uncounted) (a .table .now)) (l .inv .2) (l .inv .3) (l .inv .4) (omega arith) (omega arith) (omega arith) (omega arith) (t .ensures)
     (k .last .1 .0) (k .last .1 .1 .0) (k .result) (c .before .before .before .drop-bit .result) (c .needed .result) (a .rank) (k .ensures .0) (k .ensures .1 .0) (k .ensures .1 .1) (c .before .before .before .drop-bit .ensures) (c .needed .ensures) (p .1 .0 .1)
 
 skip-quiet-requires : tie.Need-skip-quiet-requires Inv-loop μ-loop
@@ -100,9 +100,9 @@ loop-again c =
     let d = c .skip-quiet .ensures in (
       s .0 ∙ l .inv .0,
       s .1 ∙ l .inv .1,
-      skip-row (precedesSlot (a .mode .width) (a .table .now)) (misorderedSlots (a .mode .width) (a .table .now)) (k .last .1 .0) (a .later) (a .block) rest (c .skip-quiet .result) (k .result || l .bad) (s .2) d,
+      skip-row (precedesSlot (a .mode .width) (a .mode .uncounted) (a .table .now)) (misorderedSlots (a .mode .width) (a .mode .uncounted) (a .table .now)) (k .last .1 .0) (a .later) (a .block) rest (c .skip-quiet .result) (k .result || l .bad) (s .2) d,
       s .3,
-      inside-skipped (precedesSlot (a .mode .width) (a .table .now)) (misorderedSlots (a .mode .width) (a .table .now)) (k .last .1 .0) (a .later) (a .block) rest (c .skip-quiet .result) d (s .4),
+      inside-skipped (precedesSlot (a .mode .width) (a .mode .uncounted) (a .table .now)) (misorderedSlots (a .mode .width) (a .mode .uncounted) (a .table .now)) (k .last .1 .0) (a .later) (a .block) rest (c .skip-quiet .result) d (s .4),
     )
 
 same-length : tie.Need-same-length Inv-loop μ-loop

@@ -15,7 +15,7 @@ rules-overlap-requires c κs = search needs
 returns : tie.Need-returns
 returns c =
     let a = c .before .before .before .before .before .args in
-    let e = pair-apart (a .mode .width) (slotWords (a .mode .width) (a .table .now) (a .slot)) (slotWords (a .mode .width) (a .table .now) (a .later)) (c .before .rules-overlap .ensures) (not-true _ (c .if1 .taken)) in
+    let e = pair-apart (a .mode .width) (a .mode .uncounted) (slotWords (a .mode .width) (a .table .now) (a .slot)) (slotWords (a .mode .width) (a .table .now) (a .later)) (c .before .rules-overlap .ensures) (not-true _ (c .if1 .taken)) in
     (sym (e .0), (asked-no (a .near .now) (a .slot) (a .later) (e .1), asked-free-no (a .near .now) (a .free .now) (a .slot) (e .1)))
 
 slot-rank-requires : tie.Need-slot-rank-requires
@@ -25,7 +25,7 @@ returns-2 : tie.Need-returns-2
 returns-2 c =
     let a = c .before .before .before .before .before .before .before .args in
     let p = c .before .before .before .before .before .before .before .pre in
-    let e = pair-rising (a .mode .width) (slotWords (a .mode .width) (a .table .now) (a .slot)) (slotWords (a .mode .width) (a .table .now) (a .later)) (c .before .before .before .rules-overlap .ensures) (not-false _ (c .before .before .if1 .left)) (rw (c .before .slot-rank .ensures, p .1 .1) at (c .if2 .taken)) in
+    let e = pair-rising (a .mode .width) (a .mode .uncounted) (slotWords (a .mode .width) (a .table .now) (a .slot)) (slotWords (a .mode .width) (a .table .now) (a .later)) (c .before .before .before .rules-overlap .ensures) (not-false _ (c .before .before .if1 .left)) (rw (c .before .slot-rank .ensures, p .1 .1) at (c .if2 .taken)) in
     (sym (e .0), (asked-no (a .near .now) (a .slot) (a .later) (e .1), asked-free-no (a .near .now) (a .free .now) (a .slot) (e .1)))
 
 keep-pair-requires : tie.Need-keep-pair-requires
@@ -42,7 +42,7 @@ returns-3 c =
     let a = c .before .before .before .before .before .before .before .before .before .before .before .before .before .before .args in
     let p = c .before .before .before .before .before .before .before .before .before .before .before .before .before .before .pre in
     let k = c .before .before .before .before .keep-pair .ensures in
-    let e = pair-falling (a .mode .width) (slotWords (a .mode .width) (a .table .now) (a .slot)) (slotWords (a .mode .width) (a .table .now) (a .later)) (c .before .before .before .before .before .before .before .before .before .before .rules-overlap .ensures) (not-false _ (c .before .before .before .before .before .before .before .before .before .if1 .left)) (rw (c .before .before .before .before .before .before .before .before .slot-rank .ensures, p .1 .1) at (c .before .before .before .before .before .before .before .if2 .left)) in
+    let e = pair-falling (a .mode .width) (a .mode .uncounted) (slotWords (a .mode .width) (a .table .now) (a .slot)) (slotWords (a .mode .width) (a .table .now) (a .later)) (c .before .before .before .before .before .before .before .before .before .before .rules-overlap .ensures) (not-false _ (c .before .before .before .before .before .before .before .before .before .if1 .left)) (rw (c .before .before .before .before .before .before .before .before .slot-rank .ensures, p .1 .1) at (c .before .before .before .before .before .before .before .if2 .left)) in
     (sym (e .0), (k .0 ∙ asked-yes (a .near .now) (a .slot) (a .later) (e .1), k .1 ∙ asked-free-yes (a .near .now) (a .free .now) (a .slot) (e .1)))
 
 pub ask-pair-spec : {M : Type 1} → statement M

@@ -10,7 +10,7 @@ use Rattle.neighbour_lists.proofs.asking.ask_row.Tie as tie
 
 abbrev Inv-loop : tie.InvT-loop
 Inv-loop table near₀ full free₀ low maps rows used later mode rank block₀ bad₀ near free block bad =
-    (length near ≡ length near₀) × (length free ≡ length free₀) × (block ≤ 16) × InRow (precedesSlot (mode .width) table) (misorderedSlots (mode .width) table) near later block 0 bad
+    (length near ≡ length near₀) × (length free ≡ length free₀) × (block ≤ 16) × InRow (precedesSlot (mode .width) (mode .uncounted) table) (misorderedSlots (mode .width) (mode .uncounted) table) near later block 0 bad
     × Marks (rankAt (mode .width) table) (occupiedAt (mode .width) table) near full free low later
 
 abbrev μ-loop : tie.MeasureT-loop

@@ -22,7 +22,7 @@ returns c =
     let p = c .before .before .before .before .before .before .before .before .before .before .before .pre in
     let n = c .before .needed in (
       rw (c .if1 .taken) at
-          (begin-row (precedesSlot (a .mode .width) (a .table .now)) (misorderedSlots (a .mode .width) (a .table .now)) (rankAt (a .mode .width) (a .table .now)) (occupiedAt (a .mode .width) (a .table .now)) (a .near .now) (a .full .now) (a .free .now) (a .low .now) (a .later) (a .block) (pairing-at (a .mode .width) (a .table .now)) (p .1 .1 .1 .0) (a .before) (n .result) (a .rank) (n .ensures) (p .1 .0 .1) (p .1 .1 .0)),
+          (begin-row (precedesSlot (a .mode .width) (a .mode .uncounted) (a .table .now)) (misorderedSlots (a .mode .width) (a .mode .uncounted) (a .table .now)) (rankAt (a .mode .width) (a .table .now)) (occupiedAt (a .mode .width) (a .table .now)) (a .near .now) (a .full .now) (a .free .now) (a .low .now) (a .later) (a .block) (pairing-at (a .mode .width) (a .mode .uncounted) (a .table .now)) (p .1 .1 .1 .0) (a .before) (n .result) (a .rank) (n .ensures) (p .1 .0 .1) (p .1 .1 .0)),
       p .1 .1 .1 .0,
     )
 
@@ -44,13 +44,13 @@ ask-block-requires c κs =
           p .1 .0 .0,
           p .1 .0 .1,
           rw (c .lacking .ensures)
-              (inside-screened (precedesSlot (a .mode .width) (a .table .now)) (misorderedSlots (a .mode .width) (a .table .now)) (a .near .now) (a .maps .now) (a .rows .now) (a .used) (a .later) (a .block) (n .result) (s .result) (a .before) (omega arith) (p .1 .1 .1 .1 .1) (s .ensures) (omega (arith, s .ok))
-              (needed-inside (precedesSlot (a .mode .width) (a .table .now)) (misorderedSlots (a .mode .width) (a .table .now)) (rankAt (a .mode .width) (a .table .now)) (occupiedAt (a .mode .width) (a .table .now)) (a .near .now) (a .full .now) (a .free .now) (a .low .now) (a .later) (a .block) (pairing-at (a .mode .width) (a .table .now)) (p .1 .1 .1 .0) (n .result) (a .rank) (n .ensures))),
+              (inside-screened (precedesSlot (a .mode .width) (a .mode .uncounted) (a .table .now)) (misorderedSlots (a .mode .width) (a .mode .uncounted) (a .table .now)) (a .near .now) (a .maps .now) (a .rows .now) (a .used) (a .later) (a .block) (n .result) (s .result) (a .before) (omega arith) (p .1 .1 .1 .1 .1) (s .ensures) (omega (arith, s .ok))
+              (needed-inside (precedesSlot (a .mode .width) (a .mode .uncounted) (a .table .now)) (misorderedSlots (a .mode .width) (a .mode .uncounted) (a .table .now)) (rankAt (a .mode .width) (a .table .now)) (occupiedAt (a .mode .width) (a .table .now)) (a .near .now) (a .full .now) (a .free .now) (a .low .now) (a .later) (a .block) (pairing-at (a .mode .width) (a .mode .uncounted) (a .table .now)) (p .1 .1 .1 .0) (n .result) (a .rank) (n .ensures))),
         ),
         (
           rw (c .lacking .ensures)
-              (screen-row (precedesSlot (a .mode .width) (a .table .now)) (misorderedSlots (a .mode .width) (a .table .now)) (a .near .now) (a .maps .now) (a .rows .now) (a .used) (a .later) (a .block) (n .result) (s .result) (a .before) (omega arith) (p .1 .1 .1 .1 .1) (s .ensures) (omega (arith, s .ok))
-              (begin-row (precedesSlot (a .mode .width) (a .table .now)) (misorderedSlots (a .mode .width) (a .table .now)) (rankAt (a .mode .width) (a .table .now)) (occupiedAt (a .mode .width) (a .table .now)) (a .near .now) (a .full .now) (a .free .now) (a .low .now) (a .later) (a .block) (pairing-at (a .mode .width) (a .table .now)) (p .1 .1 .1 .0) (a .before) (n .result) (a .rank) (n .ensures) (p .1 .0 .1) (p .1 .1 .0))),
+              (screen-row (precedesSlot (a .mode .width) (a .mode .uncounted) (a .table .now)) (misorderedSlots (a .mode .width) (a .mode .uncounted) (a .table .now)) (a .near .now) (a .maps .now) (a .rows .now) (a .used) (a .later) (a .block) (n .result) (s .result) (a .before) (omega arith) (p .1 .1 .1 .1 .1) (s .ensures) (omega (arith, s .ok))
+              (begin-row (precedesSlot (a .mode .width) (a .mode .uncounted) (a .table .now)) (misorderedSlots (a .mode .width) (a .mode .uncounted) (a .table .now)) (rankAt (a .mode .width) (a .table .now)) (occupiedAt (a .mode .width) (a .table .now)) (a .near .now) (a .full .now) (a .free .now) (a .low .now) (a .later) (a .block) (pairing-at (a .mode .width) (a .mode .uncounted) (a .table .now)) (p .1 .1 .1 .0) (a .before) (n .result) (a .rank) (n .ensures) (p .1 .0 .1) (p .1 .1 .0))),
           p .1 .1 .1 .0,
         ),
       ),

@@ -15,7 +15,7 @@ returns : tie.Need-returns
 returns c =
     let a = c .before .before .before .before .args in
     let p = c .before .before .before .before .pre in
-    λ _. settled-quiet (precedesSlot (a .mode .width) (a .table .now)) (misorderedSlots (a .mode .width) (a .table .now)) (rankAt (a .mode .width) (a .table .now)) (occupiedAt (a .mode .width) (a .table .now)) (a .near .now) (a .slot) (a .later) (a .rank) (pairing-at (a .mode .width) (a .table .now)) (c .before .settled .ensures) (p .1) (c .if1 .taken)
+    λ _. settled-quiet (precedesSlot (a .mode .width) (a .mode .uncounted) (a .table .now)) (misorderedSlots (a .mode .width) (a .mode .uncounted) (a .table .now)) (rankAt (a .mode .width) (a .table .now)) (occupiedAt (a .mode .width) (a .table .now)) (a .near .now) (a .slot) (a .later) (a .rank) (pairing-at (a .mode .width) (a .mode .uncounted) (a .table .now)) (c .before .settled .ensures) (p .1) (c .if1 .taken)
 
 slots-overlap-requires : tie.Need-slots-overlap-requires
 slots-overlap-requires c κs = search needs
@@ -23,7 +23,7 @@ slots-overlap-requires c κs = search needs
 returns-2 : tie.Need-returns-2
 returns-2 c =
     let a = c .before .before .before .before .before .args in
-    λ e. apart-quiet (a .mode .width) (a .table .now) (a .near .now) (a .slot) (a .later) (sym (c .slots-overlap .ensures) ∙ not-true _ e)
+    λ e. apart-quiet (a .mode .width) (a .mode .uncounted) (a .table .now) (a .near .now) (a .slot) (a .later) (sym (c .slots-overlap .ensures) ∙ not-true _ e)
 
 pub quiet-spec : {M : Type 1} → statement M
 quiet-spec = tie.close (tie.spec settled-requires returns slots-overlap-requires returns-2)

@@ -9,13 +9,13 @@ use Rattle.neighbour_lists.proofs.asking.skip_quiet.Statement.{statemen
 use Rattle.neighbour_lists.proofs.asking.skip_quiet.Tie as tie
 
 abbrev Inv-loop : tie.InvT-loop
-Inv-loop table near block some later rank mode left₀ left = Skipped (precedesSlot (mode .width) table) (misorderedSlots (mode .width) table) near later block some left
+Inv-loop table near block some later rank mode left₀ left = Skipped (precedesSlot (mode .width) (mode .uncounted) table) (misorderedSlots (mode .width) (mode .uncounted) table) near later block some left
 
 abbrev μ-loop : tie.MeasureT-loop
 μ-loop table near block some later rank mode left₀ left = left
 
 loop-holds : tie.Need-loop-holds Inv-loop μ-loop
-loop-holds c = let a = c .before .before .args in skip-none (precedesSlot (a .mode .width) (a .table .now)) (misorderedSlots (a .mode .width) (a .table .now)) (a .near .now) (a .later) (a .block) (a .some)
+loop-holds c = let a = c .before .before .args in skip-none (precedesSlot (a .mode .width) (a .mode .uncounted) (a .table .now)) (misorderedSlots (a .mode .width) (a .mode .uncounted) (a .table .now)) (a .near .now) (a .later) (a .block) (a .some)
 
 top-requires : tie.Need-top-requires Inv-loop μ-loop
 top-requires c κs = omega arith
@@ -30,7 +30,7 @@ quiet-requires : tie.Need-quiet-requires Inv-loop μ-loop
 quiet-requires c κs =
     let a = c .before .before .before .before .before .args in
     let p = c .before .before .before .before .before .pre in
-    let h = inside-skipped (precedesSlot (a .mode .width) (a .table .now)) (misorderedSlots (a .mode .width) (a .table .now)) (a .near .now) (a .later) (a .block) (a .some) (c .before .before .loop .left) (c .before .before .loop .inv) (p .1 .1) (c .top .result) (c .top .ensures .hit) in
+    let h = inside-skipped (precedesSlot (a .mode .width) (a .mode .uncounted) (a .table .now)) (misorderedSlots (a .mode .width) (a .mode .uncounted) (a .table .now)) (a .near .now) (a .later) (a .block) (a .some) (c .before .before .loop .left) (c .before .before .loop .inv) (p .1 .1) (c .top .result) (c .top .ensures .hit) in
     ((p .0 .0, h, p .0 .1, p .0 .3), p .1 .0)
 
 returns : tie.Need-returns Inv-loop μ-loop
@@ -50,7 +50,7 @@ loop-again c =
     let l = c .before .before .before .before .before .loop in
     let t = c .before .before .before .top in
     rw (c .drop-bit .ensures)
-    (skip-top (precedesSlot (a .mode .width) (a .table .now)) (misorderedSlots (a .mode .width) (a .table .now)) (a .near .now) (a .later) (a .block) (a .some) (l .left) (t .result) (l .inv) (t .ensures) (c .before .before .quiet .ensures (not-false _ (c .before .if1 .left))))
+    (skip-top (precedesSlot (a .mode .width) (a .mode .uncounted) (a .table .now)) (misorderedSlots (a .mode .width) (a .mode .uncounted) (a .table .now)) (a .near .now) (a .later) (a .block) (a .some) (l .left) (t .result) (l .inv) (t .ensures) (c .before .before .quiet .ensures (not-false _ (c .before .if1 .left))))
 
 returns-2 : tie.Need-returns-2 Inv-loop μ-loop
 returns-2 c = rw (c .loop-test .left) at (c .before .loop .inv)

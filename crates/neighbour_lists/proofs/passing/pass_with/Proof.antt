@@ -45,7 +45,7 @@ take-slots-requires c κs =
           bits = places .2;
           spread = places .3;
         },
-        taken-start (a .mode .width) (a .table .now) (a .places .now) (a .near .now) (replicate 16 0) (replicate 16 0) (replicate 16 65536) (a .maps .now) (zero-word 16) (zero-word 16) (start .pre .1 .1 .1),
+        taken-start (a .mode .width) (a .mode .uncounted) (a .table .now) (a .places .now) (a .near .now) (replicate 16 0) (replicate 16 0) (replicate 16 65536) (a .maps .now) (zero-word 16) (zero-word 16) (start .pre .1 .1 .1),
       ),
     )
 

@@ -36,12 +36,12 @@ ask-row-requires c κs =
       (
         start .pre .0 .3,
         (
-          row-begun (a .mode .width) (a .table .now) (a .places .now) (a .near .now) (a .full .now) (a .free .now) (a .low .now) (a .maps .now) (a .slot) near taken,
+          row-begun (a .mode .width) (a .mode .uncounted) (a .table .now) (a .places .now) (a .near .now) (a .full .now) (a .free .now) (a .low .now) (a .maps .now) (a .slot) near taken,
           (
-            marks-begun (a .mode .width) (a .table .now) (a .places .now) (a .near .now) (a .full .now) (a .free .now) (a .low .now) (a .maps .now) (a .slot) near taken,
+            marks-begun (a .mode .width) (a .mode .uncounted) (a .table .now) (a .places .now) (a .near .now) (a .full .now) (a .free .now) (a .low .now) (a .maps .now) (a .slot) near taken,
             (
               λ m h. row-fits _ (a .count) _ (fill .ensures .1 m h .other .start) (fill .ensures .1 m h .other .known) (room .rows),
-              tells-screen (a .mode .width) (a .table .now) (a .places .now) (a .maps .now) (fill .last .1 .1 .1 .1 .1 .1 .0) (a .count) (a .slot) (fill .result) (taken .screen) (room .inside) (λ m h. fill .ensures .1 m h .other),
+              tells-screen (a .mode .width) (a .mode .uncounted) (a .table .now) (a .places .now) (a .maps .now) (fill .last .1 .1 .1 .1 .1 .1 .0) (a .count) (a .slot) (fill .result) (taken .screen) (room .inside) (λ m h. fill .ensures .1 m h .other),
             ),
           ),
         ),
@@ -120,8 +120,8 @@ returns c =
     let small : a .slot < 1024 = omega (arith, start .pre .0 .1, start .pre .0 .2) in
     let kept = ask .kept .1 .0 ∙ length-set (a .near .now) (2 * a .slot + 1) 65535 in
     let near : 2 * a .slot < length (ask .last .1 .0) = omega (arith, room .numbers, start .pre .0 .2, kept) in (
-      row-told (a .mode .width) (a .table .now) (ask .last .1 .0) (a .slot) (ask .result) (ask .ensures .0),
-      taken-rule (a .mode .width) (a .table .now) (a .places .now) (ask .last .1 .0) (a .full .now) (ask .last .1 .1 .1 .0) (a .low .now) (a .maps .now) (fill .last .1 .1 .1 .1 .1 .1 .0) (fill .last .1 .1 .1 .1 .1 .1 .1 .0)
+      row-told (a .mode .width) (a .mode .uncounted) (a .table .now) (ask .last .1 .0) (a .slot) (ask .result) (ask .ensures .0),
+      taken-rule (a .mode .width) (a .mode .uncounted) (a .table .now) (a .places .now) (ask .last .1 .0) (a .full .now) (ask .last .1 .1 .1 .0) (a .low .now) (a .maps .now) (fill .last .1 .1 .1 .1 .1 .1 .0) (fill .last .1 .1 .1 .1 .1 .1 .1 .0)
           (a .count) (a .slot) (fill .result) (ask .result) near (omega (arith, room .blocks)) (omega (arith, ask .kept .1 .1 .1 .0, room .blocks-free)) (omega (arith, room .blocks-low)) (room .rows) small
           (ask .ensures .0) (ask .ensures .1) (taken .screen) (fill .ensures .1)
           (note .last .0) (note .last .1 .0) (note .last .1 .1 .0) (c .before .before .before .before .before .before .before .before .before .before .before .before .before .note-rows .last .0) (note .ensures .0) (note .ensures .1 .0)

@@ -47,9 +47,9 @@ returns c =
     let near : 2 * a .slot + 1 < length (a .near .now) = omega (arith, start .pre .1 .0 .numbers, start .pre .0 .2) in
     let vacant : empty (a .mode .width) (slotWords (a .mode .width) (a .table .now) (a .slot)) ≡ true
     = sym (c .before .slot-vacant .ensures) ∙ c .if1 .taken in (
-      row-told (a .mode .width) (a .table .now) (set (a .near .now) (2 * a .slot + 1) 65535) (a .slot) false
-          (row-empty (a .mode .width) (a .table .now) (a .places .now) (a .near .now) (a .full .now) (a .free .now) (a .low .now) (a .maps .now) (a .slot) near taken vacant),
-      taken-empty (a .mode .width) (a .table .now) (a .places .now) (a .near .now) (a .full .now) (a .free .now) (a .low .now) (a .maps .now) (a .slot) near taken vacant,
+      row-told (a .mode .width) (a .mode .uncounted) (a .table .now) (set (a .near .now) (2 * a .slot + 1) 65535) (a .slot) false
+          (row-empty (a .mode .width) (a .mode .uncounted) (a .table .now) (a .places .now) (a .near .now) (a .full .now) (a .free .now) (a .low .now) (a .maps .now) (a .slot) near taken vacant),
+      taken-empty (a .mode .width) (a .mode .uncounted) (a .table .now) (a .places .now) (a .near .now) (a .full .now) (a .free .now) (a .low .now) (a .maps .now) (a .slot) near taken vacant,
     )
 
 take-rule-requires : tie.Need-take-rule-requires

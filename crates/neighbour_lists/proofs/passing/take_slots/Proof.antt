@@ -17,10 +17,10 @@ use Rattle.neighbour_lists.proofs.passing.take_slots.Tie as tie
 
 abbrev Inv-loop : tie.InvT-loop
 Inv-loop table near₀ full₀ free₀ low₀ maps₀ places count chosen starts others₀ own₀ mode slots first₀ slot₀ near full free low maps others own first slot =
-    (slot ≤ slots) × (first ≡ least (disorderAt (mode .width) table) slot 0)
+    (slot ≤ slots) × (first ≡ least (disorderAt (mode .width) (mode .uncounted) table) slot 0)
     × (length near ≡ length near₀) × (length full ≡ length full₀) × (length free ≡ length free₀) × (length low ≡ length low₀) × (length maps ≡ length maps₀)
     × (length others ≡ length others₀) × (length own ≡ length own₀)
-    × Taken (mode .width) table places near full free low maps slot
+    × Taken (mode .width) (mode .uncounted) table places near full free low maps slot
 
 abbrev μ-loop : tie.MeasureT-loop
 μ-loop table near₀ full₀ free₀ low₀ maps₀ places count chosen starts others₀ own₀ mode slots first₀ slot₀ near full free low maps others own first slot = slots - slot
@@ -50,7 +50,7 @@ add-first : tie.Need-add-first Inv-loop μ-loop
 add-first c =
     let start = c .before .before .before .before .before .before .before .before .before .before .before .before .before .before .before .before .before .before .before .before .before .before .before .before .before .before .before .before .before .before .before .before .before .before .before .before .before in
     let turn = c .before .before .before .before .before .before .before .before .before .before .before .before .before .before .before .before .before .before .before .before .before .before .before .before .loop in
-    omega (arith, start .pre .0 .1, c .before .before .before .before .before .before .before .before .before .before .before .before .before .before .before .before .before .before .before .before .before .before .before .before .before .slot-count .ensures, c .before .before .before .before .before .before .before .before .before .before .before .before .before .before .before .before .before .before .before .before .before .before .before .loop-test .taken, turn .inv .1, least-law (disorderAt (start .args .mode .width) (start .args .table .now)) (turn .slot) 0 .high)
+    omega (arith, start .pre .0 .1, c .before .before .before .before .before .before .before .before .before .before .before .before .before .before .before .before .before .before .before .before .before .before .before .before .before .slot-count .ensures, c .before .before .before .before .before .before .before .before .before .before .before .before .before .before .before .before .before .before .before .before .before .before .before .loop-test .taken, turn .inv .1, least-law (disorderAt (start .args .mode .width) (start .args .mode .uncounted) (start .args .table .now)) (turn .slot) 0 .high)
 
 add-slot : tie.Need-add-slot Inv-loop μ-loop
 add-slot c = omega (arith, c .before .before .before .before .before .before .before .before .before .before .before .before .before .before .before .before .before .before .before .before .before .before .before .before .before .before .before .before .before .before .before .before .before .before .before .before .before .pre .0 .1, c .before .before .before .before .before .before .before .before .before .before .before .before .before .before .before .before .before .before .before .before .before .before .before .before .before .slot-count .ensures, c .before .before .before .before .before .before .before .before .before .before .before .before .before .before .before .before .before .before .before .before .before .before .before .loop-test .taken)
@@ -66,8 +66,8 @@ loop-again c =
     let take = c .before .before .before .before .before .before .before .before .before .before .before .before .before .before .before .take-slot in (
       omega (arith, c .before .before .before .before .before .before .before .before .before .before .before .before .before .before .before .before .before .before .before .before .before .before .before .loop-test .taken),
       ⊎-elim
-          (λ w. w .1 ∙ least-grows (disorderAt (a .mode .width) (a .table .now)) (turn .slot) (turn .first) (take .result) (i .1) (take .ensures .0) (w .0 .taken))
-          (λ w. w .1 ∙ least-stays (disorderAt (a .mode .width) (a .table .now)) (turn .slot) (turn .first) (take .result) (i .1) (take .ensures .0) (w .0 .left)) (c .if1 .came),
+          (λ w. w .1 ∙ least-grows (disorderAt (a .mode .width) (a .mode .uncounted) (a .table .now)) (turn .slot) (turn .first) (take .result) (i .1) (take .ensures .0) (w .0 .taken))
+          (λ w. w .1 ∙ least-stays (disorderAt (a .mode .width) (a .mode .uncounted) (a .table .now)) (turn .slot) (turn .first) (take .result) (i .1) (take .ensures .0) (w .0 .left)) (c .if1 .came),
       take .kept .1 .0 ∙ i .2,
       take .kept .1 .1 .0 ∙ i .3,
       take .kept .1 .1 .1 .0 ∙ i .4,
@@ -106,7 +106,7 @@ returns c =
     let turn = c .before .loop in
     let done : turn .slot ≡ slots (a .mode .width) (a .table .now) = omega (arith, c .before .before .slot-count .ensures) in (
       rw done at (turn .inv .1),
-      taken-listed (a .mode .width) (a .table .now) (a .places .now) (turn .near) (turn .full) (turn .free) (turn .low) (turn .maps) (omega (arith, start .pre .0 .1)) (rw done at (turn .inv .9)),
+      taken-listed (a .mode .width) (a .mode .uncounted) (a .table .now) (a .places .now) (turn .near) (turn .full) (turn .free) (turn .low) (turn .maps) (omega (arith, start .pre .0 .1)) (rw done at (turn .inv .9)),
     )
 
 pub take-slots-spec : {M : Type 1} → statement M

@@ -15,7 +15,7 @@ use Rattle.neighbours.proofs.checks.after_a_by.Statement.{statement}
 use Rattle.neighbours.proofs.checks.after_a_by.Tie as tie
 
 abbrev Inv-loop : tie.InvT-loop
-Inv-loop table new mode after₀ after = NoneAbove (λ (i : ℕ). precedes (mode .width) (slotWords (mode .width) table i) (slotWords (mode .width) new 0)) (slots (mode .width) table) after
+Inv-loop table new mode after₀ after = NoneAbove (λ (i : ℕ). precedes (mode .width) (mode .uncounted) (slotWords (mode .width) table i) (slotWords (mode .width) new 0)) (slots (mode .width) table) after
 
 abbrev μ-loop : tie.MeasureT-loop
 μ-loop table new mode after₀ after = after
@@ -30,7 +30,7 @@ sub-precedes-pair : tie.Need-sub-precedes-pair Inv-loop μ-loop
 sub-precedes-pair c = omega arith
 
 precedes-pair-requires : tie.Need-precedes-pair-requires Inv-loop μ-loop
-precedes-pair-requires c κs = let e = c .before .before .before .before .before in (e .pre .0, omega arith, lent-slot (e .args .mode .width) (now (e .args .new)) (e .pre .1))
+precedes-pair-requires c κs = let e = c .before .before .before .before .before in ((e .pre .0, omega arith, lent-slot (e .args .mode .width) (now (e .args .new)) (e .pre .1)), (e .pre .2, e .pre .3))
 
 returns : tie.Need-returns Inv-loop μ-loop
 unfolding afterA

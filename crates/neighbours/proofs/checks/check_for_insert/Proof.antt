@@ -11,7 +11,8 @@ use Rattle.records.specs.Laws.{failed, passed}
 use Rattle.records.specs.Widths.{leaves}
 use Rattle.records.specs.declared.Check.{Check}
 use Rattle.records.specs.Editions.{lentRule, rankedRecord}
-use Rattle.records.specs.EditionsLaws.{given-law, ranked-record}
+use Rattle.records.specs.Checks.{checkRecords}
+use Rattle.records.specs.EditionsLaws.{ranked-passes, given-law, ranked-record}
 use Rattle.neighbours.specs.Neighbours.{newChecks, ruleChecks}
 use Rattle.neighbours.proofs.checks.check_for_insert.Statement.{statement}
 use Rattle.neighbours.proofs.checks.check_for_insert.Tie as tie
@@ -38,7 +39,14 @@ rank-record-requires : tie.Need-rank-record-requires
 rank-record-requires c κs = search needs
 
 check-new-requires : tie.Need-check-new-requires
-check-new-requires c κs = search needs
+check-new-requires c κs =
+    let s = c .before .before .before .before .before .before .before .before .before .before .before in
+    let a = s .args in
+    let w = a .mode .width in
+    let lent = now (a .rule) in
+    let pass = sym (c .before .before .before .before .before .before .before .check-given .ensures) ∙ c .before .before .before .before .before .enum-told .given .1 in
+    let sound = ap (λ (l : List ℕ). checkRecords w l) (c .before .before .before .rank-record .ensures) ∙ ranked-passes w (a .edition) lent (s .pre .2) pass in
+    search (needs, sound)
 
 same-length : tie.Need-same-length
 same-length c = search needs
@@ -53,7 +61,7 @@ returns-2 c =
     let ranked = c .before .before .before .before .rank-record .ensures in
     let pass = sym (c .before .before .before .before .before .before .before .before .check-given .ensures) ∙ c .before .before .before .before .before .before .enum-told .given .1 in
     let is = ranked ∙ ranked-record w (a .edition) lent (s .pre .2) (given-law w (lentRule w (a .edition) lent) .0 pass .0) in (
-      passed refl pass (c .check-new .ensures .0 ∙ ap (λ (l : List ℕ). newChecks w (now (a .table)) (slotWords w l 0)) is),
+      passed refl pass (c .check-new .ensures .0 ∙ ap (λ (l : List ℕ). newChecks w (a .mode .uncounted) (now (a .table)) (slotWords w l 0)) is),
       (ranked ∙ ap (λ (x : Check). leaves x (rankedRecord w (a .edition) lent) (now (a .new))) (sym pass), c .check-new .ensures .1),
     )
 

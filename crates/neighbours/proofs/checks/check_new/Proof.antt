@@ -1,5 +1,5 @@
 -- `neighbours::checks::check_new` meets its contract.
--- Where 8 or 9 would decline, the rule that is replaced decides.
+-- Where 8 or 9 would decline, and in a table without counters everywhere, the rule that is replaced decides.
 use mathlib.Core.Path.{sym, _∙_}
 use Prim.{tt}
 use denote.Ref.{now}
@@ -7,7 +7,7 @@ use borrow.Author.Needs.{needs}
 use Rattle.records.specs.Record.{slotWords}
 use Rattle.records.specs.Laws.{failed}
 use Rattle.neighbours.specs.Neighbours.{newChecks}
-use Rattle.neighbours.specs.NeighboursLaws.{new-passed, new-replaces, new-declined, new-adds}
+use Rattle.neighbours.specs.NeighboursLaws.{new-passed, new-searched, new-adds}
 use Rattle.neighbours.proofs.checks.check_new.Statement.{statement}
 use Rattle.neighbours.proofs.checks.check_new.Tie as tie
 
@@ -30,45 +30,36 @@ check-tie-full-requires c κs = search needs
 enum-known-room : tie.Need-enum-known-room
 enum-known-room c = search needs
 
-replaced-slot-requires : tie.Need-replaced-slot-requires
-replaced-slot-requires c κs = search needs
-
-slot-count-requires : tie.Need-slot-count-requires
-slot-count-requires c κs = search needs
-
-cast-t13 : tie.Need-cast-t13
-cast-t13 c = search needs
+found-with-requires : tie.Need-found-with-requires
+found-with-requires c κs = search needs
 
 returns-2 : tie.Need-returns-2
 returns-2 c =
-    let r = c .before .before .before in
-    let a = r .before .before .before .before .before .before .before .before .before .args in
-    let law = new-replaces (a .mode .width) (now (a .table)) (slotWords (a .mode .width) (now (a .new)) 0)
-    (rw (c .before .before .replaced-slot .ensures, c .before .slot-count .ensures) at (c .if1 .taken))
-    (sym (r .before .before .before .before .before .before .check-known .ensures) ∙ r .before .before .before .before .enum-told .given .1) in
-    (law .0, (c .before .before .replaced-slot .ensures, law .1))
-
-returns-3 : tie.Need-returns-3
-returns-3 c =
-    let r = c .before .before .before in
-    let a = r .before .before .before .before .before .before .before .before .before .args in (
-      sym (r .before .room .given .1) ∙ (r .before .before .before .check-tie-full .ensures
-          ∙ new-declined (a .mode .width) (now (a .table)) (slotWords (a .mode .width) (now (a .new)) 0)
-          (rw (c .before .before .replaced-slot .ensures, c .before .slot-count .ensures) at (c .if1 .left))
-          (sym (r .before .before .before .before .before .before .check-known .ensures) ∙ r .before .before .before .before .enum-told .given .1)),
-      tt,
-    )
+    let a = c .before .before .before .before .before .before .before .before .before .before .args in
+    let law = new-searched (a .mode .width) (a .mode .uncounted) (now (a .table)) (slotWords (a .mode .width) (now (a .new)) 0) (sym (c .before .before .room .given .1) ∙ c .before .before .before .before .check-tie-full .ensures)
+    (sym (c .before .before .before .before .before .before .before .check-known .ensures) ∙ c .before .before .before .before .before .enum-told .given .1) in
+    (c .found-with .ensures .0 ∙ law, c .found-with .ensures .1)
 
 enum-told-2 : tie.Need-enum-told-2
 enum-told-2 c = search needs
 
+found-with-requires-2 : tie.Need-found-with-requires-2
+found-with-requires-2 c κs = search needs
+
+returns-3 : tie.Need-returns-3
+returns-3 c =
+    let a = c .before .before .before .before .before .before .before .before .before .before .args in
+    let law = new-searched (a .mode .width) (a .mode .uncounted) (now (a .table)) (slotWords (a .mode .width) (now (a .new)) 0) (sym (c .before .before .enum-told2 .given .1) ∙ c .before .before .before .before .check-tie-full .ensures)
+    (sym (c .before .before .before .before .before .before .before .check-known .ensures) ∙ c .before .before .before .before .before .enum-told .given .1) in
+    (c .found-with2 .ensures .0 ∙ law, c .found-with2 .ensures .1)
+
 returns-4 : tie.Need-returns-4
 returns-4 c =
-    let a = c .before .before .before .before .before .before .before .before .args in
+    let a = c .before .before .before .before .before .before .before .before .before .args in
     let new = slotWords (a .mode .width) (now (a .new)) 0 in
-    let known = sym (c .before .before .before .before .before .check-known .ensures) ∙ c .before .before .before .enum-told .given .1 in (
-      new-passed (a .mode .width) (now (a .table)) new (c .before .before .check-tie-full .ensures) (c .enum-told2 .given .1) known,
-      new-adds (a .mode .width) (now (a .table)) new (c .before .before .check-tie-full .ensures) (c .enum-told2 .given .1) known,
+    let known = sym (c .before .before .before .before .before .before .check-known .ensures) ∙ c .before .before .before .before .enum-told .given .1 in (
+      new-passed (a .mode .width) (a .mode .uncounted) (now (a .table)) new (c .before .before .before .check-tie-full .ensures) (c .before .enum-told2 .given .1) known,
+      new-adds (a .mode .width) (a .mode .uncounted) (now (a .table)) new (c .if1 .left) (c .before .before .before .check-tie-full .ensures) (c .before .enum-told2 .given .1) known,
     )
 
 pub check-new-spec : {M : Type 1} → statement M
@@ -81,10 +72,9 @@ check-new-spec =
     enum-told
     check-tie-full-requires
     enum-known-room
-    replaced-slot-requires
-    slot-count-requires
-    cast-t13
+    found-with-requires
     returns-2
-    returns-3
     enum-told-2
+    found-with-requires-2
+    returns-3
     returns-4)

@@ -15,7 +15,7 @@ use Rattle.neighbours.proofs.checks.check_tie_by.Statement.{statement}
 use Rattle.neighbours.proofs.checks.check_tie_by.Tie as tie
 
 abbrev Inv-loop : tie.InvT-loop
-Inv-loop table new mode slots slot₀ slot = NoneBelow (λ (i : ℕ). tied (mode .width) (slotWords (mode .width) table i) (slotWords (mode .width) new 0)) slots slot
+Inv-loop table new mode slots slot₀ slot = NoneBelow (λ (i : ℕ). tied (mode .width) (mode .uncounted) (slotWords (mode .width) table i) (slotWords (mode .width) new 0)) slots slot
 
 abbrev μ-loop : tie.MeasureT-loop
 μ-loop table new mode slots slot₀ slot = slots - slot
@@ -27,7 +27,7 @@ loop-holds : tie.Need-loop-holds Inv-loop μ-loop
 loop-holds c = none-start _ _
 
 tied-pair-requires : tie.Need-tied-pair-requires Inv-loop μ-loop
-tied-pair-requires c κs = let e = c .before .before .before .before .before in (e .pre .0, omega arith, lent-slot (e .args .mode .width) (now (e .args .new)) (e .pre .2))
+tied-pair-requires c κs = let e = c .before .before .before .before .before in ((e .pre .0, omega arith, lent-slot (e .args .mode .width) (now (e .args .new)) (e .pre .2)), (e .pre .3, e .pre .4))
 
 cast-t9 : tie.Need-cast-t9 Inv-loop μ-loop
 cast-t9 c = omega arith

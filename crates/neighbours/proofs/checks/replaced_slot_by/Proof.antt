@@ -7,14 +7,14 @@ use denote.Ref.{now}
 use borrow.Author.Needs.{needs}
 use Rattle.search.specs.SearchLaws.{NoneBelow, none-start, none-more, least-at, least-none}
 use Rattle.records.specs.Record.{slotWords}
-use Rattle.records.specs.Order.{equalRule}
+use Rattle.records.specs.Order.{replaceable}
 use Rattle.records.specs.WidthsLaws.{lent-slot}
 use Rattle.neighbours.specs.Neighbours.{replacedSlot}
 use Rattle.neighbours.proofs.checks.replaced_slot_by.Statement.{statement}
 use Rattle.neighbours.proofs.checks.replaced_slot_by.Tie as tie
 
 abbrev Inv-loop : tie.InvT-loop
-Inv-loop table new mode slots slot₀ slot = NoneBelow (λ (i : ℕ). equalRule (mode .width) (slotWords (mode .width) table i) (slotWords (mode .width) new 0)) slots slot
+Inv-loop table new mode slots slot₀ slot = NoneBelow (λ (i : ℕ). replaceable (mode .width) (mode .uncounted) (slotWords (mode .width) table i) (slotWords (mode .width) new 0)) slots slot
 
 abbrev μ-loop : tie.MeasureT-loop
 μ-loop table new mode slots slot₀ slot = slots - slot
@@ -25,12 +25,12 @@ slot-count-requires c κs = search needs
 loop-holds : tie.Need-loop-holds Inv-loop μ-loop
 loop-holds c = none-start _ _
 
-equal-pair-requires : tie.Need-equal-pair-requires Inv-loop μ-loop
-equal-pair-requires c κs = let e = c .before .before .before .before .before in (e .pre .0, omega arith, lent-slot (e .args .mode .width) (now (e .args .new)) (e .pre .1))
+replaceable-pair-requires : tie.Need-replaceable-pair-requires Inv-loop μ-loop
+replaceable-pair-requires c κs = let e = c .before .before .before .before .before in (e .pre .0, omega arith, lent-slot (e .args .mode .width) (now (e .args .new)) (e .pre .1))
 
 returns : tie.Need-returns Inv-loop μ-loop
 unfolding replacedSlot
-returns c = sym (least-at _ _ _ (omega arith) (c .before .before .before .loop .inv .1) (sym (c .before .equal-pair .ensures) ∙ c .if1 .taken))
+returns c = sym (least-at _ _ _ (omega arith) (c .before .before .before .loop .inv .1) (sym (c .before .replaceable-pair .ensures) ∙ c .if1 .taken))
 
 add-slot : tie.Need-add-slot Inv-loop μ-loop
 add-slot c = omega arith
@@ -39,7 +39,7 @@ loop-less : tie.Need-loop-less Inv-loop μ-loop
 loop-less c = omega arith
 
 loop-again : tie.Need-loop-again Inv-loop μ-loop
-loop-again c = none-more _ _ _ (c .before .before .before .loop .inv) (omega arith) (sym (c .before .equal-pair .ensures) ∙ c .if1 .left)
+loop-again c = none-more _ _ _ (c .before .before .before .loop .inv) (omega arith) (sym (c .before .replaceable-pair .ensures) ∙ c .if1 .left)
 
 returns-2 : tie.Need-returns-2 Inv-loop μ-loop
 unfolding replacedSlot
@@ -53,7 +53,7 @@ replaced-slot-by-spec =
     μ-loop
     slot-count-requires
     loop-holds
-    equal-pair-requires
+    replaceable-pair-requires
     returns
     add-slot
     loop-less

@@ -14,7 +14,7 @@ use Rattle.neighbours.proofs.checks.slot_b_by.Statement.{statement}
 use Rattle.neighbours.proofs.checks.slot_b_by.Tie as tie
 
 abbrev Inv-loop : tie.InvT-loop
-Inv-loop table new mode slots slot₀ slot = NoneBelow (λ (i : ℕ). precedes (mode .width) (slotWords (mode .width) new 0) (slotWords (mode .width) table i)) slots slot
+Inv-loop table new mode slots slot₀ slot = NoneBelow (λ (i : ℕ). precedes (mode .width) (mode .uncounted) (slotWords (mode .width) new 0) (slotWords (mode .width) table i)) slots slot
 
 abbrev μ-loop : tie.MeasureT-loop
 μ-loop table new mode slots slot₀ slot = slots - slot
@@ -26,7 +26,7 @@ loop-holds : tie.Need-loop-holds Inv-loop μ-loop
 loop-holds c = none-start _ _
 
 precedes-pair-requires : tie.Need-precedes-pair-requires Inv-loop μ-loop
-precedes-pair-requires c κs = let e = c .before .before .before .before .before in (e .pre .0, lent-slot (e .args .mode .width) (now (e .args .new)) (e .pre .1), omega arith)
+precedes-pair-requires c κs = let e = c .before .before .before .before .before in ((e .pre .0, lent-slot (e .args .mode .width) (now (e .args .new)) (e .pre .1), omega arith), (e .pre .3, e .pre .2))
 
 returns : tie.Need-returns Inv-loop μ-loop
 unfolding slotB

@@ -1,11 +1,11 @@
--- `pairs::equal_pair` meets its contract.
+-- `pairs::equal_rules` meets its contract.
 -- Ranks first; then value and mask, and then both slots occupied.
 use mathlib.Core.Bool.{and-false}
 use borrow.Author.Tests.{eq-eqb, ne-eqb}
 use borrow.Author.Needs.{needs}
 use Rattle.records.specs.Order.{equalRule}
-use Rattle.pairs.proofs.equal_pair.Statement.{statement}
-use Rattle.pairs.proofs.equal_pair.Tie as tie
+use Rattle.pairs.proofs.equal_rules.Statement.{statement}
+use Rattle.pairs.proofs.equal_rules.Tie as tie
 
 slot-rank-requires : tie.Need-slot-rank-requires
 slot-rank-requires c κs = search needs
@@ -31,8 +31,8 @@ returns-3 : tie.Need-returns-3
 unfolding equalRule
 returns-3 c = rw (← c .before .same-pattern .ensures, c .if2 .left)
 
-pub equal-pair-spec : {M : Type 1} → statement M
-equal-pair-spec =
+pub equal-rules-spec : {M : Type 1} → statement M
+equal-rules-spec =
     tie.close
     (tie.spec
     slot-rank-requires
