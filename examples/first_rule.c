@@ -35,8 +35,8 @@ int main(void)
     tcam_make_record(rule, WIDTH, 1, 30, bits, bits, 7); /* id, priority, value, mask, action */
 
     uint32_t plan[4], count, spot; /* a plan has at most as many words as the table has slots */
-    uint32_t number = tcam_plan_insert(table, TCAM_WORDS(table), WIDTH, rule, TCAM_WORDS(rule), EDITION, plan, TCAM_WORDS(plan),
-                                       &count, &spot);
+    uint32_t number = tcam_plan_insert(table, TCAM_WORDS(table), WIDTH, TCAM_COUNTED, rule, TCAM_WORDS(rule), EDITION, plan,
+                                       TCAM_WORDS(plan), &count, &spot);
     if (number != TCAM_OK)
         return refused("insert", number, spot);
 

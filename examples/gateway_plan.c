@@ -31,14 +31,14 @@ static void restart(void)
 {
     static uint8_t image[TCAM_IMAGE_BYTES(WIDTH, SLOTS)];
     uint32_t bytes, spot;
-    uint32_t number = tcam_save(table, WORDS, WIDTH, image, sizeof image, &bytes, &spot);
+    uint32_t number = tcam_save(table, WORDS, WIDTH, TCAM_COUNTED, image, sizeof image, &bytes, &spot);
     if (number != TCAM_OK) {
         print_image_refusal("save", number, spot);
         exit(1);
     }
     printf("saved, %" PRIu32 " bytes\n", bytes);
     memset(table, 0, sizeof table);
-    number = tcam_load(image, bytes, table, WORDS, WIDTH, &spot);
+    number = tcam_load(image, bytes, table, WORDS, WIDTH, TCAM_COUNTED, &spot);
     if (number != TCAM_OK) {
         print_image_refusal("load", number, spot);
         exit(1);
@@ -46,7 +46,7 @@ static void restart(void)
     printf("loaded\n");
     print_changes(table, WORDS, frames, FRAMES);
 
-    number = tcam_load(image, bytes - 1, table, WORDS, WIDTH, &spot);
+    number = tcam_load(image, bytes - 1, table, WORDS, WIDTH, TCAM_COUNTED, &spot);
     print_image_refusal("load of a byte less", number, spot);
 }
 
@@ -58,13 +58,13 @@ int main(void)
     print_replies(table, WORDS, frames, FRAMES);
 
     uint32_t number =
-        tcam_plan_insert(table, WORDS, WIDTH, console, RECORD_WORDS, TCAM_EDITION_13, plan, SLOTS, &count, &spot);
+        tcam_plan_insert(table, WORDS, WIDTH, TCAM_COUNTED, console, RECORD_WORDS, TCAM_EDITION_13, plan, SLOTS, &count, &spot);
     if (number != TCAM_OK)
         stop("insert", number, spot);
     printf("insert rule 11, %" PRIu32 " writes\n", count);
     carry_out_and_tell(table, WORDS, plan, count, console, TCAM_EDITION_13, frames, FRAMES);
 
-    number = tcam_plan_delete(table, WORDS, WIDTH, 15, plan, SLOTS, &count, &spot);
+    number = tcam_plan_delete(table, WORDS, WIDTH, TCAM_COUNTED, 15, plan, SLOTS, &count, &spot);
     if (number != TCAM_OK)
         stop("delete", number, spot);
     printf("delete rule 15, %" PRIu32 " write\n", count);

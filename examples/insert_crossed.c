@@ -43,7 +43,8 @@ static void carry_out_plan(const uint32_t *plan, uint32_t count, const uint64_t 
 static void put_in(const uint64_t *rule)
 {
     uint32_t plan[SLOTS], count, spot;
-    uint32_t number = tcam_plan_insert(table, WORDS, WIDTH, rule, RECORD_WORDS, TCAM_EDITION_13, plan, SLOTS, &count, &spot);
+    uint32_t number =
+        tcam_plan_insert(table, WORDS, WIDTH, TCAM_COUNTED, rule, RECORD_WORDS, TCAM_EDITION_13, plan, SLOTS, &count, &spot);
     if (number != TCAM_OK)
         stop("insert", number, spot);
     printf("insert rule %" PRIu32 "\n", tcam_record_id(rule, WIDTH));
@@ -53,7 +54,7 @@ static void put_in(const uint64_t *rule)
 static void take_out(const uint64_t *rule)
 {
     uint32_t plan[1], count, spot;
-    uint32_t number = tcam_plan_delete(table, WORDS, WIDTH, tcam_record_id(rule, WIDTH), plan, 1, &count, &spot);
+    uint32_t number = tcam_plan_delete(table, WORDS, WIDTH, TCAM_COUNTED, tcam_record_id(rule, WIDTH), plan, 1, &count, &spot);
     if (number != TCAM_OK)
         stop("delete", number, spot);
     printf("delete rule %" PRIu32 "\n", tcam_record_id(rule, WIDTH));
@@ -106,7 +107,8 @@ int main(void)
     printf("at the start\n");
     print_replies(table, WORDS, frames, FRAMES);
 
-    uint32_t number = tcam_plan_insert(table, WORDS, WIDTH, web, RECORD_WORDS, TCAM_EDITION_13, plan, SLOTS, &count, &spot);
+    uint32_t number =
+        tcam_plan_insert(table, WORDS, WIDTH, TCAM_COUNTED, web, RECORD_WORDS, TCAM_EDITION_13, plan, SLOTS, &count, &spot);
     print_refusal("insert of rule 23", number, spot);
     if (number != TCAM_CROSSED)
         return 1;

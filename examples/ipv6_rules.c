@@ -99,7 +99,8 @@ static void put_in(const struct entry *entry)
     uint64_t rule[RECORD_WORDS];
     uint32_t plan[SLOTS], count, spot; /* as many words as slots always do */
     make_rule(rule, entry);
-    uint32_t number = tcam_plan_insert(table, WORDS, WIDTH, rule, RECORD_WORDS, TCAM_EDITION_13, plan, SLOTS, &count, &spot);
+    uint32_t number =
+        tcam_plan_insert(table, WORDS, WIDTH, TCAM_COUNTED, rule, RECORD_WORDS, TCAM_EDITION_13, plan, SLOTS, &count, &spot);
     if (number != TCAM_OK)
         stop("insert", number, spot);
     printf("insert rule %" PRIu32 ", %" PRIu32 " %s\n", entry->id, count, count == 1 ? "write" : "writes");
@@ -109,7 +110,7 @@ static void put_in(const struct entry *entry)
 static void take_out(uint32_t id)
 {
     uint32_t plan[1], count, spot;
-    uint32_t number = tcam_plan_delete(table, WORDS, WIDTH, id, plan, 1, &count, &spot);
+    uint32_t number = tcam_plan_delete(table, WORDS, WIDTH, TCAM_COUNTED, id, plan, 1, &count, &spot);
     if (number != TCAM_OK)
         stop("delete", number, spot);
     printf("delete rule %" PRIu32 "\n", id);

@@ -26,7 +26,7 @@ static struct frame frames[] = {
 
 static uint32_t plan_insert(uint32_t *plan, uint32_t *count, uint32_t *spot)
 {
-    return tcam_plan_insert(table, WORDS, WIDTH, console, RECORD_WORDS, TCAM_EDITION_13, plan, SLOTS, count, spot);
+    return tcam_plan_insert(table, WORDS, WIDTH, TCAM_COUNTED, console, RECORD_WORDS, TCAM_EDITION_13, plan, SLOTS, count, spot);
 }
 
 /* Makes writes of the plan, as many as are told or to its end, and tells which replies that changed. */
@@ -82,7 +82,7 @@ int main(void)
 
     printf("the plan is kept: ");
     tcam_progress progress = drop_half_way(plan);
-    uint32_t number = tcam_save(table, WORDS, WIDTH, image, sizeof image, &bytes, &spot);
+    uint32_t number = tcam_save(table, WORDS, WIDTH, TCAM_COUNTED, image, sizeof image, &bytes, &spot);
     if (number != TCAM_OK)
         print_image_refusal("save", number, spot);
     printf("carried on: ");

@@ -30,16 +30,18 @@ int main(void)
     printf("at the start\n");
     print_replies(table, WORDS, frames, FRAMES);
 
-    uint32_t number = tcam_plan_insert(table, WORDS, WIDTH, web, RECORD_WORDS, TCAM_EDITION_13, plan, SLOTS, &count, &spot);
+    uint32_t number =
+        tcam_plan_insert(table, WORDS, WIDTH, TCAM_COUNTED, web, RECORD_WORDS, TCAM_EDITION_13, plan, SLOTS, &count, &spot);
     print_refusal("insert of rule 17", number, spot);
 
-    number = tcam_plan_insert(table, WORDS, WIDTH, moved, RECORD_WORDS, TCAM_EDITION_13, plan, SLOTS, &count, &spot);
+    number =
+        tcam_plan_insert(table, WORDS, WIDTH, TCAM_COUNTED, moved, RECORD_WORDS, TCAM_EDITION_13, plan, SLOTS, &count, &spot);
     if (number != TCAM_OK)
         stop("insert", number, spot);
     printf("insert rule 16, %" PRIu32 " write\n", count);
     carry_out_and_tell(table, WORDS, plan, count, moved, TCAM_EDITION_13, frames, FRAMES);
 
-    if (tcam_plan_delete(table, WORDS, WIDTH, 12, plan, SLOTS, &count, &spot) == TCAM_UNKNOWN)
+    if (tcam_plan_delete(table, WORDS, WIDTH, TCAM_COUNTED, 12, plan, SLOTS, &count, &spot) == TCAM_UNKNOWN)
         printf("rule 12 is gone\n");
     return 0;
 }

@@ -44,11 +44,30 @@
  * table's bytes, 48 or 96 for each slot, are whole records in number too: up to 128 slots they pass for words, so that
  * nothing is refused and the call goes past the table's end.
  *
- * ORDER. Two rules overlap when no bit is cared for by both with different values. The one of higher
- * rank then precedes the other, which depends on it. A table is in order when of any two overlapping
- * rules the one in the lower-numbered slot has the strictly higher rank; copies of one id are not
- * compared with each other. The planning calls and tcam_save ask for a table in order, and tcam_load for an
- * image of one; the other calls do not.
+ * ORDER. Two rules overlap when no bit is cared for by both with different values. They are ordered when they overlap
+ * and, in an uncounted table, their actions differ too. The one of higher rank then precedes the other, which depends
+ * on it. A table is in order when of any two ordered rules the one in the lower-numbered slot has the strictly higher
+ * rank; copies of one id are not compared with each other. The planning calls and tcam_save ask for a table in order,
+ * and tcam_load for an image of one; the other calls do not.
+ *
+ * THE FLAG names a table as counted or as uncounted: 0 (TCAM_COUNTED) is counted, and any other number, 1
+ * (TCAM_UNCOUNTED) or another, is uncounted. It is given, behind the width, with each call that compares rules:
+ * tcam_plan_insert, tcam_plan_delete, tcam_save and tcam_load. A counted table is for a caller who counts frames for
+ * each rule: every key is promised the id of its highest-ranked match. An uncounted table is for one who counts nothing
+ * and sees the action alone:
+ *
+ *   - rules of one action are not ordered, whatever their ranks are, so that a plan may have fewer writes, and an
+ *     insert may be planned that a counted table declines with TCAM_TIE or TCAM_CROSSED;
+ *   - a key is promised the action of the highest-ranked match, and a miss exactly where no rule matches. Several
+ *     matches may have the highest rank: all of them have one action then. The id that tcam_lookup tells is that of a
+ *     matching rule with that action, not always of the highest-ranked one, and it may change from one write of a plan
+ *     to the next while the action stays;
+ *   - several rules of the same value, mask, rank and action may stand in the table, each with its own id.
+ *
+ * A counted table that is in order is in order uncounted too, so that it may be named as uncounted from any call on.
+ * A table that was named as uncounted once is named so in every later call, and so are its images when they are loaded:
+ * what keys are promised, and that its images load, rests on that. The flag stands neither in a table nor in an image.
+ * tcam_lookup, tcam_slot_record and tcam_carry_out take none and treat every table alike.
  *
  * A PLAN is a list of writes, one 32-bit word each, from * 65536 + to (tcam_write_word):
  *
@@ -59,12 +78,15 @@
  * The planning calls draw plans. tcam_carry_out makes one write of a plan per call; the caller may make the
  * writes itself instead, and then puts the new rule in with its rank. What follows holds where the writes of a plan
  * are made one at a time, from the first word to the last, on the table it was drawn for, with the rule and the edition
- * it was drawn for. A key's reply is id and action, or a miss; its slot may change as rules move.
+ * it was drawn for. A key's reply is id and action, or a miss; in an uncounted table it is the action alone, or a miss.
+ * Its slot may change as rules move.
  *
  * A RULE SENT AGAIN. Two rules are equal when they have the same value, mask and rank; ids and actions are not looked
  * at, and an empty slot is equal to no rule. As in OpenFlow, an insert of a rule of a new id that is equal to one
  * present replaces that one: the plan is one write, which puts the new rule over the old one, even in a table without
- * an empty slot. The old rule then counts as deleted. Under edition 10 all rules without wildcards have one rank,
+ * an empty slot. The old rule then counts as deleted. In an uncounted table this is so only if the two actions are the
+ * same: of several such rules the one in the lowest slot is replaced and the others stay, and a rule that is equal to
+ * one of another action is declined with TCAM_TIE. Under edition 10 all rules without wildcards have one rank,
  * whatever their priorities; a rule put in under 10 is not equal to the same one given under 13 if it has no wildcards.
  *
  * Of an insert's plan no write goes over a rule that has no other copy, but for one that is replaced, and the table
@@ -85,10 +107,12 @@
  *
  * So it has 4 + 50 * e bytes at width 2 and 4 + 98 * e at width 5, TCAM_IMAGE_BYTES(width, e), at any address. A saved
  * image loads, into any table of as many slots and of the same width, to the table it was saved from; and an image
- * that loads is saved again to the same bytes. The width does not stand in it: an image of the other width is refused
- * by its length, but for an image without rules, which loads at either. It has no checksum of its own: where a byte
- * has changed and the image is still sound, it loads, to another table. A caller who keeps images where bytes may
- * change keeps a checksum with each.
+ * that loads is saved again to the same bytes. Both calls name the table with the same flag, or the later one as
+ * uncounted where the earlier named it as counted. Neither width nor flag stands in an image. An image of the other
+ * width is refused by its length, but for an image without rules, which loads at either; an image of an uncounted
+ * table may be refused as a counted one, with TCAM_ORDER. It has no checksum of its own: where a byte has changed and
+ * the image is still sound, it loads, to another table. A caller who keeps images where bytes may change keeps a
+ * checksum with each.
  *
  * RESULTS. The result is 0 (TCAM_OK), or the number of the refusal. A refusal also has a spot, which says where
  * the fault is, how much is needed or how much is done: a slot, an offset or a count, as told at each call, and 0
@@ -109,6 +133,8 @@
  *     each other;
  *   - a table is given with its own width in every call. Many lengths are a table's at both widths, as 12 words are
  *     two slots at width 2 and one at width 5: the same words are then read as another table;
+ *   - a table that was named as uncounted in one call is named so in every later one, and so is each image of it: a
+ *     call that names it as counted may decline it, and nothing is promised to its keys from then on;
  *   - a plan is carried out with the rule and the edition that it was drawn for. With another sound rule, or the other
  *     edition, each write that fits is made all the same, and what is said above of replies and of order does not hold;
  *   - until a call returns, nothing else changes what it is lent: a table, a rule, a key, a plan buffer, an image
@@ -138,12 +164,12 @@
  *     tcam_slot_record        128       128
  *     tcam_plan_delete     24,640    24,640
  *     tcam_carry_out          320       320
- *     tcam_plan_insert     30,976    30,976, or 10,752 and 96 for each word of the plan, where that is more
+ *     tcam_plan_insert     30,992    30,992, or 10,752 and 96 for each word of the plan, where that is more
  *     tcam_save            24,704    24,704
  *     tcam_load            74,112   123,264
  *
  * The longest plan, of 1,024 words, takes 109,056 bytes, 106.5 KiB. A plan that does not fit its buffer is
- * not written out, so that a buffer of n words bounds the stack at 10,752 + 96 * n bytes, or at 30,976 where
+ * not written out, so that a buffer of n words bounds the stack at 10,752 + 96 * n bytes, or at 30,992 where
  * that is more. tcam_load builds the whole table on the stack before it writes the lent one.
  */
 #ifndef TCAM_H
@@ -163,6 +189,10 @@ extern "C" {
 /* The editions that a rule is given under: OpenFlow 1.0 and OpenFlow 1.3. */
 #define TCAM_EDITION_10 10u
 #define TCAM_EDITION_13 13u
+
+/* The flag of a table: counted, or uncounted, as which any other number than 0 names it too. */
+#define TCAM_COUNTED 0u
+#define TCAM_UNCOUNTED 1u
 
 /* The highest priority of a rule; and the rank, above it, of a rule without wildcards that was given under 1.0. */
 #define TCAM_MAX_PRIORITY 65535u
@@ -202,11 +232,11 @@ enum tcam_cause {
     TCAM_SHAPE = 1,      /* no such width, or not its words. lookup, plan_insert, plan_delete, carry_out, save, load */
     TCAM_RECORD = 2,     /* a slot neither empty nor a sound rule. lookup, plan_insert, plan_delete, carry_out, save */
     TCAM_TWICE = 3,      /* a slot's id stands in an earlier one too. plan_insert, plan_delete, save, load */
-    TCAM_ORDER = 4,      /* an earlier overlapping rule has no higher rank. plan_insert, plan_delete, save, load */
+    TCAM_ORDER = 4,      /* an earlier rule ordered with it has no higher rank. plan_insert, plan_delete, save, load */
     TCAM_RULE = 5,       /* the rule given is unsound: plan_insert, carry_out. The id to delete is 0: plan_delete */
     TCAM_KNOWN = 6,      /* the id to insert is present. plan_insert */
     TCAM_UNKNOWN = 7,    /* the id to delete is absent. plan_delete */
-    TCAM_TIE = 8,        /* the rule overlaps one of equal rank, and replaces none. plan_insert */
+    TCAM_TIE = 8,        /* the rule is ordered with one of equal rank, and replaces none. plan_insert */
     TCAM_FULL = 9,       /* no slot is empty, and the rule replaces none. plan_insert */
     TCAM_CROSSED = 10,   /* a rule that depends on the new one stands before one that precedes it. plan_insert */
     TCAM_SHORT = 11,     /* the plan or image buffer is too short. plan_insert, plan_delete, save */
@@ -270,6 +300,7 @@ uint32_t tcam_slot_record(const uint64_t *table, size_t words, uint32_t width, u
  *
  *   table, words      the table and its length in words
  *   width             its width
+ *   uncounted         its flag: 0 is counted, any other number uncounted
  *   rule, rule_words  the new rule's record and its length in words, which is TCAM_RECORD_WORDS(width). Its last word
  *                     is the rule's priority
  *   edition           10 or 13, which gives the rule its rank
@@ -279,9 +310,9 @@ uint32_t tcam_slot_record(const uint64_t *table, size_t words, uint32_t width, u
  *
  * Result TCAM_OK: the plan is the words 0 to *count - 1 of the buffer.
  *
- * Where the table has a rule of the new one's value, mask and rank, the new one replaces it: *count is 1, and word 0
- * puts the new rule into the slot of that rule, even where no slot is empty. The next two paragraphs are of all other
- * rules.
+ * Where the table has a rule of the new one's value, mask and rank, and if it is an uncounted table of its action too,
+ * the new one replaces it: *count is 1, and word 0 puts the new rule into the slot of that rule, the lowest of several,
+ * even where no slot is empty. The next two paragraphs are of all other rules.
  *
  * The new rule goes to a slot; the rule that stands there goes to another, the one that stands there to a third, and so
  * on to an empty slot. This is the chain, and all of it goes toward higher slots or all toward lower ones. The plan
@@ -303,13 +334,13 @@ uint32_t tcam_slot_record(const uint64_t *table, size_t words, uint32_t width, u
  *   TCAM_RECORD   as for tcam_lookup.
  *   TCAM_TWICE    a slot's id stands in an earlier one too. *spot is the lowest slot whose id stands in an
  *                 earlier one.
- *   TCAM_ORDER    an earlier overlapping rule has no higher rank. *spot is the lowest slot whose rule has
- *                 such a rule before it.
+ *   TCAM_ORDER    an earlier rule that is ordered with that of a slot has no higher rank. *spot is the lowest slot
+ *                 whose rule has such a rule before it.
  *   TCAM_RULE     the new rule is unsound: its id is 0, its priority is above 65,535, under either edition and
  *                 whatever its mask, or its value has a bit outside the mask. *spot is 0.
  *   TCAM_EDITION  edition is neither 10 nor 13. *spot is 0.
  *   TCAM_KNOWN    the id is in the table. *spot is its slot.
- *   TCAM_TIE      a rule of the table overlaps the new one at equal rank. *spot is the lowest slot of one.
+ *   TCAM_TIE      a rule of the table is ordered with the new one and has its rank. *spot is the lowest slot of one.
  *   TCAM_FULL     no slot is empty. *spot is 0.
  *   TCAM_CROSSED  a rule that depends on the new one stands before a rule that precedes the new one. It is
  *                 refused even where some sequence of writes would do. *spot is the highest slot with a rule
@@ -317,14 +348,16 @@ uint32_t tcam_slot_record(const uint64_t *table, size_t words, uint32_t width, u
  *   TCAM_SHORT    plan_words is less than the count. *spot is the count: the words needed.
  * TCAM_TIE, TCAM_FULL and TCAM_CROSSED are asked only of a rule that replaces none.
  */
-uint32_t tcam_plan_insert(const uint64_t *table, size_t words, uint32_t width, const uint64_t *rule, size_t rule_words,
-                          uint32_t edition, uint32_t *plan, size_t plan_words, uint32_t *count, uint32_t *spot);
+uint32_t tcam_plan_insert(const uint64_t *table, size_t words, uint32_t width, uint32_t uncounted, const uint64_t *rule,
+                          size_t rule_words, uint32_t edition, uint32_t *plan, size_t plan_words, uint32_t *count,
+                          uint32_t *spot);
 
 /*
  * Plans a delete: the one write that empties a rule's slot.
  *
  *   table, words      the table and its length in words
  *   width             its width
+ *   uncounted         its flag: 0 is counted, any other number uncounted
  *   id                the id of the rule to delete
  *   plan, plan_words  buffer for the plan and its length in words
  *   count             cell for the number of words that the call wrote, always 1
@@ -339,8 +372,8 @@ uint32_t tcam_plan_insert(const uint64_t *table, size_t words, uint32_t width, c
  *   TCAM_UNKNOWN  the id is not in the table. *spot is 0.
  *   TCAM_SHORT    plan_words is 0. *spot is 1: the word needed.
  */
-uint32_t tcam_plan_delete(const uint64_t *table, size_t words, uint32_t width, uint32_t id, uint32_t *plan,
-                          size_t plan_words, uint32_t *count, uint32_t *spot);
+uint32_t tcam_plan_delete(const uint64_t *table, size_t words, uint32_t width, uint32_t uncounted, uint32_t id,
+                          uint32_t *plan, size_t plan_words, uint32_t *count, uint32_t *spot);
 
 /* How far a plan is carried out: writes done, and writes in all. A plan starts at 0 and its count. */
 typedef struct tcam_progress {
@@ -389,8 +422,8 @@ static const uint64_t tcam_no_rule[TCAM_RECORD_WORDS(TCAM_WIDTH_320)] = {0};
  *   TCAM_WRITE   it does not fit. The spot is the writes done so far. A copy fits if both slots exist and
  *                differ, slot `from` is not empty, and slot `to` is empty or its id stands in another slot
  *                too. A put-in fits under the same terms for `to`, and also if slot `to` holds a rule of the
- *                value, mask and rank of the one that is put in, whatever its id. An emptying write fits if the
- *                slot exists and is not empty.
+ *                value, mask and rank of the one that is put in, whatever its id and action. An emptying write
+ *                fits if the slot exists and is not empty.
  *
  * What is said of plans above asks for a plan that is carried out from its start, with its own rule and edition, on the
  * table it was drawn for. Of any other plan, rule, edition or progress record no more is said than stands here: one
@@ -417,6 +450,7 @@ static inline uint32_t tcam_carry_spot(uint64_t result)
  *
  *   table, words        the table and its length in words
  *   width               its width
+ *   uncounted           its flag: 0 is counted, any other number uncounted
  *   image, image_bytes  buffer for the image and its length in bytes
  *   bytes               cell for the number of bytes that the call wrote
  *   spot                cell for a refusal's spot
@@ -429,19 +463,21 @@ static inline uint32_t tcam_carry_spot(uint64_t result)
  *   TCAM_SHAPE, TCAM_RECORD, TCAM_TWICE, TCAM_ORDER  as for tcam_plan_delete.
  *   TCAM_SHORT    image_bytes is less than the image's bytes. *spot is the bytes needed.
  */
-uint32_t tcam_save(const uint64_t *table, size_t words, uint32_t width, uint8_t *image, size_t image_bytes,
-                   uint32_t *bytes, uint32_t *spot);
+uint32_t tcam_save(const uint64_t *table, size_t words, uint32_t width, uint32_t uncounted, uint8_t *image,
+                   size_t image_bytes, uint32_t *bytes, uint32_t *spot);
 
 /*
- * Loads an image into a table of as many slots, and of the width that it was saved with.
+ * Loads an image into a table of as many slots and of the width that it was saved with: as uncounted if it was saved
+ * so, or if its table has been named so since.
  *
  *   image, image_bytes  the image and its length in bytes: exactly as many as it has, TCAM_IMAGE_BYTES(width, e)
  *   table, words        the table that is written, and its length in words. What stands in it does not count.
  *   width               its width
+ *   uncounted           its flag: 0 is counted, any other number uncounted
  *   spot                cell for a refusal's spot
  *
  * Result TCAM_OK: every word of the table is written. The slots that the image names have their rules, every
- * other slot is empty, and the table is sound: it passes the checks of tcam_save.
+ * other slot is empty, and the table is sound: it passes the checks of tcam_save with this flag.
  *
  * Refusals, in the order of checks:
  *   TCAM_SHAPE  as for tcam_plan_delete.
@@ -459,7 +495,7 @@ uint32_t tcam_save(const uint64_t *table, size_t words, uint32_t width, uint8_t 
  *   TCAM_TWICE, TCAM_ORDER  as for tcam_plan_insert, in the table that the image gives. *spot is a slot.
  */
 uint32_t tcam_load(const uint8_t *image, size_t image_bytes, uint64_t *table, size_t words, uint32_t width,
-                   uint32_t *spot);
+                   uint32_t uncounted, uint32_t *spot);
 
 /* The two halves of a plan word, and the word that two halves make, each cut to its 16 bits. */
 static inline uint32_t tcam_write_from(uint32_t word)

@@ -10,6 +10,7 @@ mod rule_sets;
 mod rule_tris;
 mod self_check;
 mod tables;
+mod uncounted;
 mod workload;
 
 use crate::memory::{Memory, NoPlan};
@@ -38,6 +39,12 @@ pub struct Row {
     pub outcomes: Vec<Outcome>,
 }
 
+/// The same for lists with few actions, counted and uncounted.
+pub struct ListRow {
+    pub kind: Kind,
+    pub outcome: uncounted::Outcome,
+}
+
 fn flag(name: &str) -> Option<String> {
     let words: Vec<String> = std::env::args().collect();
     let place = words.iter().position(|word| word == name)?;
@@ -50,7 +57,8 @@ fn number_flag(name: &str, otherwise: u64) -> u64 {
 
 fn main() {
     if flag("--self-check").is_some() {
-        return self_check::run();
+        self_check::run();
+        return uncounted::self_check();
     }
     let inserts = number_flag("--inserts", INSERTS as u64) as usize;
     let seed = number_flag("--seed", SEED);
@@ -65,6 +73,7 @@ fn main() {
     tables::print_counts(&rows);
     tables::print_lower_means(&rows);
     compared.print();
+    tables::print_uncounted(&list_rows(inserts, seed));
     if let Some(path) = flag("--plot") {
         std::fs::write(&path, plot::drawing(&rows)).unwrap_or_else(|error| panic!("{path}: {error}"));
         println!("plot: {path}");
@@ -83,18 +92,35 @@ fn kinds() -> Vec<Kind> {
     kinds
 }
 
-/// Delete one, insert one: one long run. Insert only: from the load until the memory is full, as often as it takes.
-fn measure(kind: Kind, planner: Planner, inserts: usize, seed: u64, compared: &mut Compared) -> Outcome {
+/// Delete one, insert one: one long run. Insert only: from the load until the memory is full, as often as it takes. The size of a run,
+/// and the seed of each.
+fn runs_of(kind: Kind, inserts: usize, seed: u64) -> (Size, impl Iterator<Item = u64>) {
     let first = SLOTS * kind.load / 100;
     let room = SLOTS - first;
     let (runs, inserts) = match kind.operations {
         Operations::DeleteInsert => (1, inserts),
         Operations::InsertOnly => (inserts.div_ceil(room), room),
     };
-    let size = Size { slots: SLOTS, first, inserts };
+    (Size { slots: SLOTS, first, inserts }, (0..runs as u64).map(move |run| seed * 1_000_000 + run))
+}
+
+/// The rows of the lists with few actions, counted and uncounted.
+fn list_rows(inserts: usize, seed: u64) -> Vec<ListRow> {
+    let mut rows = Vec::new();
+    for kind in kinds().into_iter().filter(|kind| uncounted::LISTS.contains(&kind.set)) {
+        let mut outcome = uncounted::Outcome::default();
+        let (size, seeds) = runs_of(kind, inserts, seed);
+        seeds.for_each(|seed| uncounted::measure(&kind, size, seed, &mut outcome));
+        rows.push(ListRow { kind, outcome });
+    }
+    rows
+}
+
+fn measure(kind: Kind, planner: Planner, inserts: usize, seed: u64, compared: &mut Compared) -> Outcome {
+    let (size, seeds) = runs_of(kind, inserts, seed);
     let mut outcome = Outcome::default();
-    for run in 0..runs {
-        let workload = Workload::new(kind.set, size, kind.operations, kind.free, seed * 1_000_000 + run as u64);
+    for seed in seeds {
+        let workload = Workload::new(kind.set, size, kind.operations, kind.free, seed);
         outcome.add(workload.run(planner, |memory, new, planned| {
             if planner == Planner::Ours {
                 compared.compare(memory, new, planned);

@@ -1,7 +1,7 @@
-// A planner's memory: which rule stands in which slot, and how a chain of slots is written into it.
+// A planner's memory, a counted table: which rule stands in which slot, and how a chain of slots is written into it.
 // The lowest slot wins, as in document 01; documents 000 and 001 let the highest address win, so their addresses run the other way.
 
-use reference::table::{record_words, words_of, Rule};
+use reference::table::{record_words, words_of, Rule, COUNTED};
 
 /// All that a planner asks of patterns is which of them overlap: two words tell as much as five.
 pub const WIDTH: usize = 2;
@@ -59,23 +59,23 @@ impl Memory {
 
     /// A of document 01: the highest slot of a rule that precedes the new one.
     pub fn highest_preceding(&self, new: &Rule) -> Option<usize> {
-        (0..self.slots.len()).rev().find(|&slot| self.slots[slot].is_some_and(|rule| rule.precedes(new)))
+        (0..self.slots.len()).rev().find(|&slot| self.slots[slot].is_some_and(|rule| rule.precedes(new, COUNTED)))
     }
 
     /// B of document 01: the lowest slot of a rule that depends on the new one.
     pub fn lowest_dependant(&self, new: &Rule) -> Option<usize> {
-        (0..self.slots.len()).find(|&slot| self.slots[slot].is_some_and(|rule| rule.depends_on(new)))
+        (0..self.slots.len()).find(|&slot| self.slots[slot].is_some_and(|rule| rule.depends_on(new, COUNTED)))
     }
 
     /// The nearest slot before `slot` with a rule that precedes the one in it.
     pub fn nearest_preceding(&self, slot: usize) -> Option<usize> {
         let rule = self.slots[slot].as_ref()?;
-        (0..slot).rev().find(|&before| self.slots[before].is_some_and(|other| other.precedes(rule)))
+        (0..slot).rev().find(|&before| self.slots[before].is_some_and(|other| other.precedes(rule, COUNTED)))
     }
 
     /// The nearest slot after `slot` with a rule that depends on the one in it.
     pub fn nearest_dependant(&self, slot: usize) -> Option<usize> {
         let rule = self.slots[slot].as_ref()?;
-        (slot + 1..self.slots.len()).find(|&after| self.slots[after].is_some_and(|other| other.depends_on(rule)))
+        (slot + 1..self.slots.len()).find(|&after| self.slots[after].is_some_and(|other| other.depends_on(rule, COUNTED)))
     }
 }

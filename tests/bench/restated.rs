@@ -3,7 +3,7 @@
 
 use crate::fast_rule::Way;
 use crate::memory::{Chain, Memory, NoPlan};
-use reference::table::Rule;
+use reference::table::{Rule, COUNTED};
 
 /// The memory in document 001's addresses, the highest of which is where rules move to.
 struct Published {
@@ -53,9 +53,9 @@ impl Published {
 
 pub fn algorithm_2(memory: &Memory, new: &Rule, way: Way) -> Result<Chain, NoPlan> {
     let mut table = memory.slots.clone();
-    let has_edge = match way {
-        Way::Up => Rule::depends_on,
-        Way::Down => Rule::precedes,
+    let has_edge: fn(&Rule, &Rule) -> bool = match way {
+        Way::Up => |rule, other| rule.depends_on(other, COUNTED),
+        Way::Down => |rule, other| rule.precedes(other, COUNTED),
     };
     if way == Way::Up {
         table.reverse();

@@ -59,7 +59,7 @@ pub fn make_rules(set: RuleSet, count: usize, random: &mut Random) -> Vec<Rule> 
     priorities.into_iter().enumerate().map(rule).collect()
 }
 
-/// Actions play no part in a plan: a few different ones, in turn.
+/// Actions play no part in a plan for a counted table: a few different ones, in turn.
 fn action_of_place(place: usize) -> u32 {
     place as u32 % 7
 }

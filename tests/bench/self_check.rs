@@ -10,7 +10,7 @@ use crate::workload::{Free, Operations, Outcome, Size, Workload, OPERATIONS};
 use reference::bits::Bits;
 use reference::given::EDITION_13;
 use reference::plan::plan_insert;
-use reference::table::{Rule, CROSSED};
+use reference::table::{Rule, COUNTED, CROSSED};
 
 const WORKLOADS: u64 = 40;
 
@@ -73,7 +73,7 @@ fn check(planner: Planner, memory: &Memory, new: &Rule, free: Free, planned: Res
 }
 
 fn least_count(memory: &Memory, new: &Rule) -> Result<usize, NoPlan> {
-    let plan = plan_insert(&memory.words, WIDTH, &new.record(WIDTH), EDITION_13, memory.slots.len());
+    let plan = plan_insert(&memory.words, WIDTH, COUNTED, &new.record(WIDTH), EDITION_13, memory.slots.len());
     plan.map(|plan| plan.len()).map_err(|refusal| {
         assert_eq!(refusal.number, CROSSED);
         NoPlan::Crossed

@@ -2,8 +2,9 @@
 // A cell is three numbers of one planner on one workload.
 
 use crate::planners::PLANNERS;
+use crate::uncounted::{Inserts, ACTIONS, LEVELS};
 use crate::workload::{Free, Operations, Outcome, OPERATIONS};
-use crate::Row;
+use crate::{Kind, ListRow, Row};
 
 /// With a comma before each three digits.
 fn grouped(number: usize) -> String {
@@ -24,12 +25,12 @@ fn title(operations: Operations) -> &'static str {
     }
 }
 
-fn label(row: &Row) -> String {
-    let free = match row.kind.free {
+fn label(kind: &Kind) -> String {
+    let free = match kind.free {
         Free::First => "first",
         Free::Last => "last",
     };
-    format!("{} 0.{}, {free}", row.kind.set.name(), row.kind.load)
+    format!("{} 0.{}, {free}", kind.set.name(), kind.load)
 }
 
 fn print_heads() {
@@ -40,7 +41,7 @@ fn print_heads() {
 
 fn print_row(row: &Row, cell: impl Fn(&Outcome) -> String) {
     let cells: Vec<String> = row.outcomes.iter().map(cell).collect();
-    println!("| {} | {} |", label(row), cells.join(" | "));
+    println!("| {} | {} |", label(&row.kind), cells.join(" | "));
 }
 
 /// Mean, 99th percentile and worst number of writes; a mean below ours, which is the first, is in bold type.
@@ -80,5 +81,34 @@ pub fn print_lower_means(rows: &[Row]) {
         };
         let (with_deletes, insert_only) = (count(Operations::DeleteInsert), count(Operations::InsertOnly));
         println!("  {}: {with_deletes} with deletes, {insert_only} insert only", planner.name());
+    }
+}
+
+/// Lists with few actions: each run by itself, then the counted run's inserts asked uncounted on the very tables.
+pub fn print_uncounted(rows: &[ListRow]) {
+    println!(
+        "\nLists of {ACTIONS} actions and {} priorities, counted and uncounted, each on a memory of its own: mean number of",
+        grouped(LEVELS)
+    );
+    println!("writes / TIE / CROSSED. On the tables of the counted run: what the looser order takes of the writes, how many inserts take");
+    println!("fewer, and how many of the TIE and CROSSED refusals it spares.");
+    for operations in OPERATIONS {
+        println!("\n{}:\n", title(operations));
+        println!("| Rules, load, free end | counted | uncounted | writes, same tables | fewer | TIE spared | CROSSED spared |");
+        println!("|---|---|---|---|---|---|---|");
+        for ListRow { kind, outcome } in rows.iter().filter(|row| row.kind.operations == operations) {
+            let run = |of: &Inserts| format!("{:.2} / {} / {}", of.mean(), grouped(of.tied), grouped(of.crossed));
+            let (counted, spared) = (&outcome.counted, &outcome.spared);
+            let of = |part: usize, all: usize| format!("{} of {}", grouped(part), grouped(all));
+            let cells = [
+                run(counted),
+                run(&outcome.uncounted),
+                of(spared.uncounted_writes, spared.counted_writes),
+                of(spared.fewer, counted.planned),
+                of(spared.tied, counted.tied),
+                of(spared.crossed, counted.crossed),
+            ];
+            println!("| {} | {} |", label(kind), cells.join(" | "));
+        }
     }
 }

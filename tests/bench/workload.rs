@@ -4,7 +4,7 @@
 use crate::memory::{Memory, NoPlan};
 use crate::planners::Planner;
 use crate::rule_sets::{make_rules, RuleSet};
-use reference::table::{first_out_of_order, Rule};
+use reference::table::{first_out_of_order, Rule, COUNTED};
 use support::random::Random;
 
 /// Where the free space is at the start: the rules stand by falling priority in one block at the other end.
@@ -132,7 +132,7 @@ impl Workload {
                 memory.set(slot, Some(old));
             }
         }
-        assert_eq!(first_out_of_order(&memory.slots), None, "{} left the order", planner.name());
+        assert_eq!(first_out_of_order(&memory.slots, COUNTED), None, "{} left the order", planner.name());
         outcome
     }
 }

@@ -697,13 +697,34 @@ static uint64_t best_reply(const uint64_t *key)
     return best == NULL ? 0 : TCAM_ID_ACTION(best->id, best->action);
 }
 
+/* Whether a rule that is held matches the key, and has this id and this action. */
+static int is_held_match(const uint64_t *key, uint32_t id, uint32_t action)
+{
+    for (uint32_t index = 0; index < held_count; index++)
+        if (held[index].id == id && held[index].action == action && rule_matches(&held[index], key))
+            return 1;
+    return 0;
+}
+
+static unsigned long other_ids; /* how often the id was not that of the highest rank */
+
+/* What is promised of a reply: that of the highest rank or, in an uncounted table, one of its action, of a rule that matches too. */
+static int is_promised(const uint64_t *key, uint32_t id, uint32_t action)
+{
+    const uint64_t best = best_reply(key);
+    if (TCAM_ID_ACTION(id, action) == best)
+        return 1;
+    other_ids++;
+    return uncounted != TCAM_COUNTED && best != 0 && action == best % 4294967296u && is_held_match(key, id, action);
+}
+
 static void check_replies(void)
 {
     int replies_right = 1;
     for (int key = 0; key < KEYS; key++) {
         uint32_t slot, id, action, spot;
         replies_right &= tcam_lookup(table, words, width, keys[key], width, &slot, &id, &action, &spot) == TCAM_OK &&
-                         TCAM_ID_ACTION(id, action) == best_reply(keys[key]);
+                         is_promised(keys[key], id, action);
     }
     CHECK(replies_right);
 }
@@ -775,25 +796,41 @@ static void carry_to_the_end(uint32_t count, void (*changes)(void))
     }
 }
 
+static void forget(uint32_t id)
+{
+    for (uint32_t index = 0; index < held_count; index++)
+        if (held[index].id == id)
+            held[index] = held[--held_count];
+}
+
+static uint32_t replaced_id; /* of the rule that the one to come replaces, or 0 */
+
+/* The lowest equal rule, in an uncounted table one of the same action. */
+static uint32_t id_to_replace(void)
+{
+    record_words record;
+    set_ranked(record, &rule);
+    for (uint32_t slot = 0; slot < slots_of(words); slot++) {
+        const uint64_t *present = table + SLOTS(slot);
+        if (equal(present, record) && (uncounted == TCAM_COUNTED || same_action(present, record)))
+            return id_of(present);
+    }
+    return 0;
+}
+
 /* A rule that is replaced counts as deleted. */
 static void rule_comes(void)
 {
-    record_words record, other;
+    record_words record;
     set_ranked(record, &rule);
-    for (uint32_t index = 0; index < held_count; index++) {
-        set_record(other, &held[index]);
-        if (equal(other, record))
-            held[index] = held[--held_count];
-    }
+    forget(replaced_id);
     held[held_count] = rule;
     held[held_count++].priority = rank_of(record);
 }
 
 static void rule_goes(void)
 {
-    for (uint32_t index = 0; index < held_count; index++)
-        if (held[index].id == rule.id)
-            held[index] = held[--held_count];
+    forget(rule.id);
 }
 
 static uint32_t insert(uint32_t *count)
@@ -804,7 +841,8 @@ static uint32_t insert(uint32_t *count)
     room = slots_of(words);
     for (uint32_t index = 0; index < room; index++)
         plan[index] = COPY(index, index);
-    uint32_t number = tcam_plan_insert(table, words, width, given, SLOTS(1), edition, plan, room, count, &spot);
+    uint32_t number = tcam_plan_insert(table, words, width, uncounted, given, SLOTS(1), edition, plan, room, count, &spot);
+    replaced_id = id_to_replace();
     if (number == TCAM_OK)
         carry_to_the_end(*count, rule_comes);
     return number;
@@ -817,7 +855,7 @@ static uint32_t delete_rule(uint32_t id)
     room = 3;
     plan[1] = plan[2] = COPY(0, 0);
     memset(&rule, 0, sizeof rule);
-    uint32_t number = tcam_plan_delete(table, words, width, id, plan, room, &count, &spot);
+    uint32_t number = tcam_plan_delete(table, words, width, uncounted, id, plan, room, &count, &spot);
     if (number == TCAM_OK) {
         rule.id = id;
         rule.priority = ALL;
@@ -877,9 +915,10 @@ static void plans_in_the_middle(void)
     room = 2;
     progress = (tcam_progress){0, 2};
     CHECK(tcam_carry_out(table, words, width, given, SLOTS(1), edition, plan, room, &progress) == TCAM_WROTE && progress.done == 1);
-    CHECK(tcam_plan_insert(table, words, width, given, SLOTS(1), edition, other, 5, &count, &spot) == TCAM_TWICE && spot == 2);
+    CHECK(tcam_plan_insert(table, words, width, uncounted, given, SLOTS(1), edition, other, 5, &count, &spot) == TCAM_TWICE);
+    CHECK(spot == 2);
     spot = 77;
-    CHECK(tcam_plan_delete(table, words, width, 1, other, 5, &count, &spot) == TCAM_TWICE && spot == 2);
+    CHECK(tcam_plan_delete(table, words, width, uncounted, 1, other, 5, &count, &spot) == TCAM_TWICE && spot == 2);
     CHECK(count == 77 && other[0] == 1 && other[4] == 5);
 }
 
@@ -969,49 +1008,68 @@ static void move_to_last_word(struct rule *moved)
     moved->value[0] = moved->mask[0] = 0;
 }
 
-/* Inserts and deletes at random, each insert under an edition of its own, carried out to the end, over some tables. */
+/* A rule at random, or one that is held sent again under the edition that gives it its rank. Tables that are named as uncounted some
+ * time have few actions and priorities that often tie. */
+static void choose_rule(uint32_t id, int few_actions)
+{
+    char pattern[5] = "****";
+    uint32_t cared = below(5);
+    for (uint32_t bit = 0; bit < cared; bit++)
+        pattern[below(4)] = below(2) ? '1' : '0';
+    rule = made_rule(id, below(few_actions ? 20 : 200), pattern);
+    if (below(2) == 0) /* the last word decides, and not the first */
+        move_to_last_word(&rule);
+    if (below(4) == 0)
+        rule = without_wildcards(rule);
+    edition = editions[below(2)];
+    if (few_actions)
+        rule.action = below(3);
+    if (held_count == 0 || below(6) != 0)
+        return;
+    const uint32_t action = few_actions ? rule.action : 1000 + id;
+    rule = held[below(held_count)];
+    rule.id = id;
+    if (!few_actions || below(3) == 0)
+        rule.action = action;
+    edition = rule.priority == 65536 ? TCAM_EDITION_10 : TCAM_EDITION_13;
+    rule.priority %= 65536;
+}
+
+/*
+ * Inserts and deletes at random, each insert under an edition of its own, carried out to the end, over some tables. Every other one is
+ * named as uncounted from some round on, or from the first: until then its keys are told the highest rank's id, and its action always.
+ */
 static void random_plans(void)
 {
-    unsigned long came = 0, went = 0, raised = 0, replaced = 0, writes_of[4] = {0, 0, 0, 0};
+    unsigned long came = 0, went = 0, raised = 0, replaced = 0, writes_of[4] = {0, 0, 0, 0}, came_uncounted = 0;
     case_line = 0;
     made_how = "planned table";
-    for (turn = 0; turn < 60; turn++) {
+    other_ids = 0;
+    for (turn = 0; turn < 120; turn++) {
+        const uint32_t few_actions = turn % 2, flag = uncounted_flags[below(COUNT_OF(uncounted_flags))];
+        const uint32_t counted_rounds = few_actions ? below(3) * 15 : 60;
         empty_table(2 + below(12));
         held_count = 0;
         for (uint32_t round = 1; round <= 60; round++) {
+            uint32_t count, before = held_count;
+            uncounted = round <= counted_rounds ? TCAM_COUNTED : flag;
             if (held_count > 0 && below(4) == 0) {
                 CHECK(delete_rule(held[below(held_count)].id) == TCAM_OK);
                 went++;
                 continue;
             }
-            char pattern[5] = "****";
-            uint32_t count, cared = below(5);
-            for (uint32_t bit = 0; bit < cared; bit++)
-                pattern[below(4)] = below(2) ? '1' : '0';
-            rule = made_rule(round, below(200), pattern);
-            if (below(2) == 0) /* the last word decides, and not the first */
-                move_to_last_word(&rule);
-            if (below(4) == 0)
-                rule = without_wildcards(rule);
-            edition = editions[below(2)];
-            if (held_count > 0 && below(6) == 0) { /* sent again, under the edition that gives it its rank */
-                rule = held[below(held_count)];
-                rule.id = round;
-                rule.action = 1000 + round;
-                edition = rule.priority == 65536 ? TCAM_EDITION_10 : TCAM_EDITION_13;
-                rule.priority %= 65536;
-            }
-            uint32_t before = held_count;
+            choose_rule(round, (int)few_actions);
             if (insert(&count) == TCAM_OK) {
                 came++;
+                came_uncounted += uncounted != TCAM_COUNTED;
                 replaced += held_count == before;
                 raised += held[held_count - 1].priority == 65536;
                 writes_of[count < 3 ? count : 3]++;
             }
         }
     }
-    CHECK(came > 500 && went > 300 && raised > 50 && replaced > 100);
-    CHECK(writes_of[1] > 100 && writes_of[2] > 50 && writes_of[3] > 20);
+    CHECK(came > 1000 && went > 600 && raised > 100 && replaced > 200 && came_uncounted > 500 && other_ids > 1000);
+    CHECK(writes_of[1] > 200 && writes_of[2] > 100 && writes_of[3] > 40);
 }
 
 /* ---- Random plans and records ---- */

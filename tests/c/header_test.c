@@ -26,6 +26,7 @@ static void constants(void)
     CHECK(TCAM_WIDTH_128 == 2 && TCAM_WIDTH_320 == 5 && TCAM_MAX_SLOTS == 1024 && TCAM_SPOT_TEXT == 24);
     CHECK(TCAM_EDITION_10 == 10 && TCAM_EDITION_13 == 13 && TCAM_MAX_PRIORITY == 65535 && TCAM_EXACT_RANK == 65536);
     CHECK(TCAM_EXACT_RANK > TCAM_MAX_PRIORITY);
+    CHECK(NO_SIGN(TCAM_COUNTED) && NO_SIGN(TCAM_UNCOUNTED) && TCAM_COUNTED == 0 && TCAM_UNCOUNTED == 1);
     /* the header's formula for a plan word, as it stands there */
     CHECK(TCAM_PUT * 65536 + 65535 == 4294967295u && TCAM_EMPTY * 65536 + 0 == 4294836224u);
 }
@@ -239,7 +240,7 @@ static uint32_t insert(const struct rule *rule, uint32_t *plan, size_t room, uin
 {
     record_words given;
     tcam_make_record(given, width, rule->id, (uint32_t)rule->priority, rule->value, rule->mask, rule->action);
-    return tcam_plan_insert(TABLE, given, TCAM_RECORD_WORDS(width), edition, plan, room, count, spot);
+    return tcam_plan_insert(TABLE, uncounted, given, TCAM_RECORD_WORDS(width), edition, plan, room, count, spot);
 }
 
 static void refused_plans(void)
@@ -250,7 +251,7 @@ static void refused_plans(void)
     five_slots();
     number = insert(&new_rule, plan, 2, &count, &spot);
     OF_TABLE(number, spot, "3 words needed");
-    number = tcam_plan_delete(TABLE, 3, plan, 0, &count, &spot);
+    number = tcam_plan_delete(TABLE, uncounted, 3, plan, 0, &count, &spot);
     OF_TABLE(number, spot, "1 word needed");
     new_rule.id = 3;
     number = insert(&new_rule, plan, 5, &count, &spot);
@@ -261,7 +262,7 @@ static void refused_plans(void)
     number = insert(&new_rule, plan, 5, &count, &spot);
     CHECK(number == TCAM_TIE);
     OF_TABLE(number, spot, "slot 0");
-    number = tcam_plan_delete(TABLE, 9, plan, 5, &count, &spot);
+    number = tcam_plan_delete(TABLE, uncounted, 9, plan, 5, &count, &spot);
     CHECK(number == TCAM_UNKNOWN);
     OF_TABLE(number, spot, "");
     edition = 12;
@@ -269,9 +270,29 @@ static void refused_plans(void)
     CHECK(number == TCAM_EDITION);
     OF_TABLE(number, spot, "");
     memcpy(table + SLOTS(4), table + SLOTS(1), SLOTS(1) * sizeof *table);
-    number = tcam_plan_delete(TABLE, 3, plan, 5, &count, &spot);
+    number = tcam_plan_delete(TABLE, uncounted, 3, plan, 5, &count, &spot);
     CHECK(number == TCAM_TWICE);
     OF_TABLE(number, spot, "slot 4"); /* the later of the two */
+}
+
+/* The same table under either name: out of order for the one, and in order for the other, whose rules have one action. */
+static void refused_if_counted(void)
+{
+    const struct rule higher = rule_of(5, 50, "1", 7), tied = rule_of(6, 50, "11", 7);
+    uint32_t plan[5], count, spot = 77, number;
+    HERE;
+    five_slots();
+    set_record(table + SLOTS(4), &higher);
+    number = tcam_plan_delete(TABLE, TCAM_COUNTED, 3, plan, 5, &count, &spot);
+    CHECK(number == TCAM_ORDER);
+    OF_TABLE(number, spot, "slot 4");
+    spot = 77;
+    CHECK(tcam_plan_delete(TABLE, TCAM_UNCOUNTED, 3, plan, 5, &count, &spot) == TCAM_OK && count == 1 && spot == 77);
+    memset(table + SLOTS(2), 0, SLOTS(1) * sizeof *table);
+    uncounted = TCAM_UNCOUNTED;
+    CHECK(insert(&tied, plan, 5, &count, &spot) == TCAM_OK && count == 1 && plan[0] == tcam_write_word(TCAM_PUT, 2));
+    uncounted = TCAM_COUNTED;
+    CHECK(insert(&tied, plan, 5, &count, &spot) == TCAM_ORDER && spot == 4);
 }
 
 static void refused_images(void)
@@ -281,14 +302,14 @@ static void refused_images(void)
     const uint32_t four_rules = width == 2 ? 204 : 396;
     HERE;
     five_slots();
-    number = tcam_save(TABLE, image, four_rules - 1, &bytes, &spot);
+    number = tcam_save(TABLE, uncounted, image, four_rules - 1, &bytes, &spot);
     OF_IMAGE(number, spot, width == 2 ? "204 bytes needed" : "396 bytes needed");
-    CHECK(tcam_save(TABLE, image, sizeof image, &bytes, &spot) == TCAM_OK && bytes == four_rules);
-    number = tcam_load(image, bytes - 1, TABLE, &spot);
+    CHECK(tcam_save(TABLE, uncounted, image, sizeof image, &bytes, &spot) == TCAM_OK && bytes == four_rules);
+    number = tcam_load(image, bytes - 1, TABLE, uncounted, &spot);
     OF_IMAGE(number, spot, "byte 2");
     /* no checksum: another action is a sound image of another table */
     image[bytes - 1] ^= 1;
-    CHECK(tcam_load(image, bytes, TABLE, &spot) == TCAM_OK);
+    CHECK(tcam_load(image, bytes, TABLE, uncounted, &spot) == TCAM_OK);
     const uint64_t *record = tcam_slot_words(TABLE, 3);
     CHECK(record != NULL && tcam_record_action(record, width) == 6 && tcam_record_id(record, width) == 4);
 }
@@ -313,7 +334,7 @@ int main(int count, char **arguments)
 {
     static void (*const cases[])(void) = {
         constants, plan_words, lengths, bytes_for_words, record_parts, spots_that_are_slots, spots_that_count,
-        spots_that_are_places, spots_that_name_nothing, digits, refused_plans, refused_images, refused_writes,
+        spots_that_are_places, spots_that_name_nothing, digits, refused_plans, refused_if_counted, refused_images, refused_writes,
     };
     most = begin(count, arguments, 20000) / 2;
     run_cases(cases, COUNT_OF(cases));

@@ -7,7 +7,8 @@
 
 #if TCAM_WIDTH_128 != 2 || TCAM_WIDTH_320 != 5 || TCAM_MAX_SLOTS != 1024 || TCAM_PUT != 65535 || TCAM_EMPTY != 65534 || \
     TCAM_WROTE != 0 || TCAM_FINISHED != 4294967295 || TCAM_SPOT_TEXT != 24 || TCAM_EDITION_10 != 10 || \
-    TCAM_EDITION_13 != 13 || TCAM_MAX_PRIORITY != 65535 || TCAM_EXACT_RANK != 65536
+    TCAM_EDITION_13 != 13 || TCAM_MAX_PRIORITY != 65535 || TCAM_EXACT_RANK != 65536 || TCAM_COUNTED != 0 || \
+    TCAM_UNCOUNTED != 1
 #error "a constant of tcam.h, in a condition of the preprocessor"
 #endif
 
@@ -20,6 +21,7 @@ const uint64_t every_record[TCAM_RECORD_WORDS(TCAM_WIDTH_128)] = {0, 0, 0, 0, TC
 size_t every_words = TCAM_WORDS(every_table) + TCAM_WORDS(every_plan);
 uint32_t every_number[] = {TCAM_PUT, TCAM_EMPTY, TCAM_FINISHED, TCAM_OK, TCAM_IMAGE, TCAM_ROOM};
 uint32_t every_edition[] = {TCAM_EDITION_10, TCAM_EDITION_13};
+uint32_t every_flag[] = {TCAM_COUNTED, TCAM_UNCOUNTED};
 uint64_t every_rank[] = {TCAM_MAX_PRIORITY, TCAM_EXACT_RANK};
 uint64_t every_result[] = {TCAM_WROTE, TCAM_FINISHED};
 
@@ -27,6 +29,7 @@ size_t every_size(int rules, uint32_t slots, uint32_t width, int signed_width);
 uint64_t every_record_function(uint64_t *record, uint32_t width, const uint64_t *key, uint32_t index);
 uint32_t every_planning(uint32_t width, uint32_t *count, uint32_t *spot);
 uint64_t every_carrying_out(uint32_t width, tcam_progress *progress);
+uint32_t every_image_call(uint32_t width, uint32_t flag, uint32_t *bytes, uint32_t *spot);
 int every_comparison(uint32_t number, uint64_t result, size_t words);
 int every_case(uint32_t word);
 uint32_t every_number_function(uint32_t word, uint64_t result, uint32_t slot);
@@ -49,8 +52,15 @@ uint64_t every_record_function(uint64_t *record, uint32_t width, const uint64_t 
 
 uint32_t every_planning(uint32_t width, uint32_t *count, uint32_t *spot)
 {
-    return tcam_plan_insert(every_table, TCAM_WORDS(every_table), width, tcam_no_rule, TCAM_RECORD_WORDS(width), TCAM_EDITION_10,
-                            every_plan, TCAM_WORDS(every_plan), count, spot);
+    return tcam_plan_insert(every_table, TCAM_WORDS(every_table), width, TCAM_COUNTED, tcam_no_rule, TCAM_RECORD_WORDS(width),
+                            TCAM_EDITION_10, every_plan, TCAM_WORDS(every_plan), count, spot);
+}
+
+uint32_t every_image_call(uint32_t width, uint32_t flag, uint32_t *bytes, uint32_t *spot)
+{
+    if (flag == TCAM_COUNTED)
+        return tcam_save(every_table, TCAM_WORDS(every_table), width, flag, every_image, sizeof every_image, bytes, spot);
+    return tcam_load(every_image, sizeof every_image, every_table, TCAM_WORDS(every_table), width, TCAM_UNCOUNTED, spot);
 }
 
 uint64_t every_carrying_out(uint32_t width, tcam_progress *progress)

@@ -179,7 +179,7 @@ static void call_save(const uint64_t *table, size_t words, size_t room, unsigned
     mark_cells(cell, before, CELLS);
     protect_table(0);
     protect_pages(&image_pages, want.number == TCAM_OK);
-    uint32_t number = tcam_save(lent.table, words, width, image, room, &cell[BYTES], &cell[SPOT]);
+    uint32_t number = tcam_save(lent.table, words, width, uncounted, image, room, &cell[BYTES], &cell[SPOT]);
     protect_pages(&image_pages, 1);
     protect_table(1);
     CHECK(number == want.number);
@@ -214,7 +214,7 @@ static void call_load(const uint8_t *bytes, size_t count, const uint64_t *stood,
     mark_cells(cell, before, CELLS);
     protect_pages(&image_pages, 0);
     protect_table(want.number == TCAM_OK);
-    uint32_t number = tcam_load(image, count, lent.table, words, width, &cell[SPOT]);
+    uint32_t number = tcam_load(image, count, lent.table, words, width, uncounted, &cell[SPOT]);
     protect_table(1);
     protect_pages(&image_pages, 1);
     CHECK(number == want.number);
@@ -538,10 +538,12 @@ static void other_widths(void)
         for (size_t words = 0; words <= SLOTS(3); words++) {
             uint32_t bytes = 77, spot = 78;
             HERE;
-            CHECK(tcam_save(table, words, others[index], buffer, words % 2 ? sizeof buffer : 0, &bytes, &spot) == TCAM_SHAPE);
+            CHECK(tcam_save(table, words, others[index], uncounted, buffer, words % 2 ? sizeof buffer : 0, &bytes, &spot) ==
+                  TCAM_SHAPE);
             CHECK(bytes == 77 && spot == 0 && memcmp(buffer, before, sizeof buffer) == 0);
             spot = 78;
-            CHECK(tcam_load(three_slots_image(), words % 2 ? TWO : 3, table, words, others[index], &spot) == TCAM_SHAPE);
+            CHECK(tcam_load(three_slots_image(), words % 2 ? TWO : 3, table, words, others[index], uncounted, &spot) ==
+                  TCAM_SHAPE);
             CHECK(spot == 0 && memcmp(table, three_slots, sizeof table) == 0);
         }
 }
@@ -621,6 +623,41 @@ static void rank_cases(void)
     RANK_CASE(table, LOADED);
 }
 
+/* ---- Written cases: tables without counters ---- */
+
+/* [1/20 1* a7, 2/30 *1, empty]: with one action it is a table in order if uncounted; with two it is none. */
+static void against_rank(uint32_t action)
+{
+    uint64_t table[ROOM(3)] = {0};
+    const struct rule first = rule_of(1, 20, "1*", 7), second = rule_of(2, 30, "*1", action);
+    const int in_order = uncounted != TCAM_COUNTED && action == 7;
+    set_record(table, &first);
+    set_record(table + SLOTS(1), &second);
+    SAVE_CASE(table, SLOTS(3), TWO, in_order ? SAVED(TWO) : REFUSED(TCAM_ORDER, 1));
+    SAVE_CASE(table, SLOTS(3), 0, in_order ? REFUSED(TCAM_SHORT, TWO) : REFUSED(TCAM_ORDER, 1));
+    HERE;
+    CHECK(ref_image(table, 3, image) == TWO); /* the flag does not stand in it */
+    LOAD_CASE(TWO, SLOTS(3), in_order ? LOADED : REFUSED(TCAM_ORDER, 1));
+    if (in_order)
+        CHECK(memcmp(scratch, table, SLOTS(3) * sizeof *table) == 0);
+}
+
+static void uncounted_cases(void)
+{
+    against_rank(7);
+    against_rank(8);
+    for (size_t index = 0; index < COUNT_OF(uncounted_flags); index++) {
+        uncounted = uncounted_flags[index];
+        against_rank(7);
+        for (uint32_t bit = 0; bit < 32; bit++)
+            against_rank(7 ^ (uint32_t)1 << bit);
+        SAVE_CASE(three_slots, SLOTS(3), TWO, SAVED(TWO)); /* in order for either */
+        SAVE_CASE(twice_and_disordered, SLOTS(3), THREE, REFUSED(TCAM_TWICE, 2));
+        memcpy(image, three_slots_image(), TWO);
+        LOAD_CASE(TWO, SLOTS(3), LOADED);
+    }
+}
+
 static void width_cases(void)
 {
     images_of_other_width();
@@ -631,11 +668,11 @@ static void width_cases(void)
 /* ---- Made tables ---- */
 
 /* A sound table: of `rules` rules with ranks that fall from slot to slot, in slots at random; the first may be one without
- * wildcards that was given under 1.0. */
+ * wildcards that was given under 1.0. An uncounted one may have any ranks instead, and one action. */
 static void make_table(uint64_t *table, uint32_t slots, uint32_t rules)
 {
     uint32_t left = rules, rank = 65535;
-    int exact = below(2) == 0;
+    int exact = below(2) == 0, one_action = uncounted != TCAM_COUNTED && below(2) == 0;
     memset(table, 0, SLOTS(slots) * sizeof *table);
     for (uint32_t slot = 0; slot < slots; slot++) {
         if (below(slots - slot) >= left)
@@ -645,8 +682,10 @@ static void make_table(uint64_t *table, uint32_t slots, uint32_t rules)
             record[width + word] = exact ? ALL : below(3) == 0 ? 0 : random_word() >> below(64);
             record[word] = random_word() & record[width + word];
         }
-        record[2 * width] = TCAM_ID_ACTION(slot * 4194304 + 1 + below(4194304), random_word());
+        record[2 * width] = TCAM_ID_ACTION(slot * 4194304 + 1 + below(4194304), one_action ? 7 : random_word());
         rank -= below(2) + (slot == 0 ? 0 : 1);
+        if (one_action)
+            rank = below(65536);
         record[2 * width + 1] = exact ? 65536 : rank;
         exact = 0;
         left--;
@@ -719,8 +758,10 @@ static void made_tables(void)
     damaged_refused = damaged_loaded = 0;
     for (turn = 0; turn < tables; turn++) {
         uint32_t slots = 1 + below(turn % 4 == 0 ? 24 : 6);
+        uncounted = turn % 8 < 4 ? TCAM_COUNTED : uncounted_flags[below(COUNT_OF(uncounted_flags))];
         made_table(slots, below(slots + 1), 1);
     }
+    uncounted = TCAM_COUNTED;
     made_how = "large table";
     made_table(1024, 1024, 0);
     made_table(1024, 1, 5);
@@ -730,7 +771,9 @@ static void made_tables(void)
 
 int main(int count, char **arguments)
 {
-    static void (*const cases[])(void) = {make_tables, save_cases, load_cases, width_cases, rank_cases, made_tables};
+    static void (*const cases[])(void) = {
+        make_tables, save_cases, load_cases, width_cases, rank_cases, uncounted_cases, made_tables,
+    };
     tables = begin(count, arguments, 40) / 2;
     open_pages(&image_pages, MOST_BYTES + 4 * MARGIN + 200);
     run_cases(cases, COUNT_OF(cases));

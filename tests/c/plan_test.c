@@ -1,8 +1,8 @@
 /*
  * Plans inserts and deletes as firmware would, at each width, carries the plans out, and checks every answer, every lent buffer
  * and every table on the way: first cases whose plans are written here, then all tables of a few slots and random ones.
- * Their plans come from a reference written from document 01 and document 02's 2026-07 and 2026-03, and their counts from a search
- * of the comparison class.
+ * Their plans come from a reference written from document 01 and document 02's 2026-07, 2026-03 and 2026-11, and their counts from a
+ * search of the comparison class.
  *
  *     plan_test [seed [tables]]
  */
@@ -22,10 +22,10 @@ static struct {
     int up, equal, choice_tie, hop_tie, on_dependant, around_dependant;
 } way;
 
-/* Whether the first of two rules precedes the second: they overlap and it has the higher rank. */
+/* Whether the first of two rules precedes the second: they are ordered and it has the higher rank. */
 static int precedes(const uint64_t *a, const uint64_t *b)
 {
-    return rank_of(a) > rank_of(b) && !is_empty(a) && !is_empty(b) && overlap(a, b);
+    return rank_of(a) > rank_of(b) && !is_empty(a) && !is_empty(b) && ordered(a, b);
 }
 
 static uint32_t refuse(struct told *told, uint32_t number, uint32_t spot)
@@ -160,11 +160,17 @@ static void find_plan(const uint64_t *table, int slots, int a, int b, struct tol
     }
 }
 
+/* Whether a new rule replaces that of a slot: they are equal and, in an uncounted table, of one action. */
+static int is_replaced(const uint64_t *record, const uint64_t *new_record)
+{
+    return equal(record, new_record) && (uncounted == TCAM_COUNTED || same_action(record, new_record));
+}
+
 /* The lowest slot whose rule a new one replaces; `slots` where there is none. */
 static uint32_t replaced_slot(const uint64_t *table, uint32_t slots, const uint64_t *new_record)
 {
     uint32_t slot = 0;
-    while (slot < slots && !equal(table + SLOTS(slot), new_record))
+    while (slot < slots && !is_replaced(table + SLOTS(slot), new_record))
         slot++;
     return slot;
 }
@@ -200,7 +206,7 @@ static void ref_insert(const uint64_t *table, size_t words, const struct rule *r
     }
     for (uint32_t slot = 0; slot < slots; slot++) {
         const uint64_t *held = table + SLOTS(slot);
-        if (!is_empty(held) && rank_of(held) == rank_of(record) && overlap(held, record)) {
+        if (!is_empty(held) && rank_of(held) == rank_of(record) && ordered(held, record)) {
             refuse(told, 8, slot);
             return;
         }
@@ -308,8 +314,8 @@ static uint32_t call_insert_of(const struct lent *lent, const struct rule *rule,
     struct lent lent_rule = lend_in(&rule_pages, given, rule_words, at_end);
     lend_plan(room, at_end);
     mark_cells(cells.now, cells.before, CELLS);
-    uint32_t number = tcam_plan_insert(lent->table, lent->words, width, lent_rule.table, rule_words, edition, plan.words, room,
-                                       &cells.now[COUNT], &cells.now[SPOT]);
+    uint32_t number = tcam_plan_insert(lent->table, lent->words, width, uncounted, lent_rule.table, rule_words, edition,
+                                       plan.words, room, &cells.now[COUNT], &cells.now[SPOT]);
     check_left(lent, number, want);
     check_lent(&lent_rule);
     return number;
@@ -324,7 +330,7 @@ static uint32_t call_delete(const struct lent *lent, uint32_t id, uint32_t room,
 {
     lend_plan(room, at_end);
     mark_cells(cells.now, cells.before, CELLS);
-    uint32_t number = tcam_plan_delete(lent->table, lent->words, width, id, plan.words, room, &cells.now[COUNT],
+    uint32_t number = tcam_plan_delete(lent->table, lent->words, width, uncounted, id, plan.words, room, &cells.now[COUNT],
                                        &cells.now[SPOT]);
     check_left(lent, number, want);
     return number;
@@ -378,7 +384,8 @@ static uint64_t first_reply(const uint64_t *table, uint32_t slots, const uint64_
     return 0;
 }
 
-/* The reply by highest rank, of the old rules and the new one; one that the new one replaces has its rank, and gives way to it. */
+/* The reply by highest rank, of the old rules and the new one; one that the new one replaces has its rank, and gives way to it. Of
+ * several of the highest rank, in an uncounted table, all have one action. */
 static uint64_t best_reply(const uint64_t *table, uint32_t slots, const uint64_t *new_record, const uint64_t *key)
 {
     const uint64_t *best = matches(new_record, key) ? new_record : NULL;
@@ -388,7 +395,15 @@ static uint64_t best_reply(const uint64_t *table, uint32_t slots, const uint64_t
     return best == NULL ? 0 : tag_of(best);
 }
 
-/* The rule of a slot against all others: the overlapping ones before it have strictly higher ranks, those after lower. */
+/* What is promised of a reply: the wanted one or, in an uncounted table, one of its action; a miss for a miss. */
+static int is_promised(uint64_t reply, uint64_t wanted_reply)
+{
+    if (uncounted == TCAM_COUNTED || wanted_reply == 0 || reply == 0)
+        return reply == wanted_reply;
+    return reply % 4294967296u == wanted_reply % 4294967296u;
+}
+
+/* The rule of a slot against all others: the ordered ones before it have strictly higher ranks, those after lower. */
 static int in_order_at(const uint64_t *table, uint32_t slots, uint32_t slot)
 {
     const uint64_t *rule = table + SLOTS(slot);
@@ -396,7 +411,7 @@ static int in_order_at(const uint64_t *table, uint32_t slots, uint32_t slot)
         const uint64_t *record = table + SLOTS(other);
         if (other < slot ? rank_of(record) > rank_of(rule) : rank_of(record) < rank_of(rule))
             continue;
-        if (id_of(record) != id_of(rule) && !is_empty(record) && overlap(record, rule))
+        if (id_of(record) != id_of(rule) && !is_empty(record) && ordered(record, rule))
             return 0;
     }
     return 1;
@@ -477,11 +492,11 @@ static void carry_out_insert(const uint64_t *old, uint32_t slots, const struct r
         memcpy(carried + SLOTS(to), last ? new_record : carried + SLOTS(from), SLOTS(1) * sizeof *carried);
         CHECK(slots > 16 ? in_order_at(carried, slots, to) : in_order(carried, slots));
         for (uint32_t key = 0; key < keys->count; key++)
-            replies_right &= first_reply(carried, slots, keys->key[key]) == (last ? new_reply[key] : old_reply[key]);
+            replies_right &= is_promised(first_reply(carried, slots, keys->key[key]), last ? new_reply[key] : old_reply[key]);
         CHECK(replies_right);
         uint32_t key = below(keys->count), slot, id, action, spot;
         CHECK(tcam_lookup(carried, SLOTS(slots), width, keys->key[key], width, &slot, &id, &action, &spot) == TCAM_OK &&
-              TCAM_ID_ACTION(id, action) == (last ? new_reply[key] : old_reply[key]));
+              TCAM_ID_ACTION(id, action) == first_reply(carried, slots, keys->key[key]));
     }
     check_held_once(old, slots, new_record);
 }
@@ -594,7 +609,7 @@ static uint32_t least_in_class(const uint64_t *table, uint32_t slots, const stru
     for (uint32_t a = 0; a <= slots; a++)
         for (uint32_t b = 0; b <= slots; b++)
             may[a][b] = rank_of(records + SLOTS(a)) > rank_of(records + SLOTS(b)) ||
-                        !overlap(records + SLOTS(a), records + SLOTS(b));
+                        !ordered(records + SLOTS(a), records + SLOTS(b));
     for (uint32_t slot = 0; slot < slots; slot++)
         held[slot] = is_empty(table + SLOTS(slot)) ? NONE : (int)slot;
     uint32_t down = least_toward(held, (int)slots, 1), up = least_toward(held, (int)slots, 0);
@@ -856,11 +871,12 @@ static void other_widths(void)
             uint32_t lent_plan[4] = {77, 78, 79, 80}, count = 81, spot = 82;
             HERE;
             for (size_t rule_words = 0; rule_words <= ROOM(1); rule_words++, spot = 82) {
-                CHECK(tcam_plan_insert(table, words, others[index], given, rule_words, edition, lent_plan, 4, &count, &spot) ==
-                      TCAM_SHAPE);
+                uint32_t number = tcam_plan_insert(table, words, others[index], uncounted, given, rule_words, edition, lent_plan, 4,
+                                                   &count, &spot);
+                CHECK(number == TCAM_SHAPE);
                 CHECK(lent_plan[0] == 77 && lent_plan[1] == 78 && count == 81 && spot == 0);
             }
-            CHECK(tcam_plan_delete(table, words, others[index], 1, lent_plan, 4, &count, &spot) == TCAM_SHAPE);
+            CHECK(tcam_plan_delete(table, words, others[index], uncounted, 1, lent_plan, 4, &count, &spot) == TCAM_SHAPE);
             CHECK(lent_plan[0] == 77 && lent_plan[1] == 78 && count == 81 && spot == 0);
         }
 }
@@ -900,24 +916,25 @@ static void short_buffers(void)
     between_two();
     HERE;
     set_record(given, &rule);
-    CHECK(tcam_plan_insert(table, SLOTS(3), width, given, SLOTS(1), edition, two_words, 1, &count, &spot) == TCAM_SHORT);
+    CHECK(tcam_plan_insert(table, SLOTS(3), width, uncounted, given, SLOTS(1), edition, two_words, 1, &count, &spot) ==
+          TCAM_SHORT);
     CHECK(two_words[0] == 77 && two_words[1] == 78 && count == 79 && spot == 2);
 
     /* no buffer at all, no table and no rule */
-    CHECK(tcam_plan_insert(table, SLOTS(3), width, given, SLOTS(1), edition, NULL, 0, &count, &spot) == TCAM_SHORT);
+    CHECK(tcam_plan_insert(table, SLOTS(3), width, uncounted, given, SLOTS(1), edition, NULL, 0, &count, &spot) == TCAM_SHORT);
     CHECK(count == 79 && spot == 2);
-    CHECK(tcam_plan_delete(table, SLOTS(3), width, 21, NULL, 0, &count, &spot) == TCAM_SHORT);
+    CHECK(tcam_plan_delete(table, SLOTS(3), width, uncounted, 21, NULL, 0, &count, &spot) == TCAM_SHORT);
     CHECK(count == 79 && spot == 1);
-    CHECK(tcam_plan_insert(NULL, 0, width, given, SLOTS(1), edition, two_words, 2, &count, &spot) == TCAM_SHAPE);
+    CHECK(tcam_plan_insert(NULL, 0, width, uncounted, given, SLOTS(1), edition, two_words, 2, &count, &spot) == TCAM_SHAPE);
     CHECK(count == 79 && spot == 0);
     spot = 80;
-    CHECK(tcam_plan_insert(table, SLOTS(3), width, NULL, 0, edition, two_words, 2, &count, &spot) == TCAM_SHAPE);
+    CHECK(tcam_plan_insert(table, SLOTS(3), width, uncounted, NULL, 0, edition, two_words, 2, &count, &spot) == TCAM_SHAPE);
     CHECK(count == 79 && spot == 0);
     spot = 80;
-    CHECK(tcam_plan_delete(NULL, 0, width, 21, two_words, 2, &count, &spot) == TCAM_SHAPE);
+    CHECK(tcam_plan_delete(NULL, 0, width, uncounted, 21, two_words, 2, &count, &spot) == TCAM_SHAPE);
     CHECK(two_words[0] == 77 && two_words[1] == 78 && count == 79 && spot == 0);
     spot = 80;
-    CHECK(tcam_plan_delete(table, SLOTS(3), width, 21, two_words, 2, &count, &spot) == TCAM_OK);
+    CHECK(tcam_plan_delete(table, SLOTS(3), width, uncounted, 21, two_words, 2, &count, &spot) == TCAM_OK);
     CHECK(two_words[0] == 0xFFFE0002u && two_words[1] == 78 && count == 1 && spot == 80);
 }
 
@@ -1077,18 +1094,20 @@ static void long_lengths(void)
     long_plan[0] = 0;
     set_record(given, &rule);
     CHECK(long_words % SLOTS(1) == 0);
-    CHECK(tcam_plan_insert(long_table, long_words, width, given, SLOTS(1), edition, long_plan, 1, &count, &spot) == TCAM_SHAPE);
+    CHECK(tcam_plan_insert(long_table, long_words, width, uncounted, given, SLOTS(1), edition, long_plan, 1, &count, &spot) ==
+          TCAM_SHAPE);
     CHECK(long_plan[0] == 0 && count == 77 && spot == 0);
     spot = 78;
-    CHECK(tcam_plan_delete(long_table, long_words, width, 1, long_plan, 1, &count, &spot) == TCAM_SHAPE);
+    CHECK(tcam_plan_delete(long_table, long_words, width, uncounted, 1, long_plan, 1, &count, &spot) == TCAM_SHAPE);
     CHECK(long_plan[0] == 0 && count == 77 && spot == 0);
     spot = 78;
-    CHECK(tcam_plan_insert(long_table, SLOTS(1), width, given, SLOTS(1), edition, long_plan, COUNT_OF(long_plan), &count, &spot) ==
-          TCAM_OK);
+    uint32_t number = tcam_plan_insert(long_table, SLOTS(1), width, uncounted, given, SLOTS(1), edition, long_plan,
+                                       COUNT_OF(long_plan), &count, &spot);
+    CHECK(number == TCAM_OK);
     CHECK(long_plan[0] == PUT(0) && long_plan[1] == 0 && count == 1 && spot == 78);
     count = 77;
     long_table[2 * width] = TCAM_ID_ACTION(1, 1);
-    CHECK(tcam_plan_delete(long_table, SLOTS(1), width, 1, long_plan, COUNT_OF(long_plan), &count, &spot) == TCAM_OK);
+    CHECK(tcam_plan_delete(long_table, SLOTS(1), width, uncounted, 1, long_plan, COUNT_OF(long_plan), &count, &spot) == TCAM_OK);
     CHECK(long_plan[0] == EMPTYING(0) && long_plan[1] == 0 && count == 1 && spot == 78);
 }
 
@@ -1211,10 +1230,10 @@ static void sent_again(void)
     HERE; /* no word, and more than one */
     two_rules();
     set_record(given, &again);
-    CHECK(tcam_plan_insert(table, SLOTS(2), width, given, SLOTS(1), edition, words, 0, &count, &spot) == TCAM_SHORT);
+    CHECK(tcam_plan_insert(table, SLOTS(2), width, uncounted, given, SLOTS(1), edition, words, 0, &count, &spot) == TCAM_SHORT);
     CHECK(words[0] == 77 && count == 80 && spot == 1);
     spot = 81;
-    CHECK(tcam_plan_insert(table, SLOTS(2), width, given, SLOTS(1), edition, words, 3, &count, &spot) == TCAM_OK);
+    CHECK(tcam_plan_insert(table, SLOTS(2), width, uncounted, given, SLOTS(1), edition, words, 3, &count, &spot) == TCAM_OK);
     CHECK(words[0] == PUT(1) && words[1] == 78 && words[2] == 79 && count == 1 && spot == 81);
 
     /* an empty slot is equal to nothing, nor to a rule of zeros but for its id */
@@ -1256,6 +1275,159 @@ static void crossed(void)
     struct rule between = rule_of(99, 50, "0", 1);
     REFUSED(SLOTS(5), between, TCAM_CROSSED, 2);
     CHECK(least_in_class(table, 5, &between) == 3);
+}
+
+/* ---- Tables without counters ---- */
+
+/* Each case of these under every number that names the table as uncounted, and under both editions. */
+static void under_every_flag(void (*cases)(void))
+{
+    for (size_t index = 0; index < COUNT_OF(uncounted_flags) * COUNT_OF(editions); index++) {
+        edition = editions[index % COUNT_OF(editions)];
+        uncounted = uncounted_flags[index / COUNT_OF(editions)];
+        cases();
+    }
+}
+
+/* What a counted table answers, in the midst of a case. */
+#define COUNTED(statement)                 \
+    do {                                   \
+        uint32_t flag = uncounted;         \
+        uncounted = TCAM_COUNTED;          \
+        statement;                         \
+        uncounted = flag;                  \
+    } while (0)
+
+/* [1/20 1* a7, 2/30 *1 a7, empty]: the higher rank stands in the higher slot. */
+static void against_rank(void)
+{
+    const struct rule apart = rule_of(9, 5, "0", 9);
+    HOLD({0, 1, 20, "1*", 7}, {1, 2, 30, "*1", 7});
+    COUNTED(REFUSED(SLOTS(3), apart, TCAM_ORDER, 1));
+    COUNTED(KEPT(SLOTS(3), 1, TCAM_ORDER, 1));
+    look_up(__LINE__, 3, TOP | TOP >> 1, 0, 0, 1, 7);
+    INSERTED(3, apart, PUT(2));
+    look_up(__LINE__, 3, TOP | TOP >> 1, 0, 0, 1, 7);
+    COUNTED(KEPT(SLOTS(3), 9, TCAM_ORDER, 1));
+    DELETED(3, 1, 0);
+    look_up(__LINE__, 3, TOP | TOP >> 1, 0, 1, 2, 7);
+    COUNTED(DELETED(3, 2, 1)); /* in order for either */
+
+    /* with another action in any bit, out of order */
+    for (uint32_t bit = 0; bit < 32; bit++) {
+        HOLD({0, 1, 20, "1*", 7}, {1, 2, 30, "*1", 7 ^ (uint32_t)1 << bit});
+        REFUSED(SLOTS(3), apart, TCAM_ORDER, 1);
+        KEPT(SLOTS(3), 1, TCAM_ORDER, 1);
+    }
+    HOLD({0, 1, 20, "1*", 7}, {1, 1, 30, "*1", 7}); /* 3 before 4 */
+    REFUSED(SLOTS(3), apart, TCAM_TWICE, 1);
+    HOLD({0, 1, 20, "1*", 7}, {1, 2, 65536, "*1", 7}); /* and 2 */
+    REFUSED(SLOTS(3), apart, TCAM_RECORD, 1);
+}
+
+/* [empty, 1/40 1* a7, 2/30 *1 a7], 3/20 01 a9: one write less, and the key 11 is told rule 2 for rule 1 on the way. */
+static void fewer_writes(void)
+{
+    const struct rule new_rule = rule_of(3, 20, "01", 9);
+    HOLD({1, 1, 40, "1*", 7}, {2, 2, 30, "*1", 7});
+    COUNTED(PLANNED(3, new_rule, COPY(1, 0), COPY(2, 1), PUT(2)));
+    PLANNED(3, new_rule, COPY(2, 0), PUT(2));
+    look_up(__LINE__, 3, TOP | TOP >> 1, 0, 1, 1, 7);
+    memcpy(table, table + SLOTS(2), SLOTS(1) * sizeof *table);
+    look_up(__LINE__, 3, TOP | TOP >> 1, 0, 0, 2, 7);
+
+    /* the mirror, toward higher slots */
+    HOLD({0, 1, 40, "1*", 7}, {1, 2, 30, "*1", 7});
+    COUNTED(PLANNED(3, rule_of(3, 50, "10", 9), COPY(1, 2), COPY(0, 1), PUT(0)));
+    INSERTED(3, rule_of(3, 50, "10", 9), COPY(0, 2), PUT(0));
+    look_up(__LINE__, 3, TOP | TOP >> 1, 0, 1, 2, 7);
+}
+
+/* [1/20 1 a7, 2/20 1 a7, empty]: two equal rules. */
+static void equal_rules(void)
+{
+    HOLD({0, 1, 20, "1", 7}, {1, 2, 20, "1", 7});
+    COUNTED(REFUSED(SLOTS(3), rule_of(9, 20, "1", 7), TCAM_ORDER, 1));
+    REFUSED(SLOTS(3), rule_of(9, 20, "1", 8), TCAM_TIE, 0);
+    REFUSED(SLOTS(2), rule_of(9, 20, "1", 8), TCAM_TIE, 0);
+    PLANNED(2, rule_of(9, 20, "1", 7), PUT(0));
+    REFUSED(SLOTS(3), rule_of(2, 20, "1", 7), TCAM_KNOWN, 1);
+    INSERTED(3, rule_of(9, 20, "1", 7), PUT(0)); /* the lowest, and the other stays */
+    look_up(__LINE__, 3, TOP, 0, 0, 9, 7);
+    INSERTED(3, rule_of(10, 20, "1", 7), PUT(0));
+    KEPT(SLOTS(3), 9, TCAM_UNKNOWN, 0);
+    DELETED(3, 10, 0);
+    look_up(__LINE__, 3, TOP, 0, 1, 2, 7);
+    PLANNED(3, rule_of(11, 20, "1", 7), PUT(1));
+
+    /* the lowest equal one stands behind others */
+    HOLD({0, 1, 40, "1", 8}, {1, 2, 20, "0", 7}, {2, 3, 20, "1", 7}, {3, 4, 20, "1", 7});
+    PLANNED(4, rule_of(9, 20, "1", 7), PUT(2));
+    REFUSED(SLOTS(4), rule_of(9, 20, "1", 9), TCAM_TIE, 2);
+    REFUSED(SLOTS(4), rule_of(9, 20, "", 8), TCAM_TIE, 1);
+    REFUSED(SLOTS(4), rule_of(9, 20, "", 7), TCAM_FULL, 0); /* it ties with none, and replaces none */
+    for (uint32_t bit = 0; bit < 32; bit++)
+        REFUSED(SLOTS(4), rule_of(9, 20, "1", 7 ^ (uint32_t)1 << bit), TCAM_TIE, 2);
+}
+
+/* [5/10 00 a1, 6/40 01 a2, empty], 7/20 0: crossed unless it has the action of one of the two. */
+static void spared_refusals(void)
+{
+    HOLD({0, 5, 10, "00", 1}, {1, 6, 40, "01", 2});
+    for (uint32_t action = 1; action <= 3; action++)
+        COUNTED(REFUSED(SLOTS(3), rule_of(7, 20, "0", action), TCAM_CROSSED, 1));
+    PLANNED(3, rule_of(7, 20, "0", 1), PUT(2));
+    PLANNED(3, rule_of(7, 20, "0", 2), COPY(0, 2), PUT(0));
+    REFUSED(SLOTS(3), rule_of(7, 20, "0", 3), TCAM_CROSSED, 1);
+
+    /* 7/10 and 7/40 tie with the one or with the other */
+    for (uint32_t action = 1; action <= 3; action++) {
+        COUNTED(REFUSED(SLOTS(3), rule_of(7, 10, "0", action), TCAM_TIE, 0));
+        COUNTED(REFUSED(SLOTS(3), rule_of(7, 40, "0", action), TCAM_TIE, 1));
+    }
+    PLANNED(3, rule_of(7, 10, "0", 1), PUT(2));
+    REFUSED(SLOTS(3), rule_of(7, 10, "0", 2), TCAM_TIE, 0);
+    PLANNED(3, rule_of(7, 40, "0", 2), COPY(0, 2), PUT(0));
+    REFUSED(SLOTS(3), rule_of(7, 40, "0", 1), TCAM_TIE, 1);
+}
+
+static void uncounted_cases(void)
+{
+    under_every_flag(against_rank);
+    under_every_flag(fewer_writes);
+    under_every_flag(equal_rules);
+    under_every_flag(spared_refusals);
+}
+
+/* Where all actions differ the answers are those of a counted table, but for a rule that is sent again with another action. */
+static void different_actions(void)
+{
+    uncounted = TCAM_UNCOUNTED;
+    last_word_decides();
+    edge_tables();
+    two_rules();
+    REFUSED(SLOTS(2), rule_of(9, 20, "1", 5), TCAM_TIE, 1);
+    PLANNED(2, rule_of(9, 20, "1", 8), PUT(1));
+    REFUSED(SLOTS(2), rule_of(9, 25, "1", 5), TCAM_FULL, 0);
+    for (size_t index = 0; index < COUNT_OF(editions); index++) { /* at rank 65,536 */
+        struct rule exact_rule = rule_of(1, 65536, "", 7);
+        for (uint32_t word = 0; word < width; word++)
+            exact_rule.mask[word] = ALL;
+        clear();
+        put(0, exact_rule);
+        exact_rule.id = 2;
+        put(1, exact_rule);
+        exact_rule.id = 3;
+        exact_rule.priority = 500;
+        edition = editions[index];
+        COUNTED(REFUSED(SLOTS(3), exact_rule, TCAM_ORDER, 1));
+        PLANNED(3, exact_rule, PUT(edition == TCAM_EDITION_10 ? 0 : 2));
+        exact_rule.action = 8;
+        if (edition == TCAM_EDITION_10)
+            REFUSED(SLOTS(3), exact_rule, TCAM_TIE, 0);
+        else
+            PLANNED(3, exact_rule, PUT(2));
+    }
 }
 
 /* Faults of a table and a rule, one bit each; for a delete KNOWN stands for an id that is absent. */
@@ -1502,7 +1674,8 @@ static void priorities_given(void)
         put(0, for_key_zero(1, 65536, 1));
         memcpy(again, table, SLOTS(1) * sizeof *table);
         for (int taken_out = 0; taken_out < 2; taken_out++) {
-            CHECK(tcam_plan_insert(table, SLOTS(3), width, again, SLOTS(1), edition, words, 3, &count, &spot) == TCAM_RULE);
+            CHECK(tcam_plan_insert(table, SLOTS(3), width, uncounted, again, SLOTS(1), edition, words, 3, &count, &spot) ==
+                  TCAM_RULE);
             CHECK(words[0] == 77 && words[1] == 78 && words[2] == 79 && count == 80 && spot == 0);
             clear();
             spot = 81;
@@ -1616,6 +1789,8 @@ static void long_tables_of_few_rules(void)
 static struct {
     unsigned long refused[CAUSES], planned, of_count[TCAM_MAX_SLOTS + 1], whole, up, equal, choice_tie, hop_tie, on_dependant,
         around_dependant, raised, below_raised, replaced, replaced_in_full, searched, deleted, not_deleted[CAUSES];
+    /* of uncounted tables: plans where a counted one declines with this number, shorter ones, and one of several equal replaced */
+    unsigned long spared[CAUSES], shorter, one_of_several;
 } seen;
 
 /* Rank 65,536 in a table, and of a rule that is put in. */
@@ -1633,6 +1808,31 @@ static int has_empty_slot(const uint64_t *held, uint32_t slots)
         if (is_empty(held + SLOTS(slot)))
             return 1;
     return 0;
+}
+
+/* How many rules of a table are equal to a new one. */
+static uint32_t equal_to(const uint64_t *held, uint32_t slots, const struct rule *rule)
+{
+    record_words record;
+    uint32_t equals = 0;
+    set_ranked(record, rule);
+    for (uint32_t slot = 0; slot < slots; slot++)
+        equals += equal(held + SLOTS(slot), record) != 0;
+    return equals;
+}
+
+/* A plan for an uncounted table, beside what a counted one would answer. */
+static void count_spared(const uint64_t *held, uint32_t slots, const struct rule *rule, const struct told *told)
+{
+    static struct told counted;
+    if (uncounted == TCAM_COUNTED)
+        return;
+    COUNTED(ref_insert(held, SLOTS(slots), rule, &counted));
+    if (counted.number != TCAM_OK)
+        seen.spared[counted.number]++;
+    else
+        seen.shorter += told->count < counted.count;
+    seen.one_of_several += replaces(held, slots, rule) && equal_to(held, slots, rule) > 1;
 }
 
 static void count_insert(const uint64_t *held, uint32_t slots, const struct rule *rule, const struct told *told)
@@ -1666,6 +1866,8 @@ static void made_insert(const struct lent *lent, uint32_t slots, const struct ru
 {
     ref_insert(lent->original, lent->words, rule, &ref);
     count_insert(lent->original, slots, rule, &ref);
+    if (ref.number == TCAM_OK)
+        count_spared(lent->original, slots, rule, &ref);
     CHECK(ref.number < CAUSES);
     if (ref.number != TCAM_OK) {
         call_insert(lent, rule, below(slots + 2), (int)below(2), &ref);
@@ -1846,13 +2048,25 @@ static int made_overlap(const struct space *space, uint32_t a, uint32_t b)
     return 1;
 }
 
+/* Whether order is about the two: in an uncounted table their actions differ. */
+static int made_ordered(const struct space *space, uint32_t a, uint32_t b)
+{
+    return (uncounted == TCAM_COUNTED || made[a].rule.action != made[b].rule.action) && made_overlap(space, a, b);
+}
+
+/* Of uncounted tables one of few. */
+static uint32_t made_action(void)
+{
+    return uncounted != TCAM_COUNTED ? below(3) : below(4) == 0 ? UINT32_MAX : below(100);
+}
+
 static void make_rule(const struct space *space, uint32_t index, uint32_t stars, uint32_t priorities)
 {
     for (uint32_t bit = 0; bit < 4; bit++)
         made[index].digits[bit] = (uint8_t)(below(8) < stars ? 2 : below(2));
     set_digits(&made[index].rule, space, made[index].digits);
     made[index].rule.priority = priorities == 65535 ? 65535 * below(2) : 2 * below(priorities / 2);
-    made[index].rule.action = below(4) == 0 ? UINT32_MAX : below(100);
+    made[index].rule.action = made_action();
     made[index].placed = 0;
 }
 
@@ -1865,7 +2079,7 @@ static void may_raise(struct rule *rule)
         rule->priority = 65536;
 }
 
-/* Rules that do not tie with each other; returns how many were found. */
+/* Rules that do not tie with each other, in an uncounted table only where they are of one action; returns how many were found. */
 static uint32_t make_rules(const struct space *space, uint32_t wanted_rules, uint32_t stars, uint32_t priorities)
 {
     for (uint32_t index = 0; index < wanted_rules; index++) {
@@ -1874,8 +2088,10 @@ static uint32_t make_rules(const struct space *space, uint32_t wanted_rules, uin
             ties = 0;
             make_rule(space, index, stars, priorities);
             may_raise(&made[index].rule);
+            if (uncounted != TCAM_COUNTED && index > 0 && below(6) == 0)
+                made[index] = made[below(index)]; /* an equal rule of one action */
             for (uint32_t other = 0; other < index; other++)
-                ties |= made[other].rule.priority == made[index].rule.priority && made_overlap(space, other, index);
+                ties |= made[other].rule.priority == made[index].rule.priority && made_ordered(space, other, index);
         }
         if (ties)
             return index;
@@ -1891,7 +2107,7 @@ static uint32_t next_rule(const struct space *space, uint32_t rules, int by_prio
         int first = !made[index].placed;
         for (uint32_t other = 0; other < rules && first; other++)
             if (!made[other].placed && made[other].rule.priority > made[index].rule.priority)
-                first = !by_priority && !made_overlap(space, other, index);
+                first = !by_priority && !made_ordered(space, other, index);
         if (first && below(++candidates) == 0)
             chosen = index;
     }
@@ -1921,6 +2137,8 @@ static uint32_t make_table(const struct space *space, uint32_t slots, uint32_t *
     if (rules > 0 && below(2) == 0) { /* a priority next to that of some rule */
         uint64_t near = made[below(rules)].rule.priority;
         made[rules].rule.priority = near >= 65535 || (near > 0 && below(2) == 0) ? near - 1 : near + 1;
+        if (uncounted != TCAM_COUNTED && near <= 65535 && below(3) == 0)
+            made[rules].rule.priority = near;
     }
     return rules;
 }
@@ -1978,7 +2196,8 @@ static uint32_t send_again(uint32_t slots, uint32_t rules, struct rule *rule)
     const uint32_t id = rule->id;
     *rule = *present;
     rule->id = id;
-    rule->action = below(100);
+    if (uncounted == TCAM_COUNTED || below(4) == 0)
+        rule->action = made_action();
     if (rule->priority == 65536)
         rule->priority = below(65536);
     if (below(4) == 0)
@@ -1991,6 +2210,7 @@ static void random_table(uint32_t slots)
     struct space space;
     struct keys keys;
     uint32_t id_kind;
+    uncounted = below(2) == 0 ? TCAM_COUNTED : uncounted_flags[below(COUNT_OF(uncounted_flags))];
     random_space(&space);
     uint32_t rules = make_table(&space, slots, &id_kind);
     struct rule rule = made[rules].rule;
@@ -2045,6 +2265,11 @@ static void check_plans(unsigned long tables)
     CHECK(seen.replaced_in_full > tables / 50);
     CHECK(seen.searched > tables / 5);
     CHECK(seen.deleted > tables / 4);
+    CHECK(seen.spared[TCAM_ORDER] > tables / 20);
+    CHECK(seen.spared[TCAM_TIE] > tables / 500);
+    CHECK(seen.spared[TCAM_CROSSED] > tables / 5000);
+    CHECK(seen.shorter > tables / 500);
+    CHECK(seen.one_of_several > tables / 500);
 }
 
 static unsigned long tables_made; /* at each width */
@@ -2080,8 +2305,9 @@ int main(int count, char **words)
         names, script, last_word_decides, other_rules, other_widths, edge_tables, short_buffers, absent_ids,
         priorities_at_ends, mask_zero, choices, displaced_rules, rules_apart, rules_apart_in_words, wrong_lengths,
         long_lengths, unsound_records, ids_twice, disordered, unsound_rules, known_and_tied, sent_again,
-        nearly_sent_again, crossed, fault_sets, either_edition, tied_ranks, masks_not_full, ranks_of_records,
-        other_editions, priorities_given, long_chains, long_tables_apart, long_tables_of_few_rules, all_tables, random_tables, longer_tables,
+        nearly_sent_again, crossed, uncounted_cases, different_actions, fault_sets, either_edition, tied_ranks,
+        masks_not_full, ranks_of_records, other_editions, priorities_given, long_chains, long_tables_apart,
+        long_tables_of_few_rules, all_tables, random_tables, longer_tables,
     };
     tables_made = begin(count, words, 102000) / 2;
     open_pages(&plan_pages, (MOST_ROOM + PLAN_GUARDS) * sizeof(uint32_t));

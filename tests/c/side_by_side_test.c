@@ -43,10 +43,10 @@ static void ask(struct answers *told, unsigned long first)
         uint32_t slot = (uint32_t)(index % TABLE_SLOTS);
         told->part[slot][0] = tcam_slot_record(table, WORDS, width, slot, &told->part[slot][1]);
     }
-    told->insert[0] = tcam_plan_insert(table, WORDS, width, new_rule, TCAM_RECORD_WORDS(width), TCAM_EDITION_13,
+    told->insert[0] = tcam_plan_insert(table, WORDS, width, uncounted, new_rule, TCAM_RECORD_WORDS(width), TCAM_EDITION_13,
                                        told->insert_plan, TABLE_SLOTS, told->insert + 1, &spot);
-    told->delete[0] = tcam_plan_delete(table, WORDS, width, 2, told->delete_plan, 1, told->delete + 1, &spot);
-    told->save[0] = tcam_save(table, WORDS, width, told->image, sizeof told->image, told->save + 1, &spot);
+    told->delete[0] = tcam_plan_delete(table, WORDS, width, uncounted, 2, told->delete_plan, 1, told->delete + 1, &spot);
+    told->save[0] = tcam_save(table, WORDS, width, uncounted, told->image, sizeof told->image, told->save + 1, &spot);
 }
 
 static struct answers alone;

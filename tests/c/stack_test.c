@@ -1,7 +1,7 @@
 /*
- * Measures how much stack each call takes at 1,024 slots of each width, and checks that it is no more than tcam.h says. A call
- * runs on a stack of its own, painted beforehand; what it has used is what is no longer paint. Compiled without sanitizers: some
- * calls call C's memory functions, as tcam.h says, and a sanitizer's take more stack than C's.
+ * Measures how much stack each call takes at 1,024 slots of each width, counted and uncounted, and checks that it is no more than
+ * tcam.h says. A call runs on a stack of its own, painted beforehand; what it has used is what is no longer paint. Compiled without
+ * sanitizers: some calls call C's memory functions, as tcam.h says, and a sanitizer's take more stack than C's.
  *
  *     stack_test [-v]    -v prints the measures
  */
@@ -25,8 +25,8 @@ static const struct limits {
     size_t write;       /* for each word of the plan */
     size_t save, load;
 } limits[] = {
-    {TCAM_WIDTH_128, 288, 128, 24640, 320, 30976, 10752, 96, 24704, 74112},
-    {TCAM_WIDTH_320, 288, 128, 24640, 320, 30976, 10752, 96, 24704, 123264},
+    {TCAM_WIDTH_128, 288, 128, 24640, 320, 30992, 10752, 96, 24704, 74112},
+    {TCAM_WIDTH_320, 288, 128, 24640, 320, 30992, 10752, 96, 24704, 123264},
 };
 static const struct limits *limit;
 
@@ -49,7 +49,7 @@ static uint32_t plan[SLOTS];
 static uint8_t image[TCAM_IMAGE_BYTES(TCAM_WIDTH_320, SLOTS)];
 static const uint64_t key[TCAM_WIDTH_320] = {1, 2, 3, 4, 5};
 static size_t words, rule_words, room;
-static uint32_t width;
+static uint32_t width, uncounted;
 
 static const uint32_t edition = TCAM_EDITION_10; /* under which a rule's mask is looked at for its rank */
 
@@ -78,13 +78,13 @@ ON_OWN_STACK run_slot_record(void)
 ON_OWN_STACK run_plan_insert(void)
 {
     top = __builtin_frame_address(0);
-    result = tcam_plan_insert(table, words, width, rule, rule_words, edition, plan, room, &count, &spot);
+    result = tcam_plan_insert(table, words, width, uncounted, rule, rule_words, edition, plan, room, &count, &spot);
 }
 
 ON_OWN_STACK run_plan_delete(void)
 {
     top = __builtin_frame_address(0);
-    result = tcam_plan_delete(table, words, width, 1000, plan, SLOTS, &count, &spot);
+    result = tcam_plan_delete(table, words, width, uncounted, 1000, plan, SLOTS, &count, &spot);
 }
 
 ON_OWN_STACK run_carry_out(void)
@@ -96,13 +96,13 @@ ON_OWN_STACK run_carry_out(void)
 ON_OWN_STACK run_save(void)
 {
     top = __builtin_frame_address(0);
-    result = tcam_save(table, words, width, image, sizeof image, &bytes_saved, &spot);
+    result = tcam_save(table, words, width, uncounted, image, sizeof image, &bytes_saved, &spot);
 }
 
 ON_OWN_STACK run_load(void)
 {
     top = __builtin_frame_address(0);
-    result = tcam_load(image, bytes_saved, table, words, width, &spot);
+    result = tcam_load(image, bytes_saved, table, words, width, uncounted, &spot);
 }
 
 /* Calls a function with the stack pointer at the end of the painted stack. */
@@ -156,19 +156,19 @@ static void check(int answered, const char *what, size_t bytes, size_t most)
 {
     checks++;
     if (told)
-        printf("width %u, %-50s %6zu bytes, at most %zu\n", (unsigned)width, what, bytes, most);
+        printf("width %u, flag %u, %-50s %6zu bytes, at most %zu\n", (unsigned)width, (unsigned)uncounted, what, bytes, most);
     if (answered && bytes <= most)
         return;
     failures++;
-    fprintf(stderr, "stack_test: width %u, %s: result %u, count %u, %zu bytes of stack, at most %zu wanted\n", (unsigned)width,
-            what, (unsigned)result, (unsigned)count, bytes, most);
+    fprintf(stderr, "stack_test: width %u, flag %u, %s: result %u, count %u, %zu bytes of stack, at most %zu wanted\n",
+            (unsigned)width, (unsigned)uncounted, what, (unsigned)result, (unsigned)count, bytes, most);
 }
 
-/* A rule that matches every key. */
+/* A rule that matches every key; rules of different priorities have different actions, so that they are ordered with either flag. */
 static void make_rule(uint64_t *record, uint32_t rule_id, uint32_t priority)
 {
     static const uint64_t none[TCAM_WIDTH_320];
-    tcam_make_record(record, width, rule_id, priority, none, none, 7);
+    tcam_make_record(record, width, rule_id, priority, none, none, priority);
 }
 
 /* Every rule depends on all before it, and one slot is empty. */
@@ -266,11 +266,12 @@ static void compare_limits(const struct limits *now)
         check(1, of_call[index].what, of_call[index].bytes, grown(of_call[index].once));
 }
 
-/* Each call at the width of these limits. */
-static void measure(const struct limits *at_width)
+/* Each call at the width of these limits, on a table of this flag. */
+static void measure(const struct limits *at_width, uint32_t flag)
 {
     limit = at_width;
     width = limit->width;
+    uncounted = flag;
     words = TCAM_TABLE_WORDS(width, SLOTS);
     rule_words = TCAM_RECORD_WORDS(width);
     make_chain(1023);
@@ -293,8 +294,10 @@ int main(int argument_count, char **arguments)
     }
     stack = (unsigned char *)mapped + page;
 
-    for (size_t index = 0; index < sizeof limits / sizeof limits[0]; index++)
-        measure(&limits[index]);
+    for (size_t index = 0; index < sizeof limits / sizeof limits[0]; index++) {
+        measure(&limits[index], TCAM_COUNTED);
+        measure(&limits[index], TCAM_UNCOUNTED);
+    }
 
     if (failures != 0) {
         fprintf(stderr, "stack_test: %lu of %lu checks failed\n", failures, checks);

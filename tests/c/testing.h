@@ -1,7 +1,7 @@
 /*
- * What the test programs over the library share: the width under test and the edition, counted checks, rules and records, checks 1
- * to 4, random numbers, and lent tables, rules, keys and cells between guards. A program defines _DEFAULT_SOURCE before it includes
- * this, for mmap without a file.
+ * What the test programs over the library share: the width under test, the edition and the flag, counted checks, rules and records,
+ * checks 1 to 4, random numbers, and lent tables, rules, keys and cells between guards. A program defines _DEFAULT_SOURCE before it
+ * includes this, for mmap without a file.
  */
 #ifndef TESTING_H
 #define TESTING_H
@@ -18,7 +18,7 @@
 #define TOP 0x8000000000000000u
 #define COUNT_OF(array) (sizeof(array) / sizeof *(array))
 
-/* ---- The width under test, and the edition ---- */
+/* ---- The width under test, the edition and the flag ---- */
 
 static const uint32_t widths[] = {TCAM_WIDTH_128, TCAM_WIDTH_320};
 static uint32_t width = TCAM_WIDTH_128;
@@ -26,6 +26,10 @@ static uint32_t width = TCAM_WIDTH_128;
 /* The edition that rules are given under: 1.3 but where a case says otherwise. */
 static const uint32_t editions[] = {TCAM_EDITION_10, TCAM_EDITION_13};
 static uint32_t edition = TCAM_EDITION_13;
+
+/* The flag that names the table as counted, but where a case says otherwise; and numbers that all name it as uncounted. */
+static uint32_t uncounted = TCAM_COUNTED;
+static const uint32_t uncounted_flags[] = {TCAM_UNCOUNTED, 2, 7, 256, 65536, 0x80000000u, UINT32_MAX};
 
 /* Words of a table of so many slots at this width, which are also where slot n begins; and room for it at either width. */
 #define SLOTS(n) ((size_t)(n) * (2 * width + 2))
@@ -59,9 +63,10 @@ static inline void check(int holds, const char *expression, const char *file, in
         return;
     fprintf(stderr, "%s:%d: failed: %s", file, line, expression);
     if (case_line != 0)
-        fprintf(stderr, " (case at line %d, width %u, edition %u)\n", case_line, (unsigned)width, (unsigned)edition);
+        fprintf(stderr, " (case at line %d, ", case_line);
     else
-        fprintf(stderr, " (%s %lu, width %u, edition %u, seed %llu)\n", made_how, turn, (unsigned)width, (unsigned)edition, seed);
+        fprintf(stderr, " (%s %lu, seed %llu, ", made_how, turn, seed);
+    fprintf(stderr, "width %u, edition %u, flag %u)\n", (unsigned)width, (unsigned)edition, (unsigned)uncounted);
 }
 
 #define CHECK(expression) check((expression) ? 1 : 0, #expression, __FILE__, __LINE__)
@@ -194,6 +199,18 @@ static inline int overlap(const uint64_t *a, const uint64_t *b)
     return 1;
 }
 
+/* Whether two records have the same action. */
+static inline int same_action(const uint64_t *a, const uint64_t *b)
+{
+    return tag_of(a) % 4294967296u == tag_of(b) % 4294967296u;
+}
+
+/* Whether order is about two rules: they overlap and, in an uncounted table, their actions differ. */
+static inline int ordered(const uint64_t *a, const uint64_t *b)
+{
+    return (uncounted == TCAM_COUNTED || !same_action(a, b)) && overlap(a, b);
+}
+
 /* Whether two slots hold rules of the same value, mask and rank; an empty slot is equal to nothing. */
 static inline int equal(const uint64_t *a, const uint64_t *b)
 {
@@ -242,14 +259,14 @@ static inline uint32_t first_twice(const uint64_t *table, uint32_t slots)
     return slots;
 }
 
-/* The lowest slot with an earlier overlapping rule of no higher rank. */
+/* The lowest slot with an earlier rule of no higher rank that it is ordered with. */
 static inline uint32_t first_out_of_order(const uint64_t *table, uint32_t slots)
 {
     for (uint32_t slot = 0; slot < slots; slot++) {
         const uint64_t *rule = table + SLOTS(slot);
         for (uint32_t earlier = 0; earlier < slot && !is_empty(rule); earlier++) {
             const uint64_t *other = table + SLOTS(earlier);
-            if (rank_of(other) <= rank_of(rule) && !is_empty(other) && overlap(other, rule))
+            if (rank_of(other) <= rank_of(rule) && !is_empty(other) && ordered(other, rule))
                 return slot;
         }
     }
@@ -422,6 +439,7 @@ static inline void run_cases(void (*const *cases)(void), size_t count)
         width = widths[at];
         for (size_t index = 0; index < count; index++) {
             edition = TCAM_EDITION_13;
+            uncounted = TCAM_COUNTED;
             cases[index]();
         }
     }

@@ -93,7 +93,7 @@ static uint32_t plan_insert(const uint64_t *table, size_t words, const uint64_t 
 {
     record_words given;
     edition = give(given, rule);
-    return tcam_plan_insert(table, words, width, given, TCAM_RECORD_WORDS(width), edition, plan, MOST, count, spot);
+    return tcam_plan_insert(table, words, width, uncounted, given, TCAM_RECORD_WORDS(width), edition, plan, MOST, count, spot);
 }
 
 /* Inserts, and gives the number of writes; 0 where the insert is declined, with this number. */
@@ -110,7 +110,7 @@ static uint32_t insert(uint64_t *table, size_t words, const uint64_t *rule, uint
 static void take_out(uint64_t *table, size_t words, const uint64_t *rule)
 {
     uint32_t plan[1], count, spot;
-    CHECK(tcam_plan_delete(table, words, width, id_of(rule), plan, 1, &count, &spot) == TCAM_OK);
+    CHECK(tcam_plan_delete(table, words, width, uncounted, id_of(rule), plan, 1, &count, &spot) == TCAM_OK);
     carry_out(table, words, plan, count, tcam_no_rule, 2);
 }
 

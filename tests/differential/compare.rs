@@ -3,14 +3,14 @@
 
 use crate::guarded::{Guarded, Seen};
 use crate::input::{initial_bytes, initial_words, Call, Input, CELL_START};
-use crate::tally::Tally;
+use crate::tally::{plan_kind, Tally, ID_CHANGES, OTHER_ID};
 use reference::bits::Bits;
 use reference::carry::{carry_out, Carried, Progress};
 use reference::given::Given;
 use reference::image::{load, save};
-use reference::lookup::{lookup, slot_record, Found};
+use reference::lookup::{is_promised, lookup, slot_record, Found};
 use reference::plan::{plan_delete, plan_insert, replaced_slot};
-use reference::table::{first_out_of_order, read_slots, record_words, Refusal, Rule, Slot};
+use reference::table::{first_out_of_order, read_slots, record_words, Refusal, Rule, Slot, COUNTED};
 
 /// Tables of up to this many slots are tested for order after every write; larger ones now and then, and around the last write.
 const SLOTS_ALWAYS_TESTED: usize = 64;
@@ -122,11 +122,12 @@ fn expected_slot_record(input: &Input) -> Seen {
 /// An insert's or a delete's plan, as far as the call is the one or the other.
 fn check_plan(library: &Guarded, input: &Input, tally: &mut Tally) -> Result<Option<Vec<u32>>, Mismatch> {
     let is_insert = matches!(input.call, Call::PlanInsert | Call::InsertInFull);
-    let (call, answer) = if is_insert {
-        (Call::PlanInsert, plan_insert(&input.table, input.width, &input.rule, input.edition, input.room))
-    } else {
-        (Call::PlanDelete, plan_delete(&input.table, input.width, input.id, input.room))
-    };
+    let call = if is_insert { Call::PlanInsert } else { Call::PlanDelete };
+    let name = |writes: &[u32]| if is_insert { plan_kind(input, writes) } else { "emptying" };
+    let answer = tally.by_flag(call, input, name, |uncounted| match call {
+        Call::PlanInsert => plan_insert(&input.table, input.width, uncounted, &input.rule, input.edition, input.room),
+        _ => plan_delete(&input.table, input.width, uncounted, input.id, input.room),
+    });
     let mut expected = untouched(input, 2);
     expected.beside = if is_insert { input.rule.clone() } else { Vec::new() };
     expected.plan = initial_words(input.room);
@@ -172,7 +173,8 @@ fn check_carry_out(library: &Guarded, input: &mut Input, tally: &mut Tally) -> R
 fn check_save(library: &Guarded, input: &Input, tally: &mut Tally) -> Result<(), Mismatch> {
     let mut expected = untouched(input, 2);
     expected.image = initial_bytes(input.room);
-    match save(&input.table, input.width, input.room) {
+    let saved = |uncounted: bool| save(&input.table, input.width, uncounted, input.room);
+    match tally.by_flag(Call::Save, input, |_| "saved", saved) {
         Ok(bytes) => {
             expected.cells[0] = bytes.len() as u32;
             expected.image[..bytes.len()].copy_from_slice(&bytes);
@@ -195,9 +197,10 @@ fn highest_rule(table: &[u64], width: usize) -> usize {
 fn check_load(library: &Guarded, input: &Input, tally: &mut Tally) -> Result<(), Mismatch> {
     let mut expected = untouched(input, 1);
     expected.image = input.image.clone();
-    match load(&input.image, input.table.len(), input.width) {
+    let loaded = |uncounted: bool| load(&input.image, input.table.len(), input.width, uncounted);
+    match tally.by_flag(Call::Load, input, |_| "loaded", loaded) {
         Ok(table) => {
-            let again = save(&table, input.width, input.image.len());
+            let again = save(&table, input.width, input.is_uncounted(), input.image.len());
             if again.as_ref() != Ok(&input.image) {
                 return Err(Mismatch::of("the reference saves other bytes".to_string(), &input.image, again));
             }
@@ -212,31 +215,32 @@ fn check_load(library: &Guarded, input: &Input, tally: &mut Tally) -> Result<(),
     same("load", library.load(input), expected)
 }
 
-/// The reply that the demands promise: the highest-ranked matching rule of a set, whatever the layout.
-fn reply_of_rules<'a>(rules: impl Iterator<Item = &'a Rule>, key: Bits) -> Option<(u32, u32)> {
-    rules.filter(|rule| rule.matches(key)).max_by_key(|rule| rule.rank).map(|rule| (rule.id, rule.action))
-}
-
-/// An insert or a delete in full; after an insert the same rule is sent again, under another id and with another action.
+/// An insert or a delete in full; after an insert the same rule is sent again under another id and with another action. An uncounted table
+/// declines that, and takes it with the same action.
 fn check_in_full(library: &Guarded, input: &Input, tally: &mut Tally) -> Result<(), Mismatch> {
     let Some(table) = check_change(library, input, tally)? else { return Ok(()) };
     if input.call == Call::DeleteInFull {
         return Ok(());
     }
-    let again = sent_again(input, table);
-    match check_change(library, &again, tally)? {
-        Some(_) => Ok(()),
-        None => Err(Mismatch::of("a rule sent again is declined".to_string(), &again.table, &again.rule)),
+    let with_same_action: &[bool] = if input.is_uncounted() { &[false, true] } else { &[false] };
+    for &same_action in with_same_action {
+        let again = sent_again(input, table.clone(), same_action);
+        let is_accepted = check_change(library, &again, tally)?.is_some();
+        if is_accepted != (same_action || !input.is_uncounted()) {
+            return Err(Mismatch::of(format!("a rule sent again: accepted {is_accepted}"), &again.table, &again.rule));
+        }
     }
+    Ok(())
 }
 
 /// The input's rule given once more on the table that its plan has left; a word of the plan buffer is enough.
-fn sent_again(input: &Input, table: Vec<u64>) -> Input {
+fn sent_again(input: &Input, table: Vec<u64>, same_action: bool) -> Input {
     let (width, slot_words) = (input.width, record_words(input.width));
     let is_known = |id: &u64| table.chunks(slot_words).any(|record| record[2 * width] >> 32 == *id);
     let id = (1..).find(|id| !is_known(id)).expect("a table has few ids");
     let mut again = input.clone();
-    again.rule[2 * width] = id << 32 | !input.rule[2 * width] & 0xffff_ffff;
+    let action = if same_action { input.rule[2 * width] } else { !input.rule[2 * width] };
+    again.rule[2 * width] = id << 32 | action & 0xffff_ffff;
     again.room = 1 + input.room % 2;
     again.table = table;
     again
@@ -250,12 +254,12 @@ fn rules_after(input: &Input, slots: &[Slot]) -> Vec<Rule> {
     }
     let given = Given::of_record(&input.rule, input.width);
     let new = given.ranked(input.width, input.edition).expect("a planned rule is sound");
-    let replaced = replaced_slot(slots, &new).and_then(|slot| slots[slot]);
+    let replaced = replaced_slot(slots, &new, input.is_uncounted()).and_then(|slot| slots[slot]);
     rules.filter(|rule| Some(*rule) != replaced).chain([new]).collect()
 }
 
 /// Plans, then carries out write by write, and gives the last table. Before the last write each key has its old reply, after it its
-/// new one.
+/// new one; in an uncounted table only the reply's action is the old one and the new one.
 fn check_change(library: &Guarded, input: &Input, tally: &mut Tally) -> Result<Option<Vec<u64>>, Mismatch> {
     let Some(writes) = check_plan(library, input, tally)? else { return Ok(None) };
     let slots = read_slots(&input.table, input.width).expect("a planned table is sound");
@@ -267,9 +271,14 @@ fn check_change(library: &Guarded, input: &Input, tally: &mut Tally) -> Result<O
     state.plan[..writes.len()].copy_from_slice(&writes);
     state.done = 0;
     state.total = writes.len() as u32;
+    let mut before = Vec::new();
     loop {
         let rules = if state.done < state.total { &old_rules } else { &new_rules };
-        check_state(library, &state, rules, tally)?;
+        let replies = check_state(library, &state, rules, tally)?;
+        if state.done < state.total && before.iter().zip(&replies).any(|(before, reply)| before != reply) {
+            tally.count(Call::Lookup, ID_CHANGES);
+        }
+        before = replies;
         match check_carry_out(library, &mut state, tally)? {
             Some(Carried::Wrote) => {}
             Some(Carried::Finished) => break,
@@ -288,22 +297,30 @@ fn check_change(library: &Guarded, input: &Input, tally: &mut Tally) -> Result<O
     Ok(Some(state.table))
 }
 
-/// Order and replies between two writes.
-fn check_state(library: &Guarded, state: &Input, rules: &[Rule], tally: &mut Tally) -> Result<(), Mismatch> {
+/// An id and an action, or a miss.
+type Reply = Option<(u32, u32)>;
+
+/// Order and replies between two writes; the replies, where they are asked.
+fn check_state(library: &Guarded, state: &Input, rules: &[Rule], tally: &mut Tally) -> Result<Vec<Reply>, Mismatch> {
+    let mut replies = Vec::new();
     let slots: Vec<Slot> = read_slots(&state.table, state.width).expect("copies of sound records are sound");
     let is_small = slots.len() <= SLOTS_ALWAYS_TESTED;
     if is_small || state.done % 256 == 0 || state.done + 1 >= state.total {
-        if let Some(slot) = first_out_of_order(&slots) {
+        if let Some(slot) = first_out_of_order(&slots, state.is_uncounted()) {
             return Err(Mismatch::of(format!("out of order after {} writes", state.done), slot, &state.plan));
         }
         for key in &state.keys {
             let found = check_lookup(library, state, key, tally)?.expect("the records are sound");
             tally.lookups_between += 1;
-            let promised = reply_of_rules(rules.iter(), Bits::of_words(key));
-            if found.reply() != promised {
-                return Err(Mismatch::of(format!("reply after {} writes", state.done), found, promised));
+            let is_kept = |uncounted: bool| is_promised(found.reply(), rules, Bits::of_words(key), uncounted);
+            if !is_kept(state.is_uncounted()) {
+                return Err(Mismatch::of(format!("reply after {} writes", state.done), found, rules));
             }
+            if !is_kept(COUNTED) {
+                tally.count(Call::Lookup, OTHER_ID);
+            }
+            replies.push(found.reply());
         }
     }
-    Ok(())
+    Ok(replies)
 }

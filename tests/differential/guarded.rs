@@ -136,16 +136,17 @@ impl Guarded {
     pub fn plan_insert(&self, input: &Input) -> Seen {
         let contents = Contents { beside: &input.rule, plan: &initial_words(input.room), ..Contents::default() };
         self.observe(input, contents, 2, |Buffers { table, beside: rule, plan, .. }, cells| unsafe {
-            let (width, edition, count, spot) = (input.width as u32, input.edition, cells.cell(0), cells.cell(1));
-            u64::from(tcam_plan_insert(table.0, table.1, width, rule.0, rule.1, edition, plan.0, plan.1, count, spot))
+            let (width, flag, edition) = (input.width as u32, input.uncounted, input.edition);
+            let (count, spot) = (cells.cell(0), cells.cell(1));
+            u64::from(tcam_plan_insert(table.0, table.1, width, flag, rule.0, rule.1, edition, plan.0, plan.1, count, spot))
         })
     }
 
     pub fn plan_delete(&self, input: &Input) -> Seen {
         let contents = Contents { plan: &initial_words(input.room), ..Contents::default() };
         self.observe(input, contents, 2, |Buffers { table, plan, .. }, cells| unsafe {
-            let (width, count, spot) = (input.width as u32, cells.cell(0), cells.cell(1));
-            u64::from(tcam_plan_delete(table.0, table.1, width, input.id, plan.0, plan.1, count, spot))
+            let (width, flag, count, spot) = (input.width as u32, input.uncounted, cells.cell(0), cells.cell(1));
+            u64::from(tcam_plan_delete(table.0, table.1, width, flag, input.id, plan.0, plan.1, count, spot))
         })
     }
 
@@ -166,15 +167,16 @@ impl Guarded {
     pub fn save(&self, input: &Input) -> Seen {
         let contents = Contents { image: &initial_bytes(input.room), ..Contents::default() };
         self.observe(input, contents, 2, |Buffers { table, image, .. }, cells| unsafe {
-            let (width, bytes, spot) = (input.width as u32, cells.cell(0), cells.cell(1));
-            u64::from(tcam_save(table.0, table.1, width, image.0, image.1, bytes, spot))
+            let (width, flag, bytes, spot) = (input.width as u32, input.uncounted, cells.cell(0), cells.cell(1));
+            u64::from(tcam_save(table.0, table.1, width, flag, image.0, image.1, bytes, spot))
         })
     }
 
     pub fn load(&self, input: &Input) -> Seen {
         let contents = Contents { image: &input.image, ..Contents::default() };
         self.observe(input, contents, 1, |Buffers { table, image, .. }, cells| unsafe {
-            u64::from(tcam_load(image.0, image.1, table.0, table.1, input.width as u32, cells.cell(0)))
+            let (width, flag) = (input.width as u32, input.uncounted);
+            u64::from(tcam_load(image.0, image.1, table.0, table.1, width, flag, cells.cell(0)))
         })
     }
 }

@@ -24,6 +24,8 @@ pub struct Input {
     pub call: Call,
     /// The words of a value, as the call is told; they may be others than those of table, rule and keys.
     pub width: usize,
+    /// The number by which the table is told to be counted or uncounted, where the call takes one.
+    pub uncounted: u32,
     pub table: Vec<u64>,
     /// The new rule's record, with its priority.
     pub rule: Vec<u64>,
@@ -43,11 +45,12 @@ pub struct Input {
 }
 
 impl Input {
-    /// A rule of zeros under 1.3 and nothing else beside the table.
+    /// A rule of zeros under 1.3 and nothing else beside the table, which is told as counted.
     pub fn new(call: Call, width: usize, table: Vec<u64>, fence_after: bool) -> Input {
         Input {
             call,
             width,
+            uncounted: 0,
             table,
             rule: vec![0; record_words(width)],
             edition: EDITION_13,
@@ -61,6 +64,11 @@ impl Input {
             image: Vec::new(),
             fence_after,
         }
+    }
+
+    /// As the header says: 0 is counted, and any other number uncounted.
+    pub fn is_uncounted(&self) -> bool {
+        self.uncounted != 0
     }
 }
 

@@ -1,6 +1,8 @@
 // Inputs at the edges of the largest table: its last slot decides the answer, or a plan goes over all its slots.
 // Few other tables have 1,024 slots, and what is asked of them is seldom decided there.
+// Where an edge does not say what the table is told as, it is counted or not: no two rules have one action then.
 
+use crate::actions::flag;
 use crate::input::{Call, Input};
 use crate::make::{group_number, group_place, EVERY_GROUP};
 use reference::bits::Bits;
@@ -33,6 +35,10 @@ enum Edge {
     Replaced,
     /// Only the last slot's rule precedes the new one, and one that depends on the new one stands before it.
     Crossed,
+    /// As `Order`, `Tie` and `Crossed`, but the two rules have one action and the table is uncounted.
+    OrderSpared,
+    TieSpared,
+    CrossedSpared,
     /// Only the last slot is empty, and the new rule goes there.
     PutIn,
     /// Only the last slot is empty, and a rule is copied there.
@@ -40,9 +46,13 @@ enum Edge {
     /// The last slot has the only other copy of a rule that is written over.
     WrittenOver,
     /// The plan copies all rules toward higher slots, or nearly all.
-    Down { nearly: bool },
+    Down {
+        nearly: bool,
+    },
     /// The same toward lower slots.
-    Up { nearly: bool },
+    Up {
+        nearly: bool,
+    },
     /// As `Down`, with a buffer that is one word too short.
     Short,
 }
@@ -63,6 +73,9 @@ const KINDS: &[(Call, Edge)] = &[
     (Call::PlanInsert, Edge::Replaced),
     (Call::PlanInsert, Edge::Crossed),
     (Call::PlanInsert, Edge::PutIn),
+    (Call::PlanInsert, Edge::OrderSpared),
+    (Call::PlanInsert, Edge::TieSpared),
+    (Call::PlanInsert, Edge::CrossedSpared),
     (Call::Lookup, Edge::Record),
     (Call::SlotRecord, Edge::Wanted),
     (Call::SlotRecord, Edge::Record),
@@ -70,6 +83,7 @@ const KINDS: &[(Call, Edge)] = &[
     (Call::PlanDelete, Edge::Record),
     (Call::PlanDelete, Edge::Twice),
     (Call::PlanDelete, Edge::Order),
+    (Call::PlanDelete, Edge::OrderSpared),
     (Call::CarryOut, Edge::Wanted),
     (Call::CarryOut, Edge::Record),
     (Call::CarryOut, Edge::PutIn),
@@ -82,15 +96,26 @@ const KINDS: &[(Call, Edge)] = &[
     (Call::Save, Edge::Record),
     (Call::Save, Edge::Twice),
     (Call::Save, Edge::Order),
+    (Call::Save, Edge::OrderSpared),
     (Call::Load, Edge::Wanted),
     (Call::Load, Edge::Record),
     (Call::Load, Edge::Twice),
     (Call::Load, Edge::Order),
+    (Call::Load, Edge::OrderSpared),
 ];
+
+impl Edge {
+    /// Whether the flag spares the call what the last slot would make it decline with.
+    fn is_spared(self) -> bool {
+        matches!(self, Edge::OrderSpared | Edge::TieSpared | Edge::CrossedSpared)
+    }
+}
 
 pub fn make_largest(random: &mut Random, width: usize, turn: usize) -> Input {
     let (call, edge) = KINDS[turn % KINDS.len()];
-    let input = Input::new(call, width, Vec::new(), random.one_in(2));
+    let mut input = Input::new(call, width, Vec::new(), random.one_in(2));
+    let uncounted = edge.is_spared() || random.one_in(2);
+    input.uncounted = flag(random, uncounted);
     match edge {
         Edge::Down { nearly } => long_plan(random, input, true, nearly),
         Edge::Up { nearly } => long_plan(random, input, false, nearly),
@@ -173,7 +198,7 @@ const CODE_BITS: usize = 11;
 
 /// The plan of the input's rule, carried out up to one of its last three writes.
 fn carried_far(random: &mut Random, input: &mut Input, mut table: Vec<Slot>) {
-    let plan = plan_insert(&input.table, input.width, &input.rule, input.edition, SLOTS_MOST);
+    let plan = plan_insert(&input.table, input.width, input.is_uncounted(), &input.rule, input.edition, SLOTS_MOST);
     input.plan = plan.expect("the rule has its place");
     let writes = input.plan.len();
     let done = random.between(writes - 3, writes - 1);
@@ -190,13 +215,18 @@ fn last_slot(random: &mut Random, mut input: Input, edge: Edge) -> Input {
     let mut table = apart(random, input.width, place);
     let last = table[LAST].expect("the last slot has a rule");
     let other = random.below(LAST);
-    let mut new = Rule { id: NEW_ID, ..last };
+    let has_one_action = edge.is_spared() || matches!(edge, Edge::Replaced) && input.is_uncounted();
+    let mut new = Rule { id: NEW_ID, action: if has_one_action { last.action } else { !last.action }, ..last };
     spoil(random, &mut table, edge, (input.width, other));
     match edge {
         Edge::Known => new.id = last.id,
-        Edge::Tie => tie(random, &mut table, &mut new, (input.width, place)),
-        Edge::Crossed => cross(random, &mut table, &mut new, (input.width, place)),
+        Edge::Tie | Edge::TieSpared => tie(random, &mut table, &mut new, (input.width, place)),
+        Edge::Crossed | Edge::CrossedSpared => cross(random, &mut table, &mut new, (input.width, place)),
         _ => {}
+    }
+    if edge.is_spared() {
+        // for the new rule; the slot of neither rule
+        table[(other + 1) % LAST] = None;
     }
     input.room = SLOTS_MOST;
     give(random, &mut input, new);
@@ -271,7 +301,8 @@ fn spoil(random: &mut Random, table: &mut [Slot], edge: Edge, (width, other): (u
             _ => spoil_pattern(random, last, width),
         },
         Edge::Twice => last.id = rule.id,
-        Edge::Order => {
+        Edge::Order | Edge::OrderSpared => {
+            last.action = if edge.is_spared() { rule.action } else { last.action };
             last.value = rule.value;
             last.rank = rule.rank + if rule.rank < PRIORITY_MOST { random.below(2) as u64 } else { 0 };
         }

@@ -3,6 +3,7 @@
 // a call that a signal ends and one that runs on are shown by the smallest input found (--shrink K looks for the latter two).
 // Counts go to standard output, and what is wrong to standard error.
 
+mod actions;
 mod alike;
 mod apart;
 mod compare;
@@ -135,7 +136,7 @@ fn report_signal(library: &Guarded, input: Input) {
 }
 
 fn print_input(input: &Input) {
-    eprintln!("  width {}, {} words of table", input.width, input.table.len());
+    eprintln!("  width {}, flag {:x}, {} words of table", input.width, input.uncounted, input.table.len());
     let (part, words) = if WIDTHS.contains(&input.width) { ("slot", record_words(input.width)) } else { ("eight words", 8) };
     for (place, words) in input.table.chunks(words).enumerate() {
         eprintln!("  {part} {place}: {words:x?}");

@@ -4,7 +4,9 @@
 // Half of the inputs have values of two words, half of five; in some, words and width don't fit each other.
 // In half of the tables some rules are exact, with every mask bit set, or nearly so, among those that are not.
 // In a quarter of the inputs the rule is one of the table sent again, or nearly so; a third of these tables is full.
+// Half of the tables are made uncounted, with few actions, ranks that often tie, and equal rules; most are told as what they are made.
 
+use crate::actions::{add_equal_rules, few_actions, flag};
 use crate::exact::{edition, exact_or_nearly, Edged};
 use crate::input::{Call, Input};
 use crate::largest::make_largest;
@@ -71,10 +73,13 @@ struct Maker<'a> {
     elsewhere: Bits,
     /// Whether the rule is one of the table sent again, or nearly so.
     again: bool,
+    /// Whether the table is in order as an uncounted one, and the actions of most rules.
+    uncounted: bool,
+    actions: Vec<u32>,
 }
 
 /// One input of this many is at an edge of the largest table.
-const LARGEST_EVERY: u64 = 1200;
+const LARGEST_EVERY: u64 = 1000;
 
 pub fn make_input(seed: u64, number: u64) -> Input {
     let random = &mut Random::new(seed, number);
@@ -94,7 +99,8 @@ fn make_any(random: &mut Random, width: usize) -> Input {
     let exact_of_eight = random.pick(&[0, 0, 0, 0, 1, 2, 4, 7]);
     let elsewhere = if random.one_in(2) { random.bits(width) } else { Bits::NONE };
     let again = random.one_in(4);
-    let mut maker = Maker { random, width, style, bits, exact_of_eight, elsewhere, again };
+    let (uncounted, actions) = (random.one_in(2), few_actions(random));
+    let mut maker = Maker { random, width, style, bits, exact_of_eight, elsewhere, again, uncounted, actions };
     let call = maker.random.pick(CALLS);
     if call == Call::InsertInFull || call == Call::DeleteInFull {
         return maker.in_full(call, slots, fence_after);
@@ -111,6 +117,7 @@ fn make_any(random: &mut Random, width: usize) -> Input {
     let mut input = Input::new(call, width, words_of(&table, width), fence_after);
     (input.rule, input.id) = (new.record(width), new.id);
     input.edition = edition(maker.random, if call == Call::CarryOut { 6 } else { 24 });
+    input.uncounted = maker.told_flag();
     if maker.random.one_in(3) {
         maker.damage(&mut input.table);
     }
@@ -240,6 +247,7 @@ impl Maker<'_> {
         let table = self.sound_table(slots);
         let new = self.new_rule(&table);
         let mut input = Input::new(call, self.width, words_of(&table, self.width), fence_after);
+        input.uncounted = self.told_flag();
         let subject = new.with_rank(0);
         let subject = if call == Call::DeleteInFull { self.present_rule(&table).unwrap_or(subject) } else { subject };
         if call == Call::InsertInFull || self.random.one_in(2) {
@@ -252,8 +260,23 @@ impl Maker<'_> {
         input
     }
 
-    /// A sound table: patterns and ids at random, then ranks from the last slot to the first, each higher than those of the later
-    /// rules it overlaps.
+    /// The flag that the table is made for, and sometimes the other one.
+    fn told_flag(&mut self) -> u32 {
+        let is_other = self.random.one_in(10);
+        flag(self.random, self.uncounted != is_other)
+    }
+
+    /// One of the few actions, or once in so many times any.
+    fn action(&mut self, any_in: usize) -> u32 {
+        if self.random.one_in(any_in) {
+            self.random.word() as u32
+        } else {
+            self.random.pick(&self.actions)
+        }
+    }
+
+    /// A sound table: patterns, ids and actions at random, then ranks from the last slot to the first, each higher than those of the
+    /// later rules that it is ordered with.
     fn sound_table(&mut self, slots: usize) -> Vec<Slot> {
         let occupied = self.occupied(slots);
         let mut ids: Vec<u32> = (1..=slots as u32).collect();
@@ -264,11 +287,14 @@ impl Maker<'_> {
         let mut patterns = self.patterns(occupied.iter().filter(|&&is_occupied| is_occupied).count()).into_iter();
         for slot in (0..slots).filter(|&slot| occupied[slot]) {
             let (value, mask) = patterns.next().expect("a pattern for each occupied slot");
-            let action = if self.random.one_in(3) { self.random.word() as u32 } else { self.random.below(4) as u32 };
+            let action = self.action(if self.uncounted { 16 } else { 4 });
             table[slot] = Some(Rule { id: ids[slot] * id_step, rank: 0, value, mask, action });
         }
         self.give_priorities(&mut table, spread);
         self.give_exact_ranks(&mut table);
+        if self.uncounted && self.random.one_in(2) {
+            add_equal_rules(self.random, &mut table, |slot| ids[slot] * id_step);
+        }
         table
     }
 
@@ -291,8 +317,8 @@ impl Maker<'_> {
         let mut highest = 0;
         for slot in (0..table.len()).rev() {
             let Some(rule) = table[slot] else { continue };
-            let above =
-                table[slot + 1..].iter().flatten().filter(|later| later.overlaps(&rule)).map(|later| later.rank + 1).max();
+            let is_below = |later: &&Rule| later.is_ordered_with(&rule, self.uncounted);
+            let above = table[slot + 1..].iter().flatten().filter(is_below).map(|later| later.rank + 1).max();
             let priority = above.unwrap_or(0) + self.random.below(spread) as u64;
             table[slot].as_mut().unwrap().rank = priority;
             highest = highest.max(priority);
@@ -306,13 +332,13 @@ impl Maker<'_> {
         }
     }
 
-    /// Rank 65,536 for all exact rules that may have it, for some, or for none: a table may have rules of both editions. A rule that
-    /// overlaps an earlier one may not.
+    /// Rank 65,536 for all exact rules that may have it, for some, or for none: a table may have rules of both editions. A rule that is
+    /// ordered with an earlier one may not.
     fn give_exact_ranks(&mut self, table: &mut [Slot]) {
         let of_two = self.random.pick(&[0, 1, 2, 2]);
         for slot in 0..table.len() {
             let Some(rule) = table[slot].filter(|rule| rule.mask == Bits::all(self.width)) else { continue };
-            let stands_first = !table[..slot].iter().flatten().any(|earlier| earlier.overlaps(&rule));
+            let stands_first = !table[..slot].iter().flatten().any(|earlier| earlier.is_ordered_with(&rule, self.uncounted));
             if self.random.below(2) < of_two && stands_first {
                 table[slot] = Some(Rule { rank: EXACT_RANK, ..rule });
             }
@@ -350,22 +376,27 @@ impl Maker<'_> {
     }
 
     /// A rule to insert: mostly of the table's style and of a priority that leaves it uncrossed somewhere; often with the pattern of
-    /// a rule present, where that is exact.
+    /// a rule present, where that is exact; sometimes one between two rules.
     fn new_rule(&mut self, table: &[Slot]) -> Given {
         if let Some(rule) = self.present_rule(table).filter(|_| self.again) {
             return self.sent_again(table, rule);
+        }
+        if self.random.one_in(10) {
+            if let Some((one, other)) = self.against_rank(table) {
+                return self.between_two(table, one, other);
+            }
         }
         let place = self.random.below(table.len() + 2);
         let (value, mask) = match self.present_rule(table) {
             Some(rule) if rule.mask == Bits::all(self.width) && self.random.one_in(3) => (rule.value, rule.mask),
             _ => self.pattern(place),
         };
-        let mut rule = Given { id: self.new_id(table), priority: 0, value, mask, action: self.random.word() as u32 };
+        let mut rule = Given { id: self.new_id(table), priority: 0, value, mask, action: self.action(8) };
         let overlapping = table.iter().flatten().filter(|other| other.overlaps(&rule.with_rank(0)));
         let priorities: Vec<u64> = overlapping.map(|other| other.rank).filter(|&rank| rank <= PRIORITY_MOST).collect();
         let near = if priorities.is_empty() { self.random.below(40) as u64 } else { self.random.pick(&priorities) };
-        rule.priority = match self.random.below(13) {
-            0 => near,
+        rule.priority = match self.random.below(if self.uncounted { 16 } else { 13 }) {
+            0 | 13.. => near,
             1 => self.random.pick(&[0, 1, 65_534, 65_535, 65_535, 65_536, 65_537, 1 << 17, u32::MAX.into(), 1 << 32, u64::MAX]),
             2 => self.random.below(65_536) as u64,
             3..=7 => near + 1,
@@ -378,12 +409,13 @@ impl Maker<'_> {
         rule
     }
 
-    /// A rule of the table with another id, which replaces it if the edition gives it the same rank; or one that differs from it in
-    /// the priority, in a bit of the mask or of the value, or not even in the id.
+    /// A rule of the table with another id, which replaces it if the edition gives it the same rank and, in an uncounted table, its action
+    /// is the same; or one that differs from it in the priority, in a bit of the mask or of the value, or not even in the id.
     fn sent_again(&mut self, table: &[Slot], rule: Rule) -> Given {
         let Rule { id, rank, value, mask, .. } = rule;
         let priority = if rank == EXACT_RANK { self.random.below(65_536) as u64 } else { rank };
-        let mut given = Given { id: self.new_id(table), priority, value, mask, action: self.random.word() as u32 };
+        let action = if self.random.one_in(3) { self.action(4) } else { rule.action };
+        let mut given = Given { id: self.new_id(table), priority, value, mask, action };
         let bit = self.any_bit();
         match self.random.below(10) {
             0 => given.priority = (priority + 1).min(PRIORITY_MOST),
@@ -397,6 +429,29 @@ impl Maker<'_> {
             _ => {}
         }
         given
+    }
+
+    /// Two rules with room between their ranks, the higher one in the higher slot; such a pair is looked for a few times.
+    fn against_rank(&mut self, table: &[Slot]) -> Option<(Rule, Rule)> {
+        for _ in 0..8 {
+            let (one, other) = (self.random.below(table.len()), self.random.below(table.len()));
+            if let (Some(lower), Some(higher)) = (table[one.min(other)], table[one.max(other)]) {
+                if lower.rank + 1 < higher.rank {
+                    return Some((lower, higher));
+                }
+            }
+        }
+        None
+    }
+
+    /// A rule that overlaps both, of a priority between their ranks: it is crossed, but not in an uncounted table if it has the action of
+    /// one of them.
+    fn between_two(&mut self, table: &[Slot], lower: Rule, higher: Rule) -> Given {
+        let mask = lower.mask & higher.mask & !(lower.value ^ higher.value);
+        let any = self.action(8);
+        let action = self.random.pick(&[lower.action, higher.action, any]);
+        let priority = (lower.rank + higher.rank) / 2;
+        Given { id: self.new_id(table), priority, value: lower.value & mask, mask, action }
     }
 
     fn new_id(&mut self, table: &[Slot]) -> u32 {
@@ -471,7 +526,7 @@ impl Maker<'_> {
         let record = slot_words * self.random.below(slots);
         let (id_and_action, rank) = (record + slot_words - 2, record + slot_words - 1);
         let other = slot_words * self.random.below(slots);
-        match self.random.below(22) {
+        match self.random.below(24) {
             0..=3 => {
                 let word = self.random.below(words.len());
                 words[word] ^= 1 << self.random.below(64);
@@ -490,6 +545,7 @@ impl Maker<'_> {
             }
             16 => words.iter_mut().for_each(|word| *word = self.random.word()),
             17..=20 => Edged::draw(self.random, self.width).put_in_record(&mut words[record..record + slot_words]),
+            21 | 22 => words[id_and_action] = words[id_and_action] >> 32 << 32 | u64::from(self.action(8)),
             _ => {
                 for word in words.iter_mut() {
                     let any = self.random.any_word();
@@ -565,7 +621,7 @@ impl Maker<'_> {
     fn plan_to_carry_out(&mut self, input: &mut Input, slots: usize) {
         if self.random.one_in(4) {
             let edition = self.random.pick(&[EDITION_10, EDITION_13]);
-            if let Ok(plan) = plan_insert(&input.table, self.width, &input.rule, edition, slots) {
+            if let Ok(plan) = plan_insert(&input.table, self.width, input.is_uncounted(), &input.rule, edition, slots) {
                 input.plan = plan;
             }
         }

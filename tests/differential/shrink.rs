@@ -1,5 +1,5 @@
-// Makes a failing input smaller as long as it still fails: two words for five, edition 1.3 for another, fewer slots, zeroed slots,
-// fewer bits, smaller numbers.
+// Makes a failing input smaller as long as it still fails: two words for five, edition 1.3 for another, a counted table for an uncounted
+// one, fewer slots, zeroed slots, fewer bits, smaller numbers.
 // Each change is tried in turn and kept if the input still fails; rounds go on until one keeps nothing.
 
 use crate::input::{Call, Input};
@@ -22,6 +22,7 @@ pub fn shrink(input: Input, fails: impl Fn(&Input) -> bool) -> Input {
         let before = shrinker.input.clone();
         shrinker.keep(narrow);
         shrinker.plain_edition();
+        shrinker.lessen(|input| u64::from(input.uncounted), |input, number| input.uncounted = number as u32);
         shrinker.drop_slots();
         shrinker.zero_slots();
         shrinker.drop_plan_words();

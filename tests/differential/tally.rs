@@ -1,7 +1,9 @@
 // Counts of what a run reached at each width: answers and refusals of each call, plan lengths and directions.
 // A run that never reached one of the answers listed here, at one of the widths, has tested less than it says, and fails.
 // A rule is named exact here where every mask bit is set; its rank under 1.0 is 65,536.
+// An answer that a call gives because its table is told as uncounted, or as counted, is counted apart with that of the other.
 
+use crate::actions::FLAGS;
 use crate::alike::{alike, ANOTHER_MASK, ANOTHER_RANK, EQUAL};
 use crate::exact::OTHER_EDITIONS;
 use crate::input::{Call, Input};
@@ -30,6 +32,8 @@ pub struct Tally {
     width: usize,
     slots: usize,
     holds_exact_rank: bool,
+    /// Whether the table is told as an uncounted one.
+    uncounted: bool,
     /// How many insert plans had 1, 2, 3 .. writes, and how long the longest was, at each width; the last place is for longer ones.
     lengths: BTreeMap<usize, [u64; 10]>,
     longest: BTreeMap<usize, usize>,
@@ -72,6 +76,7 @@ fn wanted() -> Vec<(Call, String)> {
     want(Call::Load, &["14 at 2, the other width's length"], &[TWICE, ORDER]);
     wanted.extend(wanted_of_editions());
     wanted.extend(wanted_of_replacements());
+    wanted.extend(wanted_of_uncounted());
     wanted.extend(wanted_of_large());
     wanted.extend(wanted_of_largest());
     wanted
@@ -97,8 +102,9 @@ fn wanted_of_editions() -> Vec<(Call, String)> {
         want(call, &["2, 65,536 not exact", "2, 65,537 exact"]);
     }
     want(Call::Lookup, &["hit, rank 65,536"]);
-    // no rule precedes one of rank 65,536: it is never crossed, and no plan for it goes up; the one that it would tie with is equal
-    want(Call::PlanInsert, &["one write, rank 65,536", "down, rank 65,536", "replacement, rank 65,536"]);
+    // no rule precedes one of rank 65,536: it is never crossed, and no plan for it goes up; one that it ties with is equal, and of another
+    // action in an uncounted table
+    want(Call::PlanInsert, &["one write, rank 65,536", "down, rank 65,536", "replacement, rank 65,536", "8, rank 65,536"]);
     for kind in ["one write", "down", "up", "replacement", "8"] {
         want(Call::PlanInsert, &[&format!("{kind}, exact under 13"), &format!("{kind}, nearly exact")]);
     }
@@ -115,7 +121,7 @@ fn wanted_of_editions() -> Vec<(Call, String)> {
 
 /// The answers that are counted apart too where the rule is equal to one of the table, or nearly so.
 const ALIKE: [(Call, &str, &[&str]); 6] = [
-    (Call::PlanInsert, EQUAL, &["6", "11", "18"]),
+    (Call::PlanInsert, EQUAL, &["6", "8", "11", "18"]),
     (Call::PlanInsert, ANOTHER_RANK, &["one write", "down", "up", "9", "10"]),
     (Call::PlanInsert, ANOTHER_MASK, &["8"]),
     (Call::CarryOut, EQUAL, &["put in", "emptied", "12 copy", "18"]),
@@ -131,6 +137,74 @@ fn wanted_of_replacements() -> Vec<(Call, String)> {
     }
     wanted.push((Call::CarryOut, ranked_highest(&with("put in", EQUAL))));
     wanted
+}
+
+/// The key's reply has another id than that of the highest-ranked match; or another than one write before, within a plan.
+pub const OTHER_ID: &str = "another id of the action";
+pub const ID_CHANGES: &str = "the id changes in a plan";
+
+/// The answers to calls that are told of a table whether it is counted, which are counted apart too where it is not.
+const TOLD: [(Call, &[&str]); 4] = [
+    (Call::PlanInsert, &["2", "3", "4", "5", "18", "6", "8", "9", "10", "11", "one write", "down", "up", "replacement"]),
+    (Call::PlanDelete, &["2", "3", "4", "5", "7", "11", "emptying"]),
+    (Call::Save, &["2", "3", "4", "11", "saved"]),
+    (Call::Load, &["14 at 0", "14 at 2", "14 at an id", "14 at a slot", "14 at an offset", "14 at a body", "3", "4", "loaded"]),
+];
+
+/// The answers of an uncounted table beside those that a counted one of the same words would give, where they are others.
+const NOT_COUNTED: [(Call, &str, &[&str]); 13] = [
+    (Call::PlanInsert, "one write", &["4", "8", "10", "down", "up"]),
+    (Call::PlanInsert, "down", &["4", "8", "10", "down"]),
+    (Call::PlanInsert, "up", &["4", "8", "10", "up"]),
+    (Call::PlanInsert, "replacement", &["4"]),
+    (Call::PlanInsert, "6", &["4"]),
+    (Call::PlanInsert, "8", &["4", "replacement"]),
+    (Call::PlanInsert, "9", &["4", "8"]),
+    (Call::PlanInsert, "10", &["4"]),
+    (Call::PlanInsert, "11", &["4", "8", "11"]),
+    (Call::PlanDelete, "emptying", &["4"]),
+    (Call::PlanDelete, "7", &["4"]),
+    (Call::Save, "saved", &["4"]),
+    (Call::Load, "loaded", &["4"]),
+];
+
+/// What every run must reach of tables that are told as uncounted: all that counted ones reach, answers that the flag decides, told by
+/// each of several numbers, and several equal rules. Of counted tables the same answers the other way about.
+fn wanted_of_uncounted() -> Vec<(Call, String)> {
+    let mut wanted = vec![(Call::Lookup, OTHER_ID.to_string()), (Call::Lookup, ID_CHANGES.to_string())];
+    wanted.extend(TOLD.iter().flat_map(|(call, kinds)| kinds.iter().map(|kind| (*call, uncounted(kind)))));
+    for (call, kind, others) in NOT_COUNTED {
+        wanted.extend(others.iter().map(|other| (call, not_counted(kind, other))));
+        wanted.extend(others.iter().map(|other| (call, not_uncounted(other, kind))));
+    }
+    for call in [Call::PlanInsert, Call::PlanDelete, Call::Save, Call::Load] {
+        wanted.extend(FLAGS.map(|flag| (call, of_flag(flag))));
+    }
+    wanted.push((Call::PlanInsert, SEVERAL_EQUAL.to_string()));
+    wanted.push((Call::PlanInsert, full(SEVERAL_EQUAL)));
+    wanted
+}
+
+/// A rule is replaced, and another equal one of its action stays.
+const SEVERAL_EQUAL: &str = "replacement, several equal";
+
+/// The name of an answer on a table that is told as uncounted.
+fn uncounted(kind: &str) -> String {
+    format!("{kind}, uncounted")
+}
+
+/// The name of an answer of an uncounted table that is another if the table is counted, and of a counted one.
+fn not_counted(kind: &str, counted: &str) -> String {
+    format!("{kind}, counted {counted}")
+}
+
+fn not_uncounted(kind: &str, uncounted: &str) -> String {
+    format!("{kind}, uncounted {uncounted}")
+}
+
+/// The name of what a call accepts by the number that its table is told to be uncounted by, and declines with 4 otherwise.
+fn of_flag(flag: u32) -> String {
+    format!("accepted by flag {flag:#x}")
 }
 
 /// The answers that every run must reach on tables of many slots.
@@ -176,6 +250,12 @@ fn wanted_of_largest() -> Vec<(Call, String)> {
     want(Call::CarryOut, &["copied", "put in", &with("put in", EQUAL), "emptied"], &[RECORD]);
     want(Call::Save, &["saved"], &[RECORD, TWICE, ORDER]);
     want(Call::Load, &["loaded"], &[TWICE, ORDER]);
+    for number in ["4", "8", "10"] {
+        want(Call::PlanInsert, &[&not_counted("one write", number)], &[]);
+    }
+    for (call, kind) in [(Call::PlanDelete, "emptying"), (Call::Save, "saved"), (Call::Load, "loaded")] {
+        want(call, &[&not_counted(kind, "4")], &[]);
+    }
     wanted
 }
 
@@ -238,6 +318,7 @@ impl Tally {
         self.width = input.width;
         self.slots = input.table.len() / record_words(input.width);
         self.holds_exact_rank = holds_exact_rank(&input.table, input.width);
+        self.uncounted = input.is_uncounted();
     }
 
     fn add(&mut self, call: Call, kind: String) {
@@ -251,6 +332,9 @@ impl Tally {
         }
         if self.holds_exact_rank && HELD.iter().any(|(held, kinds)| *held == call && kinds.contains(&kind)) {
             self.add(call, held(kind));
+        }
+        if self.uncounted && TOLD.iter().any(|(told, kinds)| *told == call && kinds.contains(&kind)) {
+            self.add(call, uncounted(kind));
         }
     }
 
@@ -315,6 +399,34 @@ impl Tally {
         }
     }
 
+    /// The reference's answer to a call on a table as it is told, counted apart where another would be given if it were told otherwise;
+    /// an accepted one has a name.
+    pub fn by_flag<T: PartialEq>(
+        &mut self,
+        call: Call,
+        input: &Input,
+        name: impl Fn(&[T]) -> &'static str,
+        answer: impl Fn(bool) -> Result<Vec<T>, Refusal>,
+    ) -> Result<Vec<T>, Refusal> {
+        let (told, other) = (answer(input.is_uncounted()), answer(!input.is_uncounted()));
+        if told != other {
+            let [kind, other_kind] = [&told, &other].map(|answer| match answer {
+                Ok(items) => name(items).to_string(),
+                Err(refusal) => refusal.number.to_string(),
+            });
+            let apart = if input.is_uncounted() { not_counted(&kind, &other_kind) } else { not_uncounted(&kind, &other_kind) };
+            let is_last = |answer: &Result<Vec<T>, Refusal>| answer.as_ref().is_err_and(|refusal| refusal.spot == LAST as u64);
+            if self.slots == SLOTS_MOST && (is_last(&told) || is_last(&other)) {
+                self.add(call, last(&apart));
+            }
+            self.add(call, apart);
+            if told.is_ok() && other_kind == ORDER.to_string() && FLAGS.contains(&input.uncounted) {
+                self.add(call, of_flag(input.uncounted));
+            }
+        }
+        told
+    }
+
     pub fn plan(&mut self, call: Call, input: &Input, writes: &[u32]) {
         let to = writes[0] as usize % 65_536;
         if call == Call::PlanDelete {
@@ -324,18 +436,13 @@ impl Tally {
         *most = writes.len().max(*most);
         let lengths = self.lengths.entry(self.width).or_default();
         lengths[(writes.len() - 1).min(9)] += 1;
-        let kind = match writes {
-            [_] if rule_at(input, to).id != 0 => "replacement",
-            [_] => "one write",
-            [copy, ..] if copy / 65_536 < copy % 65_536 => "down",
-            _ => "up",
-        };
+        let kind = plan_kind(input, writes);
         if let Some(apart) = given_apart(kind, input) {
             self.add(call, apart);
         }
         self.count_alike(call, kind, input);
-        if kind == "replacement" && (0..self.slots).all(|slot| rule_at(input, slot).id != 0) {
-            self.add(call, full(kind));
+        if kind == "replacement" {
+            self.count_replacement(input, to);
         }
         if writes.len() == 1 {
             return self.count_at(call, kind, to);
@@ -345,6 +452,21 @@ impl Tally {
             self.add(call, longest(kind));
         } else if writes.len() >= LONG {
             self.add(call, long(kind));
+        }
+    }
+
+    /// A replacement, apart where no slot is empty, and where another equal rule stays.
+    fn count_replacement(&mut self, input: &Input, to: usize) {
+        let rules: Vec<Rule> = (0..self.slots).map(|slot| rule_at(input, slot)).collect();
+        let is_full = rules.iter().all(|rule| rule.id != 0);
+        if is_full {
+            self.add(Call::PlanInsert, full("replacement"));
+        }
+        if rules[to + 1..].iter().any(|rule| rule.id != 0 && rule.equals(&rules[to])) {
+            self.count_at(Call::PlanInsert, SEVERAL_EQUAL, to);
+            if is_full {
+                self.add(Call::PlanInsert, full(SEVERAL_EQUAL));
+            }
         }
     }
 
@@ -440,6 +562,16 @@ impl Tally {
             println!("  width {width}: insert plans of 1, 2, .. 9 writes and of more: {lengths:?}; longest {longest}");
         }
         println!("  lookups between writes: {}", self.lookups_between);
+    }
+}
+
+/// The name of an insert's plan.
+pub fn plan_kind(input: &Input, writes: &[u32]) -> &'static str {
+    match writes {
+        [put] if rule_at(input, *put as usize % 65_536).id != 0 => "replacement",
+        [_] => "one write",
+        [copy, ..] if copy / 65_536 < copy % 65_536 => "down",
+        _ => "up",
     }
 }
 

@@ -11,6 +11,7 @@ struct Search {
     slots: usize,
     /// The table's rules, then the new one.
     rules: Vec<Rule>,
+    uncounted: bool,
 }
 
 #[derive(Clone, Copy)]
@@ -19,8 +20,9 @@ enum Toward {
     Lower,
 }
 
-/// The least number of writes, the last of which puts the new rule in. Some sequence must exist.
-pub fn shortest_sequence(table: &[Slot], new: &Rule) -> usize {
+/// The least number of writes, the last of which puts the new rule in, in sequences that keep the order of a counted or of an uncounted
+/// table. Some sequence must exist.
+pub fn shortest_sequence(table: &[Slot], new: &Rule, uncounted: bool) -> usize {
     let mut start = [EMPTY; 6];
     let mut rules = Vec::new();
     for (slot, entry) in table.iter().enumerate() {
@@ -30,7 +32,7 @@ pub fn shortest_sequence(table: &[Slot], new: &Rule) -> usize {
         }
     }
     rules.push(*new);
-    let search = Search { slots: table.len(), rules };
+    let search = Search { slots: table.len(), rules, uncounted };
     let mut higher = vec![start];
     let mut lower = vec![start];
     for copies in 0.. {
@@ -70,7 +72,8 @@ impl Search {
             return true;
         }
         let (earlier, later) = (&self.rules[earlier as usize], &self.rules[later as usize]);
-        !earlier.overlaps(later) || earlier.rank > later.rank
+        let is_free = !earlier.overlaps(later) || self.uncounted && earlier.action == later.action;
+        is_free || earlier.rank > later.rank
     }
 
     /// All tables one copy further, each once.

@@ -1,6 +1,7 @@
 // Document 01's tables at the edge and its traps, and tables for requests of document 02, on the reference.
-// Tables are written as lists of slots with rules by id, rank and pattern. Each is asked at both widths and under both editions, with
-// the same answer: no rule here has every mask bit set, so that a rule that is given has its priority for its rank.
+// Tables are written as lists of slots with rules by id, rank and pattern. Each is asked at both widths, under both editions, counted
+// and uncounted, with the same answer: no rule here has every mask bit set, so that a rule given has its priority for its rank, and no
+// two rules have one action, so that all overlapping pairs are ordered.
 
 use crate::bits::{Bits, WIDTHS};
 use crate::carry::{carry_out, Carried, Progress};
@@ -42,25 +43,38 @@ pub fn at_each<T: PartialEq + std::fmt::Debug>(answer: impl Fn(usize, u32) -> T)
     })
 }
 
+/// What is the same of a counted table and of an uncounted one.
+pub fn of_each_kind<T: PartialEq + std::fmt::Debug>(answer: impl Fn(bool) -> T) -> T {
+    let [counted, uncounted] = [COUNTED, UNCOUNTED].map(answer);
+    assert_eq!(counted, uncounted, "counted and uncounted");
+    counted
+}
+
 /// The plan for `new`, carried out, with order tested after each write.
 fn plan_of(slots: &[Slot], new: &Rule) -> Result<Vec<u32>, Refusal> {
-    at_each(|width, edition| plan_at(width, slots, new, edition).map(|(plan, _)| plan))
+    of_each_kind(|uncounted| at_each(|width, edition| plan_at(width, uncounted, slots, new, edition).map(|(plan, _)| plan)))
 }
 
 /// The plan, and the slots once it is carried out.
-pub fn plan_at(width: usize, slots: &[Slot], new: &Rule, edition: u32) -> Result<(Vec<u32>, Vec<Slot>), Refusal> {
+pub fn plan_at(
+    width: usize,
+    uncounted: bool,
+    slots: &[Slot],
+    new: &Rule,
+    edition: u32,
+) -> Result<(Vec<u32>, Vec<Slot>), Refusal> {
     let (mut words, record) = (words_of(slots, width), new.record(width));
-    let plan = plan_insert(&words, width, &record, edition, slots.len())?;
+    let plan = plan_insert(&words, width, uncounted, &record, edition, slots.len())?;
     let mut progress = Progress { done: 0, total: plan.len() as u32 };
     while carry_out(&mut words, width, &record, edition, &plan, &mut progress)? == Carried::Wrote {
-        assert_eq!(first_out_of_order(&read_slots(&words, width).unwrap()), None);
+        assert_eq!(first_out_of_order(&read_slots(&words, width).unwrap(), uncounted), None);
     }
-    let slots = read_sound_table(&words, width).expect("a plan leaves a sound table");
+    let slots = read_sound_table(&words, width, uncounted).expect("a plan leaves a sound table");
     Ok((plan, slots))
 }
 
 fn checks_of(slots: &[Slot]) -> Result<Vec<Slot>, Refusal> {
-    at_each_width(|width| read_sound_table(&words_of(slots, width), width))
+    of_each_kind(|uncounted| at_each_width(|width| read_sound_table(&words_of(slots, width), width, uncounted)))
 }
 
 fn looked_up(slots: &[Slot], key: Bits) -> Result<Found, Refusal> {
@@ -112,15 +126,19 @@ fn priorities_of_apart_rules_are_not_compared() {
 fn short_buffer() {
     let slots = [None, Some(rule(1, 30, "1")), Some(rule(2, 10, "1"))];
     let new = rule(3, 20, "1");
-    let planned = at_each(|width, edition| plan_insert(&words_of(&slots, width), width, &new.record(width), edition, 1));
-    assert_eq!(planned, refused(SHORT, 2));
-    assert_eq!(at_each_width(|width| plan_delete(&words_of(&slots, width), width, 2, 0)), refused(SHORT, 1));
+    let planned = |uncounted: bool| {
+        at_each(|width, edition| plan_insert(&words_of(&slots, width), width, uncounted, &new.record(width), edition, 1))
+    };
+    assert_eq!(of_each_kind(planned), refused(SHORT, 2));
+    let planned = |uncounted: bool| at_each_width(|width| plan_delete(&words_of(&slots, width), width, uncounted, 2, 0));
+    assert_eq!(of_each_kind(planned), refused(SHORT, 1));
 }
 
 #[test]
 fn deletes() {
     let slots = [None, Some(rule(1, 30, "1"))];
-    let planned = |id: u32| at_each_width(|width| plan_delete(&words_of(&slots, width), width, id, 5));
+    let planned =
+        |id: u32| of_each_kind(|uncounted| at_each_width(|width| plan_delete(&words_of(&slots, width), width, uncounted, id, 5)));
     assert_eq!(planned(1), Ok(vec![write_word(EMPTYING, 1)]));
     assert_eq!(planned(9), refused(UNKNOWN, 0));
     assert_eq!(planned(0), refused(RULE, 0));
@@ -130,9 +148,11 @@ fn deletes() {
 fn slot_counts() {
     for (width, slot_words) in [(2, 6), (5, 12)] {
         let record = rule(1, 1, "1").record(width);
-        assert_eq!(plan_insert(&vec![0; slot_words * 1024], width, &record, EDITION_13, 1), Ok(vec![put(0)]));
+        let planned =
+            |words: usize| of_each_kind(|uncounted| plan_insert(&vec![0; words], width, uncounted, &record, EDITION_13, 1));
+        assert_eq!(planned(slot_words * 1024), Ok(vec![put(0)]));
         for count in [0, 1, slot_words - 1, slot_words + 1, slot_words * 1025] {
-            assert_eq!(plan_insert(&vec![0; count], width, &record, EDITION_13, 1), refused(SHAPE, 0));
+            assert_eq!(planned(count), refused(SHAPE, 0));
             assert_eq!(lookup(&vec![0; count], width, &vec![0; width]), refused(SHAPE, 0));
         }
     }

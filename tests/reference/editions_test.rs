@@ -5,7 +5,8 @@ use crate::bits::{Bits, WIDTHS};
 use crate::carry::{carry_out, Carried, Progress};
 use crate::edge_test::{at_each_width, plan_at, put, refused, rule};
 use crate::given::{Given, EDITION_10, EDITION_13};
-use crate::image::{body_offset, image_of, load, save};
+use crate::image::{body_offset, image_of};
+use crate::image_test::{load, save};
 use crate::lookup::{lookup, slot_record, Found};
 use crate::plan::{plan_delete, plan_insert, write_word, EMPTYING};
 use crate::table::*;
@@ -33,14 +34,14 @@ fn ranks(slots: &[Slot]) -> Vec<Option<u64>> {
 
 /// The plan for a rule, and the ranks in the slots once it is carried out.
 fn planned(width: usize, slots: &[Slot], new: &Rule, edition: u32) -> Result<(Vec<u32>, Vec<Option<u64>>), Refusal> {
-    plan_at(width, slots, new, edition).map(|(plan, slots)| (plan, ranks(&slots)))
+    plan_at(width, COUNTED, slots, new, edition).map(|(plan, slots)| (plan, ranks(&slots)))
 }
 
 /// 1/7 E, then 2/65,535 `*`, into three empty slots: both plans, the ranks in the end, and the id that key 0 finds.
 fn two_inserts(first: u32, second: u32) -> ([Vec<u32>; 2], Vec<Option<u64>>, u32) {
     at_each_width(|width| {
-        let (one, slots) = plan_at(width, &[None; 3], &exact(width, 1, 7), first).unwrap();
-        let (two, slots) = plan_at(width, &slots, &rule(2, 65_535, "*"), second).unwrap();
+        let (one, slots) = plan_at(width, COUNTED, &[None; 3], &exact(width, 1, 7), first).unwrap();
+        let (two, slots) = plan_at(width, COUNTED, &slots, &rule(2, 65_535, "*"), second).unwrap();
         match lookup(&words_of(&slots, width), width, &vec![0; width]) {
             Ok(Found::Hit { id, .. }) => ([one, two], ranks(&slots), id),
             other => panic!("{other:?}"),
@@ -124,12 +125,12 @@ fn all_calls_say(width: usize, entry: Rule, expected: Option<(u32, u64)>) {
     let words = words_of(&[Some(entry), None], width);
     let wanted = |other: Result<(), Refusal>| expected.map_or(other, |(number, spot)| refused(number, spot));
     let new = rule(9, 3, "1").record(width);
-    assert_eq!(read_sound_table(&words, width).map(drop), wanted(Ok(())));
+    assert_eq!(read_sound_table(&words, width, COUNTED).map(drop), wanted(Ok(())));
     assert_eq!(lookup(&words, width, &vec![0; width]).map(drop), wanted(Ok(())));
     assert_eq!(slot_record(&words, width, 0).is_empty(), expected.is_some());
-    assert_eq!(plan_insert(&words, width, &new, EDITION_13, 2).map(drop), wanted(Ok(())));
-    assert_eq!(plan_insert(&words, width, &new, 99, 2).map(drop), wanted(refused(EDITION, 0)));
-    assert_eq!(plan_delete(&words, width, entry.id, 1).map(drop), wanted(Ok(())));
+    assert_eq!(plan_insert(&words, width, COUNTED, &new, EDITION_13, 2).map(drop), wanted(Ok(())));
+    assert_eq!(plan_insert(&words, width, COUNTED, &new, 99, 2).map(drop), wanted(refused(EDITION, 0)));
+    assert_eq!(plan_delete(&words, width, COUNTED, entry.id, 1).map(drop), wanted(Ok(())));
     assert_eq!(save(&words, width, 1000).map(drop), wanted(Ok(())));
     let mut carried = words.clone();
     let mut progress = Progress { done: 0, total: 1 };
@@ -190,11 +191,12 @@ fn other_editions_are_declined_after_5_and_before_6() {
         let crossed = [Some(rule(2, 3, "10")), Some(rule(1, 9, "11")), None];
         assert_eq!(ask(&crossed, &rule(3, 5, "1")), refused(EDITION, 0)); // before 10
         let record = rule(2, 20, "1").record(width);
-        assert_eq!(plan_insert(&words_of(&[present, None], width), width, &record, edition, 0), refused(EDITION, 0)); // before 11
+        let words = words_of(&[present, None], width);
+        assert_eq!(plan_insert(&words, width, COUNTED, &record, edition, 0), refused(EDITION, 0)); // before 11
         assert_eq!(ask(&[Some(rule(1, 65_536, "1")), None], &rule(2, 20, "1")), refused(RECORD, 0));
         assert_eq!(ask(&[present, present], &rule(2, 20, "1")), refused(TWICE, 1));
         assert_eq!(ask(&[present, Some(rule(3, 30, "1"))], &rule(2, 20, "1")), refused(ORDER, 1));
-        assert_eq!(plan_insert(&[0; 7], width, &record, edition, 0), refused(SHAPE, 0));
+        assert_eq!(plan_insert(&[0; 7], width, COUNTED, &record, edition, 0), refused(SHAPE, 0));
     }
 }
 

@@ -19,8 +19,8 @@ pub fn image_bytes(width: usize, rules: usize) -> usize {
 }
 
 /// Checks 1 to 4, then 11; `room` is the length of the lent image buffer, in bytes.
-pub fn save(words: &[u64], width: usize, room: usize) -> Result<Vec<u8>, Refusal> {
-    let image = image_of(&read_sound_table(words, width)?, width);
+pub fn save(words: &[u64], width: usize, uncounted: bool, room: usize) -> Result<Vec<u8>, Refusal> {
+    let image = image_of(&read_sound_table(words, width, uncounted)?, width);
     if image.len() > room {
         return refuse(SHORT, image.len());
     }
@@ -57,8 +57,9 @@ fn number_at(image: &[u8], at: usize, count: usize) -> u64 {
     image[at..at + count].iter().fold(0, |number, &byte| number * 256 + u64::from(byte))
 }
 
-/// The words of the table that the image means, for a lent table of `table_words` words; only its length counts.
-pub fn load(image: &[u8], table_words: usize, width: usize) -> Result<Vec<u64>, Refusal> {
+/// The words of the table that the image means, for a lent table of `table_words` words; only its length counts. Whether the table
+/// is an uncounted one does not stand in the image.
+pub fn load(image: &[u8], table_words: usize, width: usize, uncounted: bool) -> Result<Vec<u64>, Refusal> {
     let count = check_shape(table_words, width)?;
     if image.len() < HEAD_BYTES || number_at(image, 0, 2) != count as u64 {
         return refuse(IMAGE, 0);
@@ -72,7 +73,7 @@ pub fn load(image: &[u8], table_words: usize, width: usize) -> Result<Vec<u64>, 
     for (place, (id, slot)) in places.iter().enumerate() {
         slots[*slot] = Some(read_body(image, width, body_offset(width, rules, place), *id)?);
     }
-    check_ids_and_order(&slots)?;
+    check_ids_and_order(&slots, uncounted)?;
     let words = words_of(&slots, width);
     assert!(read_slots(&words, width).is_ok());
     Ok(words)

@@ -1,10 +1,19 @@
 // The saved image on the reference: bytes, each refusal with its spot, and the way back, at both widths.
-// One table of three slots with two rules serves all of them.
+// One table of three slots with two rules serves all of them. Each call is made counted and uncounted, with the same answer: no two
+// rules here have one action, and nothing of this stands in an image.
 
 use crate::bits::WIDTHS;
-use crate::edge_test::{refused, rule};
-use crate::image::{load, save};
+use crate::edge_test::{of_each_kind, refused, rule};
+use crate::image;
 use crate::table::*;
+
+pub fn save(words: &[u64], width: usize, room: usize) -> Result<Vec<u8>, Refusal> {
+    of_each_kind(|uncounted| image::save(words, width, uncounted, room))
+}
+
+pub fn load(image: &[u8], table_words: usize, width: usize) -> Result<Vec<u64>, Refusal> {
+    of_each_kind(|uncounted| image::load(image, table_words, width, uncounted))
+}
 
 fn table(width: usize) -> Vec<u64> {
     words_of(&[Some(rule(7, 513, "1*0")), None, Some(rule(9, 2, "11"))], width)

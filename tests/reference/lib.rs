@@ -21,4 +21,6 @@ mod replacement_test;
 #[cfg(test)]
 mod script_test;
 #[cfg(test)]
+mod uncounted_test;
+#[cfg(test)]
 mod widths_test;

@@ -2,7 +2,7 @@
 // Both make checks 1 and 2 only.
 
 use crate::bits::Bits;
-use crate::table::{check_shape, check_words, read_slots, record_words, Refusal};
+use crate::table::{check_shape, check_words, read_slots, record_words, Refusal, Rule};
 use std::ops::Range;
 
 #[derive(Clone, Copy, Debug, PartialEq, Eq)]
@@ -18,6 +18,21 @@ impl Found {
             Found::Hit { id, action, .. } => Some((id, action)),
             Found::Miss => None,
         }
+    }
+}
+
+/// Whether a reply is what a key is promised by rules, whatever their layout. In a counted table that is the highest-ranked match; in
+/// an uncounted one "the action of the highest-ranked match, while the id may be any rule's with that action", one that matches. Of
+/// several highest-ranked matches all have that action. A miss is promised exactly where no rule matches.
+pub fn is_promised(reply: Option<(u32, u32)>, rules: &[Rule], key: Bits, uncounted: bool) -> bool {
+    let matching = || rules.iter().filter(|rule| rule.matches(key));
+    let Some(highest) = matching().map(|rule| rule.rank).max() else { return reply.is_none() };
+    let Some((id, action)) = reply else { return false };
+    let mut best = matching().filter(|rule| rule.rank == highest);
+    if uncounted {
+        best.all(|rule| rule.action == action) && matching().any(|rule| (rule.id, rule.action) == (id, action))
+    } else {
+        best.all(|rule| (rule.id, rule.action) == (id, action))
     }
 }
 

@@ -20,7 +20,7 @@ fn sent_again() -> Rule {
 }
 
 fn planned(slots: &[Slot], new: &Rule, room: usize) -> Result<Vec<u32>, Refusal> {
-    at_each(|width, edition| plan_insert(&words_of(slots, width), width, &new.record(width), edition, room))
+    at_each(|width, edition| plan_insert(&words_of(slots, width), width, COUNTED, &new.record(width), edition, room))
 }
 
 #[test]
@@ -29,7 +29,7 @@ fn a_rule_sent_again_replaces_the_one_present() {
     assert_eq!(planned(&full_table(), &sent_again(), 1), Ok(vec![put(1)]));
     assert_eq!(planned(&full_table(), &sent_again(), 0), refused(SHORT, 1));
     let (slots, reply) = at_each(|width, edition| {
-        let (_, slots) = plan_at(width, &full_table(), &sent_again(), edition).unwrap();
+        let (_, slots) = plan_at(width, COUNTED, &full_table(), &sent_again(), edition).unwrap();
         let reply = lookup(&words_of(&slots, width), width, Bits::at(0).words(width));
         (slots, reply)
     });
@@ -59,7 +59,7 @@ fn an_empty_slot_is_equal_to_nothing() {
 fn every_bit_of_value_and_mask_is_compared() {
     for width in WIDTHS {
         let all = Rule { id: 1, rank: 7, value: Bits::NONE, mask: Bits::all(width), action: 1 };
-        let ask = |new: &Rule| plan_at(width, &[None, Some(all)], new, EDITION_13).map(|(plan, _)| plan);
+        let ask = |new: &Rule| plan_at(width, COUNTED, &[None, Some(all)], new, EDITION_13).map(|(plan, _)| plan);
         assert_eq!(ask(&Rule { id: 2, ..all }), Ok(vec![put(1)]));
         for place in 0..64 * width {
             assert_eq!(ask(&Rule { id: 2, mask: all.mask ^ Bits::at(place), ..all }), refused(TIE, 1), "mask {place}");
@@ -73,7 +73,7 @@ fn every_bit_of_value_and_mask_is_compared() {
 fn ranks_are_compared_and_not_priorities() {
     for width in WIDTHS {
         let exact = |id: u32, rank: u64| Rule { id, rank, value: Bits::NONE, mask: Bits::all(width), action: id };
-        let ask = |present: Rule, new: &Rule, edition: u32| plan_at(width, &[Some(present), None, None], new, edition);
+        let ask = |present: Rule, new: &Rule, edition: u32| plan_at(width, COUNTED, &[Some(present), None, None], new, edition);
         let replaced = (vec![put(0)], vec![Some(exact(3, 65_536)), None, None]);
         assert_eq!(ask(exact(1, 65_536), &exact(3, 500), EDITION_10), Ok(replaced));
         let below = (vec![put(1)], vec![Some(exact(1, 65_536)), Some(exact(3, 500)), None]);

@@ -1,12 +1,12 @@
 // The script program as a function from input bytes to output bytes.
-// Each line is read whole, then answered; after a refusal the next line is read.
+// Each line is read whole, then answered; after a refusal the next line is read. No line names a table as uncounted.
 
 use crate::bits::Bits;
 use crate::carry::{carry_out, Carried, Progress};
 use crate::given::{Given, EDITION_13};
 use crate::lookup::{lookup, Found};
 use crate::plan::{plan_delete, plan_insert, EMPTYING, PUT_IN};
-use crate::table::{record_words, refuse, Refusal, LINE, SHAPE, SLOTS_MOST};
+use crate::table::{record_words, refuse, Refusal, COUNTED, LINE, SHAPE, SLOTS_MOST};
 
 const LINE_BYTES_MOST: usize = 256;
 
@@ -119,11 +119,11 @@ fn answer_to(command: Command, words: &mut Vec<u64>) -> Result<String, Refusal> 
         }
         Command::Insert(rule) => {
             let record = rule.record(WIDTH);
-            let plan = plan_insert(words, WIDTH, &record, EDITION_13, words.len() / record_words(WIDTH))?;
+            let plan = plan_insert(words, WIDTH, COUNTED, &record, EDITION_13, words.len() / record_words(WIDTH))?;
             Ok(carried_out(words, &record, &plan))
         }
         Command::Delete { id } => {
-            let plan = plan_delete(words, WIDTH, id, 1)?;
+            let plan = plan_delete(words, WIDTH, COUNTED, id, 1)?;
             let no_rule = vec![0; record_words(WIDTH)];
             Ok(carried_out(words, &no_rule, &plan))
         }

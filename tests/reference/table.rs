@@ -40,6 +40,10 @@ pub fn record_words(width: usize) -> usize {
     2 * width + 2
 }
 
+/// Whether a table is "named as uncounted in the call", as a call is told.
+pub const COUNTED: bool = false;
+pub const UNCOUNTED: bool = true;
+
 /// A rule as it stands in a slot: "the record and the image keep the rank".
 #[derive(Clone, Copy, Debug, PartialEq, Eq)]
 pub struct Rule {
@@ -69,18 +73,34 @@ impl Rule {
         (cared_for_by_both & different).is_none()
     }
 
-    /// "The higher of an overlapping pair precedes the other", and "wherever two rules' priorities were compared, ranks are".
-    pub fn precedes(&self, other: &Rule) -> bool {
-        self.overlaps(other) && self.rank > other.rank
+    /// Whether the two are one of the pairs that order is about: "a table named as uncounted in the call orders only overlapping pairs
+    /// whose actions differ, and only in such a pair does one rule precede or depend on the other".
+    pub fn is_ordered_with(&self, other: &Rule, uncounted: bool) -> bool {
+        self.overlaps(other) && !(uncounted && self.action == other.action)
     }
 
-    pub fn depends_on(&self, other: &Rule) -> bool {
-        other.precedes(self)
+    /// "The higher of an overlapping pair precedes the other", and "wherever two rules' priorities were compared, ranks are".
+    pub fn precedes(&self, other: &Rule, uncounted: bool) -> bool {
+        self.is_ordered_with(other, uncounted) && self.rank > other.rank
+    }
+
+    pub fn depends_on(&self, other: &Rule, uncounted: bool) -> bool {
+        other.precedes(self, uncounted)
+    }
+
+    /// "Equal ranks decline only there."
+    pub fn ties_with(&self, other: &Rule, uncounted: bool) -> bool {
+        self.is_ordered_with(other, uncounted) && self.rank == other.rank
     }
 
     /// "A present rule's value, mask and priority", which is the rank: ids and actions aren't looked at.
     pub fn equals(&self, other: &Rule) -> bool {
         self.value == other.value && self.mask == other.mask && self.rank == other.rank
+    }
+
+    /// In an uncounted table "a rule sent again replaces the lowest equal one if its action is the same".
+    pub fn is_replaced_by(&self, new: &Rule, uncounted: bool) -> bool {
+        self.equals(new) && !(uncounted && self.action != new.action)
     }
 
     pub fn record(&self, width: usize) -> Vec<u64> {
@@ -144,7 +164,7 @@ pub fn read_slots(words: &[u64], width: usize) -> Result<Vec<Slot>, Refusal> {
 }
 
 /// Checks 3 and 4, each over the whole table.
-pub fn check_ids_and_order(slots: &[Slot]) -> Result<(), Refusal> {
+pub fn check_ids_and_order(slots: &[Slot], uncounted: bool) -> Result<(), Refusal> {
     for (slot, entry) in slots.iter().enumerate() {
         if let Some(rule) = entry {
             if slots[..slot].iter().flatten().any(|earlier| earlier.id == rule.id) {
@@ -152,18 +172,18 @@ pub fn check_ids_and_order(slots: &[Slot]) -> Result<(), Refusal> {
             }
         }
     }
-    match first_out_of_order(slots) {
+    match first_out_of_order(slots, uncounted) {
         Some(slot) => refuse(ORDER, slot),
         None => Ok(()),
     }
 }
 
-/// The lowest slot that has an earlier overlapping rule of no higher rank; copies of one id aren't compared.
-pub fn first_out_of_order(slots: &[Slot]) -> Option<usize> {
+/// The lowest slot that has an earlier rule of no higher rank that it is ordered with; copies of one id aren't compared.
+pub fn first_out_of_order(slots: &[Slot], uncounted: bool) -> Option<usize> {
     for (slot, entry) in slots.iter().enumerate() {
         if let Some(rule) = entry {
             for earlier in slots[..slot].iter().flatten() {
-                if earlier.id != rule.id && earlier.overlaps(rule) && earlier.rank <= rule.rank {
+                if earlier.id != rule.id && earlier.is_ordered_with(rule, uncounted) && earlier.rank <= rule.rank {
                     return Some(slot);
                 }
             }
@@ -173,9 +193,9 @@ pub fn first_out_of_order(slots: &[Slot]) -> Option<usize> {
 }
 
 /// Checks 1 to 4: "a table that passes 1 to 4 is sound".
-pub fn read_sound_table(words: &[u64], width: usize) -> Result<Vec<Slot>, Refusal> {
+pub fn read_sound_table(words: &[u64], width: usize, uncounted: bool) -> Result<Vec<Slot>, Refusal> {
     let slots = read_slots(words, width)?;
-    check_ids_and_order(&slots)?;
+    check_ids_and_order(&slots, uncounted)?;
     Ok(slots)
 }
 

@@ -5,7 +5,7 @@ use crate::bits::Bits;
 use crate::carry::{carry_out, Carried, Progress};
 use crate::edge_test::{plan_at, put, refused, rule};
 use crate::given::EDITION_13;
-use crate::image::save;
+use crate::image_test::save;
 use crate::lookup::{lookup, slot_record, Found};
 use crate::plan::{plan_delete, plan_insert, write_word, EMPTYING};
 use crate::table::*;
@@ -29,7 +29,7 @@ fn new_rule() -> Rule {
 
 fn words_with_new_rule() -> Vec<u64> {
     let mut words = words_of(&slots(), 5);
-    let plan = plan_insert(&words, 5, &new_rule().record(5), EDITION_13, 3).unwrap();
+    let plan = plan_insert(&words, 5, COUNTED, &new_rule().record(5), EDITION_13, 3).unwrap();
     let mut progress = Progress { done: 0, total: 2 };
     while carry_out(&mut words, 5, &new_rule().record(5), EDITION_13, &plan, &mut progress) == Ok(Carried::Wrote) {}
     words
@@ -37,7 +37,7 @@ fn words_with_new_rule() -> Vec<u64> {
 
 #[test]
 fn the_last_bit_of_the_fifth_word_decides() {
-    let planned = plan_at(5, &slots(), &new_rule(), EDITION_13).map(|(plan, _)| plan);
+    let planned = plan_at(5, COUNTED, &slots(), &new_rule(), EDITION_13).map(|(plan, _)| plan);
     assert_eq!(planned, Ok(vec![write_word(1, 2), put(1)]));
     let words = words_with_new_rule();
     let top = 1 << 63;
@@ -51,12 +51,12 @@ fn the_last_bit_of_the_fifth_word_decides() {
 fn rules_apart_by_the_last_bit_do_not_tie() {
     let words = words_with_new_rule();
     let apart = last_bit_rule(4, 25, false, 9).record(5);
-    assert_eq!(plan_insert(&words, 5, &apart, EDITION_13, 3), refused(FULL, 0));
+    assert_eq!(plan_insert(&words, 5, COUNTED, &apart, EDITION_13, 3), refused(FULL, 0));
     let equal = last_bit_rule(4, 25, true, 9).record(5);
-    assert_eq!(plan_insert(&words, 5, &equal, EDITION_13, 3), Ok(vec![put(1)]));
+    assert_eq!(plan_insert(&words, 5, COUNTED, &equal, EDITION_13, 3), Ok(vec![put(1)]));
     let mut overlapping = last_bit_rule(4, 25, true, 9);
     overlapping.mask |= Bits::at(0);
-    assert_eq!(plan_insert(&words, 5, &overlapping.record(5), EDITION_13, 3), refused(TIE, 1));
+    assert_eq!(plan_insert(&words, 5, COUNTED, &overlapping.record(5), EDITION_13, 3), refused(TIE, 1));
 }
 
 #[test]
@@ -64,10 +64,10 @@ fn the_same_words_at_the_other_width() {
     let words = words_with_new_rule();
     assert_eq!(words.len(), 36);
     let record = rule(4, 25, "1").record(2);
-    assert_eq!(plan_insert(&words, 2, &record, EDITION_13, 6), refused(RECORD, 0));
+    assert_eq!(plan_insert(&words, 2, COUNTED, &record, EDITION_13, 6), refused(RECORD, 0));
     assert_eq!(lookup(&words, 2, &[0, 0]), refused(RECORD, 0));
     assert_eq!(slot_record(&words, 2, 1), 0..0);
-    assert_eq!(plan_insert(&[0; 36], 2, &record, EDITION_13, 6), Ok(vec![put(0)]));
+    assert_eq!(plan_insert(&[0; 36], 2, COUNTED, &record, EDITION_13, 6), Ok(vec![put(0)]));
     let two_words = words_of(&[Some(rule(1, 30, "11")), None], 2);
     assert_eq!(lookup(&two_words, 5, &[0; 5]), refused(RECORD, 0));
     // three slots of two words are no whole number of slots of five
@@ -94,8 +94,8 @@ fn widths_that_no_table_has() {
         let (key, record) = (vec![0; width.min(6)], vec![0; record_words(width.min(6))]);
         assert_eq!(lookup(&words, width, &key), refused(SHAPE, 0));
         assert_eq!(slot_record(&words, width, 0), 0..0);
-        assert_eq!(plan_insert(&words, width, &record, EDITION_13, 3), refused(SHAPE, 0));
-        assert_eq!(plan_delete(&words, width, 1, 3), refused(SHAPE, 0));
+        assert_eq!(plan_insert(&words, width, COUNTED, &record, EDITION_13, 3), refused(SHAPE, 0));
+        assert_eq!(plan_delete(&words, width, COUNTED, 1, 3), refused(SHAPE, 0));
         assert_eq!(save(&words, width, 1000), refused(SHAPE, 0));
         let mut progress = Progress { done: 0, total: 0 };
         assert_eq!(carry_out(&mut words.clone(), width, &record, EDITION_13, &[], &mut progress), refused(SHAPE, 0));
@@ -111,10 +111,10 @@ fn keys_and_rules_of_another_number_of_words() {
         assert_eq!(lookup(&unsound, 5, &vec![0; count]), refused(SHAPE, 0));
     }
     for count in [0, 1, 6, 11, 13, 24] {
-        assert_eq!(plan_insert(&words, 5, &vec![0; count], EDITION_13, 3), refused(SHAPE, 0));
-        assert_eq!(plan_insert(&unsound, 5, &vec![0; count], EDITION_13, 3), refused(SHAPE, 0));
+        assert_eq!(plan_insert(&words, 5, COUNTED, &vec![0; count], EDITION_13, 3), refused(SHAPE, 0));
+        assert_eq!(plan_insert(&unsound, 5, COUNTED, &vec![0; count], EDITION_13, 3), refused(SHAPE, 0));
     }
-    assert_eq!(plan_insert(&words, 5, &[0; 12], EDITION_13, 3), refused(RULE, 0));
+    assert_eq!(plan_insert(&words, 5, COUNTED, &[0; 12], EDITION_13, 3), refused(RULE, 0));
 }
 
 #[test]
@@ -137,8 +137,8 @@ fn carrying_out_asks_for_the_words_of_a_rule_in_every_write() {
 #[test]
 fn the_largest_table_of_five_words() {
     let record = rule(1, 1, "1").record(5);
-    assert_eq!(plan_insert(&[0; 12 * 1024], 5, &record, EDITION_13, 1), Ok(vec![put(0)]));
-    assert_eq!(plan_insert(&[0; 12 * 1025], 5, &record, EDITION_13, 1), refused(SHAPE, 0));
+    assert_eq!(plan_insert(&[0; 12 * 1024], 5, COUNTED, &record, EDITION_13, 1), Ok(vec![put(0)]));
+    assert_eq!(plan_insert(&[0; 12 * 1025], 5, COUNTED, &record, EDITION_13, 1), refused(SHAPE, 0));
     // 1,024 slots of five words are 2,048 of two
-    assert_eq!(plan_insert(&[0; 12 * 1024], 2, &rule(1, 1, "1").record(2), EDITION_13, 1), refused(SHAPE, 0));
+    assert_eq!(plan_insert(&[0; 12 * 1024], 2, COUNTED, &rule(1, 1, "1").record(2), EDITION_13, 1), refused(SHAPE, 0));
 }

@@ -20,12 +20,12 @@ extern "C" {
     ) -> u32;
     pub fn tcam_slot_record(table: *const u64, words: usize, width: u32, slot: u32, first: *mut u32) -> u32;
     pub fn tcam_plan_insert(
-        table: *const u64, words: usize, width: u32,
+        table: *const u64, words: usize, width: u32, uncounted: u32,
         rule: *const u64, rule_words: usize, edition: u32,
         plan: *mut u32, plan_words: usize, count: *mut u32, spot: *mut u32,
     ) -> u32;
     pub fn tcam_plan_delete(
-        table: *const u64, words: usize, width: u32, id: u32,
+        table: *const u64, words: usize, width: u32, uncounted: u32, id: u32,
         plan: *mut u32, plan_words: usize, count: *mut u32, spot: *mut u32,
     ) -> u32;
     pub fn tcam_carry_out(
@@ -34,24 +34,25 @@ extern "C" {
         plan: *const u32, plan_words: usize, progress: *mut ProgressRecord,
     ) -> u64;
     pub fn tcam_save(
-        table: *const u64, words: usize, width: u32,
+        table: *const u64, words: usize, width: u32, uncounted: u32,
         image: *mut u8, image_bytes: usize, bytes: *mut u32, spot: *mut u32,
     ) -> u32;
     pub fn tcam_load(
         image: *const u8, image_bytes: usize,
-        table: *mut u64, words: usize, width: u32, spot: *mut u32,
+        table: *mut u64, words: usize, width: u32, uncounted: u32, spot: *mut u32,
     ) -> u32;
 }
 
 /// The library's plan for the insert of a rule, given as a record under an edition, in a buffer of one word per slot.
-pub fn plan_insert(table: &[u64], width: usize, rule: &[u64], edition: u32) -> Result<Vec<u32>, Refusal> {
+pub fn plan_insert(table: &[u64], width: usize, uncounted: bool, rule: &[u64], edition: u32) -> Result<Vec<u32>, Refusal> {
     let mut plan = vec![0; table.len() / record_words(width)];
     let (mut count, mut spot) = (0, 0);
     let (room, cells) = (plan.len(), (&mut count, &mut spot));
     let number = unsafe {
         let (words, rule_words) = (table.len(), rule.len());
         let (table, rule, buffer) = (table.as_ptr(), rule.as_ptr(), plan.as_mut_ptr());
-        tcam_plan_insert(table, words, width as u32, rule, rule_words, edition, buffer, room, cells.0, cells.1)
+        let (width, flag) = (width as u32, u32::from(uncounted));
+        tcam_plan_insert(table, words, width, flag, rule, rule_words, edition, buffer, room, cells.0, cells.1)
     };
     if number != 0 {
         return Err(Refusal { number, spot: u64::from(spot) });
