@@ -184,6 +184,7 @@ macro_rules! export_calls {
             table: *const u64,
             words: usize,
             width: u32,
+            uncounted: u32,
             rule: *const u64,
             rule_words: usize,
             edition: u32,
@@ -193,7 +194,7 @@ macro_rules! export_calls {
             spot: &mut u32,
         ) -> u32 {
             let (table, rule, plan) = (lent(table, words), lent(rule, rule_words), lent_mut(plan, plan_words));
-            spread($crate::at_width!(width, plans::plan_insert(table, rule, edition, plan)), count, spot)
+            spread($crate::at_width!(width, plans::plan_insert(table, uncounted != 0, rule, edition, plan)), count, spot)
         }
 
         #[no_mangle]
@@ -201,6 +202,7 @@ macro_rules! export_calls {
             table: *const u64,
             words: usize,
             width: u32,
+            uncounted: u32,
             id: u32,
             plan: *mut u32,
             plan_words: usize,
@@ -208,7 +210,7 @@ macro_rules! export_calls {
             spot: &mut u32,
         ) -> u32 {
             let (table, plan) = (lent(table, words), lent_mut(plan, plan_words));
-            spread($crate::at_width!(width, plans::plan_delete(table, id, plan)), count, spot)
+            spread($crate::at_width!(width, plans::plan_delete(table, uncounted != 0, id, plan)), count, spot)
         }
 
         #[no_mangle]
@@ -232,13 +234,14 @@ macro_rules! export_calls {
             table: *const u64,
             words: usize,
             width: u32,
+            uncounted: u32,
             image: *mut u8,
             image_bytes: usize,
             bytes: &mut u32,
             spot: &mut u32,
         ) -> u32 {
             let (table, image) = (lent(table, words), lent_mut(image, image_bytes));
-            spread($crate::at_width!(width, images::save(table, image)), bytes, spot)
+            spread($crate::at_width!(width, images::save(table, uncounted != 0, image)), bytes, spot)
         }
 
         #[no_mangle]
@@ -248,11 +251,12 @@ macro_rules! export_calls {
             table: *mut u64,
             words: usize,
             width: u32,
+            uncounted: u32,
             spot: &mut u32,
         ) -> u32 {
             let (image, table) = (lent(image, image_bytes), lent_mut(table, words));
             let mut loaded = 0;
-            spread($crate::at_width!(width, images::load(image, table)).map(|()| 0), &mut loaded, spot)
+            spread($crate::at_width!(width, images::load(image, table, uncounted != 0)).map(|()| 0), &mut loaded, spot)
         }
     };
 }

@@ -1,4 +1,4 @@
-// What our calls took before a rule could be sent again: the counts of before.txt, beside which those of now are judged.
+// What our calls took before a table could be uncounted: the counts of before.txt, beside which those of now are judged.
 // They are what `--record` printed at the landing before.
 
 use crate::cases::{PAIR_CALLS, SMALL_KINDS};
@@ -10,9 +10,9 @@ use reference::bits::WIDTHS;
 
 const COUNTS: &str = include_str!("before.txt");
 
-/// The tables that there were; a rule sent again was declined.
+/// The tables that there were, all of them counted.
 pub fn kinds(width: usize) -> impl Iterator<Item = Kind> {
-    every_kind(width).filter(|kind| !kind.is_sent_again())
+    every_kind(width).filter(|kind| !kind.is_uncounted())
 }
 
 /// The numbers of slots at which a call on a table is counted.

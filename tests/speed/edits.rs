@@ -11,13 +11,15 @@ use support::random::Random;
 const WIDTHS_GIVEN: [u32; 10] = [2, 5, 2, 5, 0, 1, 3, 4, 6, u32::MAX];
 /// Editions that are given: those that there are, and others.
 const EDITIONS_GIVEN: [u32; 12] = [10, 13, 10, 13, 0, 9, 11, 12, 14, 99, 10 + (1 << 16), u32::MAX];
+/// Numbers by which a table is named as uncounted; 0 as counted.
+const FLAGS_GIVEN: [u32; 6] = [0, 1, 1, 2, 1 << 16, u32::MAX];
 /// Ranks and priorities on both sides of the highest that there are.
 const RANKS_AT_THE_EDGE: [u64; 4] = [65_535, 65_536, 65_536, 65_537];
 
 pub fn edit(input: &Input, random: &mut Random) -> Input {
     let mut edited = input.clone();
     for _ in 0..random.between(1, 2) {
-        match random.below(15) {
+        match random.below(17) {
             0..=2 => edit_table(&mut edited.table, edited.width, random),
             3 | 4 => edit_rule(&mut edited, random),
             5 => edit_key(&mut edited, random),
@@ -26,10 +28,34 @@ pub fn edit(input: &Input, random: &mut Random) -> Input {
             8 | 9 => edit_plan(&mut edited, random),
             10 | 11 => edit_image(&mut edited.image, edited.width, random),
             12 | 13 => edited.edition = random.pick(&EDITIONS_GIVEN),
+            14 => edited.uncounted = random.pick(&FLAGS_GIVEN),
+            15 => edit_actions(&mut edited, random),
             _ => edit_shape(&mut edited, random),
         }
     }
     edited
+}
+
+/// Few actions in the table and one of them in the rule, the table uncounted: so that rules of one action and of others overlap. Then
+/// the ranks of some rules are exchanged.
+fn edit_actions(input: &mut Input, random: &mut Random) {
+    let (width, words) = (input.width, record_words(input.width));
+    let actions = random.between(1, 3);
+    input.uncounted = random.pick(&FLAGS_GIVEN[1..]);
+    for slot in occupied_slots(&input.table, width) {
+        let owner = &mut input.table[words * slot..][2 * width];
+        *owner = *owner >> 32 << 32 | random.below(actions) as u64;
+    }
+    if input.rule.len() == words {
+        input.rule[2 * width] = input.rule[2 * width] >> 32 << 32 | random.below(actions) as u64;
+    }
+    let slots = input.table.len() / words;
+    for _ in 0..random.below(3).min(slots) {
+        let (one, other) = (words * random.below(slots) + words - 1, words * random.below(slots) + words - 1);
+        if input.table[one] != 0 && input.table[other] != 0 {
+            input.table.swap(one, other);
+        }
+    }
 }
 
 /// Another width given, or another number of words of a rule or a key.

@@ -15,6 +15,8 @@ pub struct Input {
     pub width: usize,
     /// The width that is given.
     pub given: u32,
+    /// The number by which the table is named as counted or uncounted.
+    pub uncounted: u32,
     pub table: Vec<u64>,
     pub key: Vec<u64>,
     pub slot: u32,
@@ -66,7 +68,7 @@ impl Lent {
 
 /// Makes the call of a version and gives its result.
 pub fn perform(version: &Version, input: &Input, lent: &mut Lent) -> u64 {
-    let (table, words, width) = (lent.table.as_mut_ptr(), lent.table.len(), input.given);
+    let (table, words, width, flag) = (lent.table.as_mut_ptr(), lent.table.len(), input.given, input.uncounted);
     let (plan, plan_words) = (lent.plan.as_mut_ptr(), lent.plan.len());
     let (image, image_bytes) = (lent.image.as_mut_ptr(), lent.image.len());
     let (key, key_words) = (input.key.as_ptr(), input.key.len());
@@ -77,11 +79,11 @@ pub fn perform(version: &Version, input: &Input, lent: &mut Lent) -> u64 {
             Call::Lookup => (version.lookup)(table, words, width, key, key_words, first, second, third, fourth),
             Call::SlotRecord => (version.slot_record)(table, words, width, input.slot, first),
             Call::PlanInsert => {
-                (version.plan_insert)(table, words, width, rule, rule_words, edition, plan, plan_words, first, second)
+                (version.plan_insert)(table, words, width, flag, rule, rule_words, edition, plan, plan_words, first, second)
             }
-            Call::PlanDelete => (version.plan_delete)(table, words, width, input.id, plan, plan_words, first, second),
-            Call::Save => (version.save)(table, words, width, image, image_bytes, first, second),
-            Call::Load => (version.load)(image, image_bytes, table, words, width, first),
+            Call::PlanDelete => (version.plan_delete)(table, words, width, flag, input.id, plan, plan_words, first, second),
+            Call::Save => (version.save)(table, words, width, flag, image, image_bytes, first, second),
+            Call::Load => (version.load)(image, image_bytes, table, words, width, flag, first),
             Call::CarryOut => return perform_carry_out(version, input, lent),
         }
     };
@@ -114,12 +116,13 @@ pub fn inputs_of(table: &RuleTable) -> Vec<Input> {
     let slot = occupied_slots(words, width).last().copied().unwrap_or(0);
     let last = &words[slot * record_words(width)..][..record_words(width)];
     let rule = table.new.record(width);
-    let plan = plan_insert(words, width, &rule, table.edition, slots).unwrap_or_default();
-    let image = save(words, width, image_bytes(width, slots)).expect("a sound table");
+    let plan = plan_insert(words, width, table.uncounted, &rule, table.edition, slots).unwrap_or_default();
+    let image = save(words, width, table.uncounted, image_bytes(width, slots)).expect("a sound table");
     let input = |call: Call| Input {
         call,
         width,
         given: width as u32,
+        uncounted: u32::from(table.uncounted),
         table: words.clone(),
         key: last[..width].to_vec(),
         slot: slot as u32,

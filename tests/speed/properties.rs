@@ -22,13 +22,16 @@ pub struct Properties {
     pub writes: usize,
     /// Whether the new rule goes over the last one of the table.
     pub replaces: bool,
+    /// Pairs of one action, of all.
+    pub of_one_action: f64,
 }
 
 pub fn properties(kind: Kind, (width, slots): Size) -> Properties {
     let table = make(kind, width, slots);
-    let entries = read_sound_table(&table.words, width).expect("a sound table");
+    let entries = read_sound_table(&table.words, width, table.uncounted).expect("a sound table");
     let sampled_alike = are_sampled_alike(&entries);
-    let plan = plan_insert(&table.words, width, &table.new.record(width), table.edition, slots).unwrap_or_default();
+    let rule = table.new.record(width);
+    let plan = plan_insert(&table.words, width, table.uncounted, &rule, table.edition, slots).unwrap_or_default();
     let replaces = entries[slots - 1].is_some() && plan == [write_word(PUT_IN, slots - 1)];
     let rules: Vec<Rule> = entries.into_iter().flatten().collect();
     let mut counted = Properties {
@@ -42,9 +45,12 @@ pub fn properties(kind: Kind, (width, slots): Size) -> Properties {
         ranked_highest: rules.iter().filter(|rule| rule.rank == EXACT_RANK).count(),
         writes: plan.len(),
         replaces,
+        of_one_action: 0.0,
     };
+    let mut of_one_action = 0;
     for (place, rule) in rules.iter().enumerate() {
         for earlier in &rules[..place] {
+            of_one_action += usize::from(earlier.action == rule.action);
             let apart = (earlier.value ^ rule.value) & earlier.mask & rule.mask;
             match apart.words(width).iter().position(|&word| word != 0) {
                 Some(word) => counted.apart_by_word[word] += 1,
@@ -52,6 +58,7 @@ pub fn properties(kind: Kind, (width, slots): Size) -> Properties {
             }
         }
     }
+    counted.of_one_action = of_one_action as f64 / counted.pairs as f64;
     counted
 }
 
@@ -72,6 +79,9 @@ pub fn hold(kind: Kind, (width, slots): Size) -> bool {
         }
         Kind::Sorted => overlapping < 0.001 && apart > 0.99 && counted.falling,
         Kind::Dense | Kind::DenseSentAgain => overlapping > 0.99 && counted.falling,
+        Kind::DenseUncounted => {
+            overlapping > 0.99 && counted.falling && counted.of_one_action > 0.45 && counted.of_one_action < 0.55
+        }
         Kind::DenseDown | Kind::DenseUp => overlapping > 0.99 && counted.falling && 10 * counted.writes > 8 * slots,
         Kind::Prefixes => counted.overlapping > 0 && overlapping < 0.01 && apart > 0.99,
         Kind::Undecided => counted.overlapping == 0 && apart > 0.45 && apart < 0.55 && !counted.falling,

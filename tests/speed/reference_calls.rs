@@ -34,12 +34,18 @@ mod lookups {
 mod plans {
     use super::{copied, Refusal};
 
-    pub fn plan_insert<const W: usize>(table: &[u64], rule: &[u64], edition: u32, plan: &mut [u32]) -> Result<u32, Refusal> {
-        copied(reference::plan::plan_insert(table, W, rule, edition, plan.len()), plan)
+    pub fn plan_insert<const W: usize>(
+        table: &[u64],
+        uncounted: bool,
+        rule: &[u64],
+        edition: u32,
+        plan: &mut [u32],
+    ) -> Result<u32, Refusal> {
+        copied(reference::plan::plan_insert(table, W, uncounted, rule, edition, plan.len()), plan)
     }
 
-    pub fn plan_delete<const W: usize>(table: &[u64], id: u32, plan: &mut [u32]) -> Result<u32, Refusal> {
-        copied(reference::plan::plan_delete(table, W, id, plan.len()), plan)
+    pub fn plan_delete<const W: usize>(table: &[u64], uncounted: bool, id: u32, plan: &mut [u32]) -> Result<u32, Refusal> {
+        copied(reference::plan::plan_delete(table, W, uncounted, id, plan.len()), plan)
     }
 }
 
@@ -64,12 +70,12 @@ mod steps {
 mod images {
     use super::{copied, Refusal};
 
-    pub fn save<const W: usize>(table: &[u64], image: &mut [u8]) -> Result<u32, Refusal> {
-        copied(reference::image::save(table, W, image.len()), image)
+    pub fn save<const W: usize>(table: &[u64], uncounted: bool, image: &mut [u8]) -> Result<u32, Refusal> {
+        copied(reference::image::save(table, W, uncounted, image.len()), image)
     }
 
-    pub fn load<const W: usize>(image: &[u8], table: &mut [u64]) -> Result<(), Refusal> {
-        copied(reference::image::load(image, table.len(), W), table).map(|_| ())
+    pub fn load<const W: usize>(image: &[u8], table: &mut [u64], uncounted: bool) -> Result<(), Refusal> {
+        copied(reference::image::load(image, table.len(), W, uncounted), table).map(|_| ())
     }
 }
 

@@ -124,9 +124,9 @@ fn print_worst(found: &Found) {
     println!();
 }
 
-/// Ours beside what it was before a rule could be sent again, each call and table.
+/// Ours beside what it was before a table could be uncounted, each call and table.
 fn print_before(found: &Found) {
-    println!("### Beside what it was before rules could be sent again: now / before, the worst of the sizes\n");
+    println!("### Beside what it was before tables could be uncounted: now / before, the worst of the sizes\n");
     println!("Tables with full masks are not judged.\n");
     println!("| Table | full masks | {} |", CALLS.map(Call::name).join(" | "));
     println!("|---|---|{}", "---|".repeat(CALLS.len()));

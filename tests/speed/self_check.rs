@@ -1,6 +1,7 @@
 // The cross-check: all versions give equal results, buffers and cells on the tables of the comparison and on edited inputs.
 // It times nothing. It fails on a difference, on a table that is not accepted, and where some refusal is never reached.
 
+use crate::cases::PAIR_CALLS;
 use crate::edits::edit;
 use crate::inputs::{inputs_of, perform, Input, Lent};
 use crate::properties;
@@ -9,7 +10,7 @@ use crate::tables::{every_kind, make, Kind, Size};
 use crate::versions::{versions, Call, Version};
 use crate::SIZES;
 use reference::bits::WIDTHS;
-use reference::table::record_words;
+use reference::table::{record_words, COUNTED, UNCOUNTED};
 use std::collections::BTreeSet;
 use support::random::Random;
 
@@ -18,7 +19,7 @@ const EDITS: u64 = 500;
 const SEED: u64 = 11;
 
 /// The results that each call must have had at each width: refusals by number, and 2^32 - 1 for a finished plan. Beside them a
-/// slot's record has had its words.
+/// slot's record has had its words. The calls that compare rules have had theirs of counted tables and of uncounted ones.
 const RESULTS: [(Call, &[u64]); 7] = [
     (Call::PlanInsert, &[0, 1, 2, 3, 4, 5, 6, 8, 9, 10, 11, 18]),
     (Call::PlanDelete, &[0, 1, 2, 3, 4, 5, 7, 11]),
@@ -33,7 +34,8 @@ const RESULTS: [(Call, &[u64]); 7] = [
 struct Tally {
     compared: usize,
     different: usize,
-    reached: BTreeSet<(usize, Call, u64)>,
+    /// By width, call, whether the table is uncounted, and result.
+    reached: BTreeSet<(usize, Call, bool, u64)>,
 }
 
 /// Whether all is as it should be.
@@ -102,9 +104,10 @@ fn gives(versions: &[Version], input: &Input, wanted: u64, tally: &mut Tally) ->
     if result != wanted {
         let (width, slots) = (input.width, input.table.len() / record_words(input.width));
         println!(
-            "speed: {} on {slots} slots of width {width}, width {} and edition {} given: result {result:#x}",
+            "speed: {} on {slots} slots of width {width}, width {}, flag {} and edition {} given: result {result:#x}",
             input.call.name(),
             input.given,
+            input.uncounted,
             input.edition
         );
     }
@@ -127,14 +130,14 @@ fn compare(versions: &[Version], input: &Input, tally: &mut Tally) -> u64 {
         }
     }
     let number = if input.call == Call::CarryOut { result & 0xffff_ffff } else { result };
-    tally.reached.insert((input.width, input.call, number));
+    tally.reached.insert((input.width, input.call, input.uncounted != 0 && PAIR_CALLS.contains(&input.call), number));
     result
 }
 
 fn report(version: &Version, input: &Input, ours: (u64, &Lent), other: (u64, &Lent)) {
     let (words, width) = (input.table.len(), input.width);
     println!("speed: {} of {} differs, {words} words, made at width {width}:", input.call.name(), version.name);
-    println!("  width {} and edition {} given", input.given, input.edition);
+    println!("  width {}, flag {} and edition {} given", input.given, input.uncounted, input.edition);
     println!("  ours {:#x}, cells {:x?}, done {}", ours.0, ours.1.cells, ours.1.done);
     println!("  this {:#x}, cells {:x?}, done {}", other.0, other.1.cells, other.1.done);
     let parts = [
@@ -150,9 +153,13 @@ impl Tally {
     fn told(&self, versions: usize) -> bool {
         let mut missing = 0;
         for (width, (call, results)) in WIDTHS.into_iter().flat_map(|width| RESULTS.map(|row| (width, row))) {
-            for result in results.iter().copied().chain((call == Call::SlotRecord).then(|| record_words(width) as u64)) {
-                if !self.reached.contains(&(width, call, result)) {
-                    println!("speed: {} at width {width} never gave {result:#x}", call.name());
+            let part = (call == Call::SlotRecord).then(|| record_words(width) as u64);
+            let flags: &[bool] = if PAIR_CALLS.contains(&call) { &[COUNTED, UNCOUNTED] } else { &[COUNTED] };
+            for (uncounted, result) in
+                flags.iter().flat_map(|flag| results.iter().copied().chain(part).map(move |one| (*flag, one)))
+            {
+                if !self.reached.contains(&(width, call, uncounted, result)) {
+                    println!("speed: {} at width {width}, uncounted: {uncounted}, never gave {result:#x}", call.name());
                     missing += 1;
                 }
             }

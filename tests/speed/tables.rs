@@ -51,9 +51,11 @@ pub enum Kind {
     DenseSentAgain,
     /// The same in a sparse table without an empty slot.
     FullSentAgain,
+    /// As `Dense`, with two actions in turn and uncounted, so that half of the overlapping pairs are ordered.
+    DenseUncounted,
 }
 
-const KINDS: [Kind; 14] = [
+const KINDS: [Kind; 15] = [
     Kind::Sparse,
     Kind::Dense,
     Kind::DenseDown,
@@ -68,6 +70,7 @@ const KINDS: [Kind; 14] = [
     Kind::SentAgain,
     Kind::DenseSentAgain,
     Kind::FullSentAgain,
+    Kind::DenseUncounted,
 ];
 
 /// The kinds at a width, the hostile ones apart.
@@ -108,6 +111,7 @@ impl Kind {
             Kind::SentAgain => "sparse, a rule sent again",
             Kind::DenseSentAgain => "dense, a rule sent again",
             Kind::FullSentAgain => "full, a rule sent again",
+            Kind::DenseUncounted => "dense, uncounted",
         }
     }
 
@@ -119,6 +123,11 @@ impl Kind {
     /// Whether the new rule replaces the last one of the table.
     pub fn is_sent_again(self) -> bool {
         matches!(self, Kind::SentAgain | Kind::DenseSentAgain | Kind::FullSentAgain)
+    }
+
+    /// Whether the table is named as uncounted.
+    pub fn is_uncounted(self) -> bool {
+        self == Kind::DenseUncounted
     }
 
     /// Under 1.3 a new rule with every mask bit set, as some tables have one, gets its priority for its rank.
@@ -145,6 +154,7 @@ pub struct RuleTable {
     pub words: Vec<u64>,
     pub new: Given,
     pub edition: u32,
+    pub uncounted: bool,
 }
 
 /// A width and a number of slots.
@@ -172,7 +182,7 @@ pub fn make(kind: Kind, width: usize, slots: usize) -> RuleTable {
         Some(Some(last)) if kind.is_sent_again() => sent_again(last, slots),
         _ => new_rule(kind, (width, slots), &mut random),
     };
-    RuleTable { width, words: words_of(&entries, width), new, edition: kind.edition() }
+    RuleTable { width, words: words_of(&entries, width), new, edition: kind.edition(), uncounted: kind.is_uncounted() }
 }
 
 /// A rule that may stand after those before it.
@@ -181,7 +191,7 @@ fn fitting_rule(kind: Kind, size: Size, slot: usize, before: &[Rule], random: &m
         let rule = any_rule(kind, size, slot, random);
         let clash = |earlier: &Rule| match kind {
             Kind::Prefixes => earlier.value == rule.value && earlier.mask == rule.mask,
-            _ => earlier.overlaps(&rule) && earlier.rank <= rule.rank,
+            _ => earlier.is_ordered_with(&rule, kind.is_uncounted()) && earlier.rank <= rule.rank,
         };
         if !before.iter().any(clash) {
             return rule;
@@ -230,7 +240,7 @@ fn any_rule(kind: Kind, (width, slots): Size, slot: usize, random: &mut Random) 
             (drawn(width, random), drawn(width, random), random.below(LEVELS) as u64)
         }
         Kind::Sorted => (drawn(width, random), drawn(width, random), falling(slot)),
-        Kind::Dense | Kind::DenseDown | Kind::DenseUp | Kind::DenseSentAgain => {
+        Kind::Dense | Kind::DenseDown | Kind::DenseUp | Kind::DenseSentAgain | Kind::DenseUncounted => {
             (drawn(width, random), dense_mask(width, random), falling(slot))
         }
         Kind::Prefixes => {
@@ -243,7 +253,8 @@ fn any_rule(kind: Kind, (width, slots): Size, slot: usize, random: &mut Random) 
         Kind::Exact => (drawn(width, random), Bits::all(width), EXACT_RANK),
         _ => hostile::pattern(kind, (width, slots), slot, random),
     };
-    Rule { id: id_of_place(slot), rank, value: wanted & mask, mask, action: slot as u32 ^ 0x5a5a }
+    let action = if kind.is_uncounted() { slot as u32 % 2 } else { slot as u32 ^ 0x5a5a };
+    Rule { id: id_of_place(slot), rank, value: wanted & mask, mask, action }
 }
 
 /// A rule of the table as it is sent again, with an id and an action of its own.
@@ -262,7 +273,7 @@ fn new_rule(kind: Kind, (width, slots): Size, random: &mut Random) -> Given {
         Kind::Sparse | Kind::Sorted | Kind::HalfEmpty | Kind::Exact | Kind::SentAgain | Kind::FullSentAgain => {
             (drawn(width, random), Bits::all(width), 30_001)
         }
-        Kind::Dense | Kind::DenseSentAgain => (Bits::NONE, Bits::NONE, falling(slots / 2) + 1),
+        Kind::Dense | Kind::DenseSentAgain | Kind::DenseUncounted => (Bits::NONE, Bits::NONE, falling(slots / 2) + 1),
         Kind::DenseDown => (Bits::NONE, Bits::NONE, falling(0) + 1),
         Kind::DenseUp => (Bits::NONE, Bits::NONE, falling(slots) + 1),
         Kind::Prefixes => (drawn(width, random), prefix(20), 2000),

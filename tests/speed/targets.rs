@@ -16,7 +16,7 @@ const LOOKUP_A_SLOT: f64 = 30.0;
 const PAIRS_GROWTH: f64 = 2.8;
 const CALL_GROWTH: f64 = 2.2;
 /// Of what it was before, every call.
-const BEFORE_RATIO: f64 = 1.01;
+const BEFORE_RATIO: f64 = 1.02;
 
 /// At five words: planning, an insert or a delete, and every other call; then planning an insert and a load by themselves.
 const WIDE_PLAN_RATIO: f64 = 1.10;

@@ -11,13 +11,14 @@ enum { SHAPE = 1 };
     uint32_t width_##width##_lookup(const uint64_t *, size_t, const uint64_t *, size_t, uint32_t *, uint32_t *, uint32_t *,    \
                                     uint32_t *);                                                                               \
     uint32_t width_##width##_slot_record(const uint64_t *, size_t, uint32_t, uint32_t *);                                      \
-    uint32_t width_##width##_plan_insert(const uint64_t *, size_t, const uint64_t *, size_t, uint32_t, uint32_t *, size_t,     \
-                                         uint32_t *, uint32_t *);                                                              \
-    uint32_t width_##width##_plan_delete(const uint64_t *, size_t, uint32_t, uint32_t *, size_t, uint32_t *, uint32_t *);      \
+    uint32_t width_##width##_plan_insert(const uint64_t *, size_t, uint32_t, const uint64_t *, size_t, uint32_t, uint32_t *,   \
+                                         size_t, uint32_t *, uint32_t *);                                                      \
+    uint32_t width_##width##_plan_delete(const uint64_t *, size_t, uint32_t, uint32_t, uint32_t *, size_t, uint32_t *,         \
+                                         uint32_t *);                                                                          \
     uint64_t width_##width##_carry_out(uint64_t *, size_t, const uint64_t *, size_t, uint32_t, const uint32_t *, size_t,       \
                                        progress_record *);                                                                     \
-    uint32_t width_##width##_save(const uint64_t *, size_t, uint8_t *, size_t, uint32_t *, uint32_t *);                        \
-    uint32_t width_##width##_load(const uint8_t *, size_t, uint64_t *, size_t, uint32_t *)
+    uint32_t width_##width##_save(const uint64_t *, size_t, uint32_t, uint8_t *, size_t, uint32_t *, uint32_t *);              \
+    uint32_t width_##width##_load(const uint8_t *, size_t, uint64_t *, size_t, uint32_t, uint32_t *)
 
 DECLARE_AT(2);
 DECLARE_AT(5);
@@ -49,16 +50,17 @@ uint32_t c_slot_record(const uint64_t *table, size_t words, uint32_t width, uint
     return AT_WIDTH(slot_record, no_part(first), table, words, slot, first);
 }
 
-uint32_t c_plan_insert(const uint64_t *table, size_t words, uint32_t width, const uint64_t *rule, size_t rule_words,
-                       uint32_t edition, uint32_t *plan, size_t plan_words, uint32_t *count, uint32_t *spot)
+uint32_t c_plan_insert(const uint64_t *table, size_t words, uint32_t width, uint32_t uncounted, const uint64_t *rule,
+                       size_t rule_words, uint32_t edition, uint32_t *plan, size_t plan_words, uint32_t *count, uint32_t *spot)
 {
-    return AT_WIDTH(plan_insert, refuse_width(spot), table, words, rule, rule_words, edition, plan, plan_words, count, spot);
+    return AT_WIDTH(plan_insert, refuse_width(spot), table, words, uncounted, rule, rule_words, edition, plan, plan_words, count,
+                    spot);
 }
 
-uint32_t c_plan_delete(const uint64_t *table, size_t words, uint32_t width, uint32_t id, uint32_t *plan, size_t plan_words,
-                       uint32_t *count, uint32_t *spot)
+uint32_t c_plan_delete(const uint64_t *table, size_t words, uint32_t width, uint32_t uncounted, uint32_t id, uint32_t *plan,
+                       size_t plan_words, uint32_t *count, uint32_t *spot)
 {
-    return AT_WIDTH(plan_delete, refuse_width(spot), table, words, id, plan, plan_words, count, spot);
+    return AT_WIDTH(plan_delete, refuse_width(spot), table, words, uncounted, id, plan, plan_words, count, spot);
 }
 
 uint64_t c_carry_out(uint64_t *table, size_t words, uint32_t width, const uint64_t *rule, size_t rule_words, uint32_t edition,
@@ -67,13 +69,14 @@ uint64_t c_carry_out(uint64_t *table, size_t words, uint32_t width, const uint64
     return AT_WIDTH(carry_out, SHAPE, table, words, rule, rule_words, edition, plan, plan_words, progress);
 }
 
-uint32_t c_save(const uint64_t *table, size_t words, uint32_t width, uint8_t *image, size_t image_bytes, uint32_t *bytes,
-                uint32_t *spot)
+uint32_t c_save(const uint64_t *table, size_t words, uint32_t width, uint32_t uncounted, uint8_t *image, size_t image_bytes,
+                uint32_t *bytes, uint32_t *spot)
 {
-    return AT_WIDTH(save, refuse_width(spot), table, words, image, image_bytes, bytes, spot);
+    return AT_WIDTH(save, refuse_width(spot), table, words, uncounted, image, image_bytes, bytes, spot);
 }
 
-uint32_t c_load(const uint8_t *image, size_t image_bytes, uint64_t *table, size_t words, uint32_t width, uint32_t *spot)
+uint32_t c_load(const uint8_t *image, size_t image_bytes, uint64_t *table, size_t words, uint32_t width, uint32_t uncounted,
+                uint32_t *spot)
 {
-    return AT_WIDTH(load, refuse_width(spot), image, image_bytes, table, words, spot);
+    return AT_WIDTH(load, refuse_width(spot), image, image_bytes, table, words, uncounted, spot);
 }

@@ -29,31 +29,31 @@ static inline check check_twice(const uint64_t *table, size_t slots)
 }
 
 /* Check 4; where it passes, the table's neighbour list is in the front of the lent one. */
-static inline check check_order(const uint64_t *table, size_t slots, uint16_t *near)
+static inline check check_order(const uint64_t *table, size_t slots, bool uncounted, uint16_t *near)
 {
-    size_t first = fill_near(table, slots, near);
+    size_t first = fill_near(table, slots, uncounted, near);
     return first < slots ? fail(ORDER, first) : pass();
 }
 
 /* Checks 3 and 4, with the list. */
-static inline check check_pairs(const uint64_t *table, size_t slots, uint16_t *near)
+static inline check check_pairs(const uint64_t *table, size_t slots, bool uncounted, uint16_t *near)
 {
     check twice = check_twice(table, slots);
-    return twice.number != OK ? twice : check_order(table, slots, near);
+    return twice.number != OK ? twice : check_order(table, slots, uncounted, near);
 }
 
 /* Checks 1 to 4, with the list. */
-static inline check check_listed(const uint64_t *table, size_t words, uint16_t *near)
+static inline check check_listed(const uint64_t *table, size_t words, bool uncounted, uint16_t *near)
 {
     check records = check_slots(table, words);
-    return records.number != OK ? records : check_pairs(table, words / WORDS, near);
+    return records.number != OK ? records : check_pairs(table, words / WORDS, uncounted, near);
 }
 
 /* Checks 1 to 4. */
-static inline check check_table(const uint64_t *table, size_t words)
+static inline check check_table(const uint64_t *table, size_t words, bool uncounted)
 {
     uint16_t near[NEAR_MOST];
-    return check_listed(table, words, near);
+    return check_listed(table, words, uncounted, near);
 }
 
 #endif

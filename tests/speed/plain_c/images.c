@@ -67,10 +67,11 @@ static void put_rules(const uint64_t *table, size_t slots, size_t rules, uint8_t
     }
 }
 
-uint32_t CALL(save)(const uint64_t *table, size_t words, uint8_t *image, size_t image_bytes, uint32_t *bytes, uint32_t *spot)
+uint32_t CALL(save)(const uint64_t *table, size_t words, uint32_t uncounted, uint8_t *image, size_t image_bytes, uint32_t *bytes,
+                    uint32_t *spot)
 {
     size_t slots = words / WORDS, rules = 0;
-    check sound = check_table(table, words);
+    check sound = check_table(table, words, uncounted != 0);
     if (sound.number != OK) {
         *spot = sound.spot;
         return sound.number;
@@ -131,19 +132,19 @@ static check fill(const uint8_t *image, size_t rules, uint64_t *table)
     return pass();
 }
 
-static check load_checked(const uint8_t *image, size_t rules, uint64_t *table, size_t words)
+static check load_checked(const uint8_t *image, size_t rules, uint64_t *table, size_t words, bool uncounted)
 {
     uint64_t working[SLOTS_MOST * WORDS] = {0};
     uint16_t near[NEAR_MOST];
     check made = fill(image, rules, working);
     if (made.number == OK)
-        made = check_pairs(working, words / WORDS, near);
+        made = check_pairs(working, words / WORDS, uncounted, near);
     if (made.number == OK)
         memcpy(table, working, words * sizeof *table);
     return made;
 }
 
-uint32_t CALL(load)(const uint8_t *image, size_t image_bytes, uint64_t *table, size_t words, uint32_t *spot)
+uint32_t CALL(load)(const uint8_t *image, size_t image_bytes, uint64_t *table, size_t words, uint32_t uncounted, uint32_t *spot)
 {
     size_t slots = words / WORDS;
     check made = check_shape(words);
@@ -152,7 +153,7 @@ uint32_t CALL(load)(const uint8_t *image, size_t image_bytes, uint64_t *table, s
     if (made.number == OK)
         made = check_entries(image, slots, number_16(image + 2));
     if (made.number == OK)
-        made = load_checked(image, number_16(image + 2), table, words);
+        made = load_checked(image, number_16(image + 2), table, words, uncounted != 0);
     if (made.number != OK)
         *spot = made.spot;
     return made.number;

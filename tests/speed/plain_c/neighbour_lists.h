@@ -13,11 +13,12 @@ enum { NONE = 65535, MAPS_FROM = 160, BLOCKS = 16 };
 enum { NEAR_MOST = 2 * SLOTS_MOST };
 
 /* full: the rules before a slot; free: those of them without a dependant yet; low: for each block a number that no rank of its
-   rules is below. */
+   rules is below. Beside them whether the table is uncounted. */
 typedef struct marks {
     uint64_t full[BLOCKS];
     uint64_t free[BLOCKS];
     uint64_t low[BLOCKS];
+    bool uncounted;
 } marks;
 
 /* The slots of a block that are to be asked. Once the later slot has its preceding rule, a block of higher ranks has nothing to
@@ -42,7 +43,7 @@ static inline void keep_pair(uint16_t *near, marks *noted, size_t slot, size_t l
 static inline bool ask_pair(const uint64_t *table, uint16_t *near, marks *noted, size_t slot, size_t later)
 {
     const uint64_t *first = table + slot * WORDS, *second = table + later * WORDS;
-    if (!rules_overlap(first, second))
+    if (!rules_overlap(first, second, noted->uncounted))
         return false;
     if (first[RANK] <= second[RANK])
         return true;
@@ -106,9 +107,9 @@ static inline void note_rule(marks *noted, size_t slot, uint64_t rank)
         noted->low[slot / 64] = rank;
 }
 
-static size_t pass_with(const uint64_t *table, size_t slots, uint16_t *near, uint64_t *maps, const spread *picked)
+static size_t pass_with(const uint64_t *table, size_t slots, bool uncounted, uint16_t *near, uint64_t *maps, const spread *picked)
 {
-    marks noted = {{0}, {0}, {0}};
+    marks noted = {{0}, {0}, {0}, uncounted};
     size_t others[PLACES_MOST], own[PLACES_MOST], first = 0;
     for (size_t block = 0; block < BLOCKS; block++)
         noted.low[block] = EXACT_RANK;
@@ -127,7 +128,7 @@ static size_t pass_with(const uint64_t *table, size_t slots, uint16_t *near, uin
     return first;
 }
 
-static inline size_t pass_screened(const uint64_t *table, size_t slots, uint16_t *near)
+static inline size_t pass_screened(const uint64_t *table, size_t slots, bool uncounted, uint16_t *near)
 {
     size_t places[PLACES_MOST];
     size_t count = choose_places(table, slots, places);
@@ -135,23 +136,23 @@ static inline size_t pass_screened(const uint64_t *table, size_t slots, uint16_t
     /* large maps cost more to clear than they save where few places are chosen */
     if (count <= PLACES_FEW) {
         uint64_t few[PLACE_WORDS * PLACES_FEW] = {0};
-        return pass_with(table, slots, near, few, &picked);
+        return pass_with(table, slots, uncounted, near, few, &picked);
     }
     uint64_t maps[PLACE_WORDS * PLACES_MOST] = {0};
-    return pass_with(table, slots, near, maps, &picked);
+    return pass_with(table, slots, uncounted, near, maps, &picked);
 }
 
-static inline size_t pass_plain(const uint64_t *table, size_t slots, uint16_t *near)
+static inline size_t pass_plain(const uint64_t *table, size_t slots, bool uncounted, uint16_t *near)
 {
     static const spread no_places;
     uint64_t maps[BLOCKS] = {0};
-    return pass_with(table, slots, near, maps, &no_places);
+    return pass_with(table, slots, uncounted, near, maps, &no_places);
 }
 
 /* The neighbour list of a table, into the front of a lent list; the lowest slot that is out of order, or the number of slots. */
-static inline size_t fill_near(const uint64_t *table, size_t slots, uint16_t *near)
+static inline size_t fill_near(const uint64_t *table, size_t slots, bool uncounted, uint16_t *near)
 {
-    return slots < MAPS_FROM ? pass_plain(table, slots, near) : pass_screened(table, slots, near);
+    return slots < MAPS_FROM ? pass_plain(table, slots, uncounted, near) : pass_screened(table, slots, uncounted, near);
 }
 
 #endif

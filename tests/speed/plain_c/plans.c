@@ -99,10 +99,20 @@ static check check_known(const uint64_t *table, size_t slots, const uint64_t *ne
 }
 
 /* The lowest slot that ties with a new rule, or the number of slots. */
-static size_t tied_slot(const uint64_t *table, size_t slots, const uint64_t *new)
+static size_t tied_slot(const uint64_t *table, size_t slots, bool uncounted, const uint64_t *new)
 {
     size_t slot = 0;
-    while (slot < slots && !tied(table + slot * WORDS, new))
+    while (slot < slots && !tied(table + slot * WORDS, new, uncounted))
+        slot++;
+    return slot;
+}
+
+/* The lowest slot with a rule of the new one's rank, value, mask and action, as in an uncounted table one that is replaced; or the
+   number of slots. */
+static size_t equal_slot(const uint64_t *table, size_t slots, const uint64_t *new)
+{
+    size_t slot = 0;
+    while (slot < slots && !(is_equal(table + slot * WORDS, new) && same_action(table + slot * WORDS, new)))
         slot++;
     return slot;
 }
@@ -117,12 +127,13 @@ static check check_full(const uint64_t *table, size_t slots)
 }
 
 /* Check 10, with A + 1 and B. */
-static check check_crossed(const uint64_t *table, size_t slots, const uint64_t *new, size_t *after, size_t *dependant)
+static check check_crossed(const uint64_t *table, size_t slots, bool uncounted, const uint64_t *new, size_t *after,
+                           size_t *dependant)
 {
     size_t above = slots, below = 0;
-    while (above > 0 && !precedes(table + (above - 1) * WORDS, new))
+    while (above > 0 && !precedes(table + (above - 1) * WORDS, new, uncounted))
         above--;
-    while (below < slots && !precedes(new, table + below * WORDS))
+    while (below < slots && !precedes(new, table + below * WORDS, uncounted))
         below++;
     *after = above;
     *dependant = below;
@@ -157,53 +168,56 @@ static check plan_one(uint32_t from, size_t slot, uint32_t *plan, size_t plan_wo
 }
 
 /* Checks 9 to 11 of a rule that ties with none, and the words. */
-static check plan_beside(const uint64_t *table, size_t slots, const uint16_t *near, const uint64_t *new, uint32_t *plan,
-                         size_t plan_words, uint32_t *count)
+static check plan_beside(const uint64_t *table, size_t slots, bool uncounted, const uint16_t *near, const uint64_t *new,
+                         uint32_t *plan, size_t plan_words, uint32_t *count)
 {
     size_t after, dependant;
     check made = check_full(table, slots);
     if (made.number == OK)
-        made = check_crossed(table, slots, new, &after, &dependant);
+        made = check_crossed(table, slots, uncounted, new, &after, &dependant);
     if (made.number == OK)
         made = plan_between(table, slots, near, after, dependant, plan, plan_words, count);
     return made;
 }
 
-static check plan_new(const uint64_t *table, size_t words, const uint64_t *rule, size_t rule_words, uint32_t edition,
-                      uint32_t *plan, size_t plan_words, uint32_t *count)
+static check plan_new(const uint64_t *table, size_t words, bool uncounted, const uint64_t *rule, size_t rule_words,
+                      uint32_t edition, uint32_t *plan, size_t plan_words, uint32_t *count)
 {
     uint16_t near[NEAR_MOST];
     uint64_t new[WORDS];
     size_t slots = words / WORDS;
-    check made = rule_words == WORDS ? check_listed(table, words, near) : fail(SHAPE, 0);
+    check made = rule_words == WORDS ? check_listed(table, words, uncounted, near) : fail(SHAPE, 0);
     if (made.number == OK)
         made = check_given(rule, edition, new);
     if (made.number == OK)
         made = check_known(table, slots, new);
     if (made.number != OK)
         return made;
-    size_t tie = tied_slot(table, slots, new);
-    /* a rule that is equal to the new one is its only tie */
-    if (tie < slots && is_equal(table + tie * WORDS, new))
+    size_t tie = tied_slot(table, slots, uncounted, new);
+    /* in a counted table a rule that is equal to the new one is its only tie, in an uncounted one none is replaced then */
+    if (tie < slots && !uncounted && is_equal(table + tie * WORDS, new))
         return plan_one(PUT_IN, tie, plan, plan_words, count);
     if (tie < slots)
         return fail(TIE, tie);
-    return plan_beside(table, slots, near, new, plan, plan_words, count);
+    size_t equal = uncounted ? equal_slot(table, slots, new) : slots;
+    if (equal < slots)
+        return plan_one(PUT_IN, equal, plan, plan_words, count);
+    return plan_beside(table, slots, uncounted, near, new, plan, plan_words, count);
 }
 
-uint32_t CALL(plan_insert)(const uint64_t *table, size_t words, const uint64_t *rule, size_t rule_words, uint32_t edition,
-                           uint32_t *plan, size_t plan_words, uint32_t *count, uint32_t *spot)
+uint32_t CALL(plan_insert)(const uint64_t *table, size_t words, uint32_t uncounted, const uint64_t *rule, size_t rule_words,
+                           uint32_t edition, uint32_t *plan, size_t plan_words, uint32_t *count, uint32_t *spot)
 {
-    check made = plan_new(table, words, rule, rule_words, edition, plan, plan_words, count);
+    check made = plan_new(table, words, uncounted != 0, rule, rule_words, edition, plan, plan_words, count);
     if (made.number != OK)
         *spot = made.spot;
     return made.number;
 }
 
-static check plan_emptying(const uint64_t *table, size_t words, uint32_t id, uint32_t *plan, size_t plan_words,
+static check plan_emptying(const uint64_t *table, size_t words, bool uncounted, uint32_t id, uint32_t *plan, size_t plan_words,
                            uint32_t *count)
 {
-    check sound = check_table(table, words);
+    check sound = check_table(table, words, uncounted);
     if (sound.number != OK)
         return sound;
     if (id == 0)
@@ -214,10 +228,10 @@ static check plan_emptying(const uint64_t *table, size_t words, uint32_t id, uin
     return plan_one(EMPTYING, slot, plan, plan_words, count);
 }
 
-uint32_t CALL(plan_delete)(const uint64_t *table, size_t words, uint32_t id, uint32_t *plan, size_t plan_words, uint32_t *count,
-                           uint32_t *spot)
+uint32_t CALL(plan_delete)(const uint64_t *table, size_t words, uint32_t uncounted, uint32_t id, uint32_t *plan,
+                           size_t plan_words, uint32_t *count, uint32_t *spot)
 {
-    check made = plan_emptying(table, words, id, plan, plan_words, count);
+    check made = plan_emptying(table, words, uncounted != 0, id, plan, plan_words, count);
     if (made.number != OK)
         *spot = made.spot;
     return made.number;

@@ -118,25 +118,32 @@ static inline bool overlap(const uint64_t *first, const uint64_t *second)
     return true;
 }
 
-static inline bool distinct(const uint64_t *first, const uint64_t *second)
+static inline bool same_action(const uint64_t *first, const uint64_t *second)
 {
-    return id_of(first) != 0 && id_of(second) != 0 && id_of(first) != id_of(second);
+    return (uint32_t)first[OWNER] == (uint32_t)second[OWNER];
 }
 
-/* Whether the records hold two rules of different ids that overlap; patterns tell most pairs apart. */
-static inline bool rules_overlap(const uint64_t *first, const uint64_t *second)
+static inline bool distinct(const uint64_t *first, const uint64_t *second, bool uncounted)
 {
-    return overlap(first, second) && distinct(first, second);
+    bool are_two = id_of(first) != 0 && id_of(second) != 0 && id_of(first) != id_of(second);
+    return are_two && !(uncounted && same_action(first, second));
 }
 
-static inline bool tied(const uint64_t *first, const uint64_t *second)
+/* Whether the records hold two rules of different ids that overlap, in an uncounted table of different actions too; patterns tell
+   most pairs apart. */
+static inline bool rules_overlap(const uint64_t *first, const uint64_t *second, bool uncounted)
 {
-    return first[RANK] == second[RANK] && overlap(first, second) && distinct(first, second);
+    return overlap(first, second) && distinct(first, second, uncounted);
 }
 
-static inline bool precedes(const uint64_t *first, const uint64_t *second)
+static inline bool tied(const uint64_t *first, const uint64_t *second, bool uncounted)
 {
-    return first[RANK] > second[RANK] && overlap(first, second) && distinct(first, second);
+    return first[RANK] == second[RANK] && overlap(first, second) && distinct(first, second, uncounted);
+}
+
+static inline bool precedes(const uint64_t *first, const uint64_t *second, bool uncounted)
+{
+    return first[RANK] > second[RANK] && overlap(first, second) && distinct(first, second, uncounted);
 }
 
 /* Whether a record holds a rule of the new one's rank, value and mask; of most records the rank tells. */

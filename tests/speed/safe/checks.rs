@@ -41,8 +41,8 @@ fn stands_in(ids: &[u32], id: u32) -> bool {
 }
 
 /// Check 4; where it passes, the table's neighbour list is in the front of the lent one.
-fn check_order<const W: usize>(records: &[Record<W>], near: &mut [Near]) -> Result<(), Refusal> {
-    let first = fill_near(records, near);
+fn check_order<const W: usize>(records: &[Record<W>], uncounted: bool, near: &mut [Near]) -> Result<(), Refusal> {
+    let first = fill_near(records, uncounted, near);
     if first < records.len() {
         return refuse(ORDER, first);
     }
@@ -54,19 +54,23 @@ pub fn new_list() -> [Near; SLOTS_MOST] {
 }
 
 /// Checks 3 and 4, with the list.
-pub fn check_pairs<const W: usize>(records: &[Record<W>], near: &mut [Near]) -> Result<(), Refusal> {
+pub fn check_pairs<const W: usize>(records: &[Record<W>], uncounted: bool, near: &mut [Near]) -> Result<(), Refusal> {
     check_twice(records)?;
-    check_order(records, near)
+    check_order(records, uncounted, near)
 }
 
 /// Checks 1 to 4, with the list.
-pub fn check_listed<'a, const W: usize>(table: &'a [u64], near: &mut [Near]) -> Result<&'a [Record<W>], Refusal> {
+pub fn check_listed<'a, const W: usize>(
+    table: &'a [u64],
+    uncounted: bool,
+    near: &mut [Near],
+) -> Result<&'a [Record<W>], Refusal> {
     let records = check_slots(table)?;
-    check_pairs(records, near)?;
+    check_pairs(records, uncounted, near)?;
     Ok(records)
 }
 
 /// Checks 1 to 4.
-pub fn check_table<const W: usize>(table: &[u64]) -> Result<&[Record<W>], Refusal> {
-    check_listed(table, &mut new_list())
+pub fn check_table<const W: usize>(table: &[u64], uncounted: bool) -> Result<&[Record<W>], Refusal> {
+    check_listed(table, uncounted, &mut new_list())
 }

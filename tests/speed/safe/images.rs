@@ -11,8 +11,8 @@ const fn body_bytes(width: usize) -> usize {
     16 * width + 8
 }
 
-pub fn save<const W: usize>(table: &[u64], image: &mut [u8]) -> Result<u32, Refusal> {
-    let records = check_table::<W>(table)?;
+pub fn save<const W: usize>(table: &[u64], uncounted: bool, image: &mut [u8]) -> Result<u32, Refusal> {
+    let records = check_table::<W>(table, uncounted)?;
     let rules = records.iter().filter(|record| id_of(record) != 0).count();
     let bytes = 4 + (10 + body_bytes(W)) * rules;
     if image.len() < bytes {
@@ -44,7 +44,7 @@ fn put_body<const W: usize>(body: &mut [u8], record: &Record<W>) {
     body[16 * W + 4..].copy_from_slice(&(record.owner as u32).to_be_bytes());
 }
 
-pub fn load<const W: usize>(image: &[u8], table: &mut [u64]) -> Result<(), Refusal> {
+pub fn load<const W: usize>(image: &[u8], table: &mut [u64], uncounted: bool) -> Result<(), Refusal> {
     let records = Record::<W>::all_mut(table)?;
     let slots = records.len();
     let (entries, bodies) = split::<W>(image, slots)?;
@@ -52,7 +52,7 @@ pub fn load<const W: usize>(image: &[u8], table: &mut [u64]) -> Result<(), Refus
     let mut working = [Record::EMPTY; SLOTS_MOST];
     let meant = &mut working[..slots];
     fill(entries, bodies, meant)?;
-    check_pairs(meant, &mut new_list())?;
+    check_pairs(meant, uncounted, &mut new_list())?;
     records.copy_from_slice(meant);
     Ok(())
 }

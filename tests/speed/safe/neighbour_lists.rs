@@ -19,11 +19,12 @@ pub struct Near {
 }
 
 /// full: the rules before a slot; free: those of them without a dependant yet; low: for each block a number that no rank of its
-/// rules is below.
+/// rules is below. Beside them whether the table is uncounted.
 struct Marks {
     full: [u64; 16],
     free: [u64; 16],
     low: [u64; 16],
+    uncounted: bool,
 }
 
 impl Marks {
@@ -58,7 +59,7 @@ impl Marks {
     /// One pair asked: its numbers are kept, and whether it is out of order is told.
     fn ask_pair<const W: usize>(&mut self, records: &[Record<W>], near: &mut [Near], slot: usize, later: usize) -> bool {
         let (first, second) = (&records[slot], &records[later]);
-        if !rules_overlap(first, second) {
+        if !rules_overlap(first, second, self.uncounted) {
             return false;
         }
         if first.rank <= second.rank {
@@ -128,8 +129,14 @@ fn skip_quiet<const W: usize>(records: &[Record<W>], near: &[Near], block: usize
     0
 }
 
-fn pass_with<const W: usize>(records: &[Record<W>], near: &mut [Near], maps: &mut [u64], spread: &Spread<W>) -> usize {
-    let mut marks = Marks { full: [0; 16], free: [0; 16], low: [EXACT_RANK; 16] };
+fn pass_with<const W: usize>(
+    records: &[Record<W>],
+    uncounted: bool,
+    near: &mut [Near],
+    maps: &mut [u64],
+    spread: &Spread<W>,
+) -> usize {
+    let mut marks = Marks { full: [0; 16], free: [0; 16], low: [EXACT_RANK; 16], uncounted };
     let mut others = [0; PLACES_MOST];
     let mut own = [0; PLACES_MOST];
     let mut first = 0;
@@ -149,20 +156,20 @@ fn pass_with<const W: usize>(records: &[Record<W>], near: &mut [Near], maps: &mu
     first
 }
 
-fn pass_screened<const W: usize>(records: &[Record<W>], near: &mut [Near]) -> usize {
+fn pass_screened<const W: usize>(records: &[Record<W>], uncounted: bool, near: &mut [Near]) -> usize {
     let mut places = [0; PLACES_MOST];
     let count = choose_places(records, &mut places);
     let spread = spread_places(&places[..count]);
     if count <= PLACES_FEW {
-        return pass_with(records, near, &mut [0; PLACE_WORDS * PLACES_FEW], &spread);
+        return pass_with(records, uncounted, near, &mut [0; PLACE_WORDS * PLACES_FEW], &spread);
     }
-    pass_with(records, near, &mut [0; PLACE_WORDS * PLACES_MOST], &spread)
+    pass_with(records, uncounted, near, &mut [0; PLACE_WORDS * PLACES_MOST], &spread)
 }
 
 /// The neighbour list of a table, into the front of a lent list; the lowest slot that is out of order, or the number of slots.
-pub fn fill_near<const W: usize>(records: &[Record<W>], near: &mut [Near]) -> usize {
+pub fn fill_near<const W: usize>(records: &[Record<W>], uncounted: bool, near: &mut [Near]) -> usize {
     if records.len() < MAPS_FROM {
-        return pass_with(records, near, &mut [0; 16], &Spread::NONE);
+        return pass_with(records, uncounted, near, &mut [0; 16], &Spread::NONE);
     }
-    pass_screened(records, near)
+    pass_screened(records, uncounted, near)
 }

@@ -4,22 +4,27 @@
 use crate::answers::{refuse, Record, Refusal, CROSSED, EMPTYING, FULL, KNOWN, PUT_IN, RULE, SHORT, TIE, UNKNOWN};
 use crate::checks::{check_listed, check_table, new_list};
 use crate::planner::{choose, costs_along, write_plan};
-use crate::records::{id_of, is_equal, precedes, ranked, tied};
+use crate::records::{id_of, is_equal, is_equal_in_action, precedes, ranked, tied};
 
-pub fn plan_insert<const W: usize>(table: &[u64], rule: &[u64], edition: u32, plan: &mut [u32]) -> Result<u32, Refusal> {
+pub fn plan_insert<const W: usize>(
+    table: &[u64],
+    uncounted: bool,
+    rule: &[u64],
+    edition: u32,
+    plan: &mut [u32],
+) -> Result<u32, Refusal> {
     let given = Record::<W>::one(rule)?;
     let mut near = new_list();
-    let records = check_listed(table, &mut near)?;
+    let records = check_listed(table, uncounted, &mut near)?;
     let slots = records.len();
     let new = ranked(given, edition)?;
     if let Some(slot) = slot_of_id(records, id_of(&new)) {
         return refuse(KNOWN, slot);
     }
-    // a rule that is equal to the new one is its only tie
-    if let Some(slot) = records.iter().position(|record| tied(record, &new)) {
-        return if is_equal(&records[slot], &new) { plan_one(PUT_IN, slot, plan) } else { refuse(TIE, slot) };
+    if let Some(slot) = check_tie(records, uncounted, &new)? {
+        return plan_one(PUT_IN, slot, plan);
     }
-    let (after, dependant) = check_new(records, &new)?;
+    let (after, dependant) = check_new(records, uncounted, &new)?;
     let down = costs_along(records, &near, false);
     let up = costs_along(records, &near, true);
     let choice = choose(&down, &up, slots, after, dependant);
@@ -31,13 +36,24 @@ pub fn plan_insert<const W: usize>(table: &[u64], rule: &[u64], edition: u32, pl
     Ok(count as u32)
 }
 
+/// The slot of the rule that the new one replaces, or check 8. In a counted table an equal rule is the only tie of the new one, in an
+/// uncounted one it ties with none.
+fn check_tie<const W: usize>(records: &[Record<W>], uncounted: bool, new: &Record<W>) -> Result<Option<usize>, Refusal> {
+    match records.iter().position(|record| tied(record, new, uncounted)) {
+        None if uncounted => Ok(records.iter().position(|record| is_equal_in_action(record, new))),
+        None => Ok(None),
+        Some(slot) if !uncounted && is_equal(&records[slot], new) => Ok(Some(slot)),
+        Some(slot) => refuse(TIE, slot),
+    }
+}
+
 /// Checks 9 and 10; A + 1, and B.
-fn check_new<const W: usize>(records: &[Record<W>], new: &Record<W>) -> Result<(usize, usize), Refusal> {
+fn check_new<const W: usize>(records: &[Record<W>], uncounted: bool, new: &Record<W>) -> Result<(usize, usize), Refusal> {
     if !records.iter().any(|record| id_of(record) == 0) {
         return refuse(FULL, 0);
     }
-    let after = records.iter().rposition(|record| precedes(record, new)).map_or(0, |slot| slot + 1);
-    let dependant = records.iter().position(|record| precedes(new, record)).unwrap_or(records.len());
+    let after = records.iter().rposition(|record| precedes(record, new, uncounted)).map_or(0, |slot| slot + 1);
+    let dependant = records.iter().position(|record| precedes(new, record, uncounted)).unwrap_or(records.len());
     if after > dependant + 1 {
         return refuse(CROSSED, after - 1);
     }
@@ -49,8 +65,8 @@ fn slot_of_id<const W: usize>(records: &[Record<W>], id: u32) -> Option<usize> {
     records.iter().position(|record| id_of(record) == id)
 }
 
-pub fn plan_delete<const W: usize>(table: &[u64], id: u32, plan: &mut [u32]) -> Result<u32, Refusal> {
-    let records = check_table::<W>(table)?;
+pub fn plan_delete<const W: usize>(table: &[u64], uncounted: bool, id: u32, plan: &mut [u32]) -> Result<u32, Refusal> {
+    let records = check_table::<W>(table, uncounted)?;
     if id == 0 {
         return refuse(RULE, 0);
     }

@@ -61,17 +61,23 @@ pub fn overlap<const W: usize>(first: &Record<W>, second: &Record<W>) -> bool {
     (0..W).all(|word| (first.value[word] ^ second.value[word]) & first.mask[word] & second.mask[word] == 0)
 }
 
-fn distinct<const W: usize>(first: &Record<W>, second: &Record<W>) -> bool {
-    id_of(first) != 0 && id_of(second) != 0 && id_of(first) != id_of(second)
+fn same_action<const W: usize>(first: &Record<W>, second: &Record<W>) -> bool {
+    first.owner as u32 == second.owner as u32
 }
 
-/// Whether the records hold two rules of different ids that overlap; patterns tell most pairs apart.
-pub fn rules_overlap<const W: usize>(first: &Record<W>, second: &Record<W>) -> bool {
-    overlap(first, second) && distinct(first, second)
+fn distinct<const W: usize>(first: &Record<W>, second: &Record<W>, uncounted: bool) -> bool {
+    let are_two = id_of(first) != 0 && id_of(second) != 0 && id_of(first) != id_of(second);
+    are_two && !(uncounted && same_action(first, second))
 }
 
-pub fn tied<const W: usize>(first: &Record<W>, second: &Record<W>) -> bool {
-    first.rank == second.rank && overlap(first, second) && distinct(first, second)
+/// Whether the records hold two rules of different ids that overlap, in an uncounted table of different actions too; patterns tell most
+/// pairs apart.
+pub fn rules_overlap<const W: usize>(first: &Record<W>, second: &Record<W>, uncounted: bool) -> bool {
+    overlap(first, second) && distinct(first, second, uncounted)
+}
+
+pub fn tied<const W: usize>(first: &Record<W>, second: &Record<W>, uncounted: bool) -> bool {
+    first.rank == second.rank && overlap(first, second) && distinct(first, second, uncounted)
 }
 
 /// Whether a record holds a rule of the new one's rank, value and mask; of most records the rank tells.
@@ -80,6 +86,11 @@ pub fn is_equal<const W: usize>(record: &Record<W>, new: &Record<W>) -> bool {
     record.rank == new.rank && (0..W).all(same_word) && id_of(record) != 0
 }
 
-pub fn precedes<const W: usize>(first: &Record<W>, second: &Record<W>) -> bool {
-    first.rank > second.rank && overlap(first, second) && distinct(first, second)
+/// Whether it has the new one's action too, as in an uncounted table a rule that is replaced.
+pub fn is_equal_in_action<const W: usize>(record: &Record<W>, new: &Record<W>) -> bool {
+    is_equal(record, new) && same_action(record, new)
+}
+
+pub fn precedes<const W: usize>(first: &Record<W>, second: &Record<W>, uncounted: bool) -> bool {
+    first.rank > second.rank && overlap(first, second) && distinct(first, second, uncounted)
 }

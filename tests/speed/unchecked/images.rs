@@ -19,8 +19,8 @@ unsafe fn bytes_at<const COUNT: usize>(image: &[u8], offset: usize) -> [u8; COUN
     image.as_ptr().add(offset).cast::<[u8; COUNT]>().read()
 }
 
-pub fn save<const W: usize>(table: &[u64], image: &mut [u8]) -> Result<u32, Refusal> {
-    let records = check_table::<W>(table)?;
+pub fn save<const W: usize>(table: &[u64], uncounted: bool, image: &mut [u8]) -> Result<u32, Refusal> {
+    let records = check_table::<W>(table, uncounted)?;
     let rules = records.iter().filter(|record| id_of(record) != 0).count();
     let bytes = 4 + (10 + body_bytes(W)) * rules;
     if image.len() < bytes {
@@ -61,7 +61,7 @@ unsafe fn put_body<const W: usize>(record: &Record<W>, body: usize, image: &mut 
     store(image, body + 16 * W + 4, (record.owner as u32).to_be_bytes());
 }
 
-pub fn load<const W: usize>(image: &[u8], table: &mut [u64]) -> Result<(), Refusal> {
+pub fn load<const W: usize>(image: &[u8], table: &mut [u64], uncounted: bool) -> Result<(), Refusal> {
     let records = Record::<W>::all_mut(table)?;
     let slots = records.len();
     let rules = check_head::<W>(image, slots)?;
@@ -70,7 +70,7 @@ pub fn load<const W: usize>(image: &[u8], table: &mut [u64]) -> Result<(), Refus
         check_entries::<W>(image, slots, rules)?;
         fill(image, rules, &mut working)?;
         let meant = working.get_unchecked(..slots);
-        check_pairs(meant, &mut [0; 2 * SLOTS_MOST])?;
+        check_pairs(meant, uncounted, &mut [0; 2 * SLOTS_MOST])?;
         std::ptr::copy_nonoverlapping(meant.as_ptr(), records.as_mut_ptr(), slots);
     }
     Ok(())

@@ -16,11 +16,12 @@ const PLACES_FEW: usize = 8;
 pub type Near = [u16; 2 * SLOTS_MOST];
 
 /// full: the rules before a slot; free: those of them without a dependant yet; low: for each block a number that no rank of its
-/// rules is below.
+/// rules is below. Beside them whether the table is uncounted.
 struct Marks {
     full: [u64; 16],
     free: [u64; 16],
     low: [u64; 16],
+    uncounted: bool,
 }
 
 /// The slots of a block that are to be asked. Once the later slot has its preceding rule, a block of higher ranks has nothing to
@@ -47,7 +48,7 @@ unsafe fn keep_pair(near: &mut Near, marks: &mut Marks, slot: usize, later: usiz
 /// One pair asked: its numbers are kept, and whether it is out of order is told.
 unsafe fn ask_pair<const W: usize>(records: &[Record<W>], near: &mut Near, marks: &mut Marks, slot: usize, later: usize) -> bool {
     let (first, second) = (records.get_unchecked(slot), records.get_unchecked(later));
-    if !rules_overlap(first, second) {
+    if !rules_overlap(first, second, marks.uncounted) {
         return false;
     }
     if first.rank <= second.rank {
@@ -128,8 +129,14 @@ unsafe fn note_rule(marks: &mut Marks, slot: usize, rank: u64) {
     *low = rank.min(*low);
 }
 
-unsafe fn pass_with<const W: usize>(records: &[Record<W>], near: &mut Near, maps: &mut [u64], spread: &Spread<W>) -> usize {
-    let mut marks = Marks { full: [0; 16], free: [0; 16], low: [EXACT_RANK; 16] };
+unsafe fn pass_with<const W: usize>(
+    records: &[Record<W>],
+    uncounted: bool,
+    near: &mut Near,
+    maps: &mut [u64],
+    spread: &Spread<W>,
+) -> usize {
+    let mut marks = Marks { full: [0; 16], free: [0; 16], low: [EXACT_RANK; 16], uncounted };
     let mut others = [0; PLACES_MOST];
     let mut own = [0; PLACES_MOST];
     let mut first = 0;
@@ -153,23 +160,23 @@ unsafe fn pass_with<const W: usize>(records: &[Record<W>], near: &mut Near, maps
     first
 }
 
-unsafe fn pass_screened<const W: usize>(records: &[Record<W>], near: &mut Near) -> usize {
+unsafe fn pass_screened<const W: usize>(records: &[Record<W>], uncounted: bool, near: &mut Near) -> usize {
     let mut places = [0; PLACES_MOST];
     let count = choose_places(records, &mut places);
     let spread = spread_places(places.get_unchecked(..count));
     if count <= PLACES_FEW {
-        return pass_with(records, near, &mut [0; PLACE_WORDS * PLACES_FEW], &spread);
+        return pass_with(records, uncounted, near, &mut [0; PLACE_WORDS * PLACES_FEW], &spread);
     }
-    pass_with(records, near, &mut [0; PLACE_WORDS * PLACES_MOST], &spread)
+    pass_with(records, uncounted, near, &mut [0; PLACE_WORDS * PLACES_MOST], &spread)
 }
 
 /// The neighbour list of a table, into the front of a lent list; the lowest slot that is out of order, or the number of slots.
 ///
 /// # Safety
 /// There are 1 to 1,024 records.
-pub unsafe fn fill_near<const W: usize>(records: &[Record<W>], near: &mut Near) -> usize {
+pub unsafe fn fill_near<const W: usize>(records: &[Record<W>], uncounted: bool, near: &mut Near) -> usize {
     if records.len() < MAPS_FROM {
-        return pass_with(records, near, &mut [0; 16], &Spread::NONE);
+        return pass_with(records, uncounted, near, &mut [0; 16], &Spread::NONE);
     }
-    pass_screened(records, near)
+    pass_screened(records, uncounted, near)
 }

@@ -4,28 +4,29 @@
 use crate::answers::{refuse, Record, Refusal, CROSSED, EMPTYING, FULL, KNOWN, PUT_IN, RULE, SHORT, SLOTS_MOST, TIE, UNKNOWN};
 use crate::checks::{check_listed, check_table};
 use crate::planner::{choose, fill_costs, write_plan};
-use crate::records::{id_of, is_equal, precedes, put, ranked, tied};
+use crate::records::{id_of, is_equal, is_equal_in_action, precedes, put, ranked, tied};
 
-pub fn plan_insert<const W: usize>(table: &[u64], rule: &[u64], edition: u32, plan: &mut [u32]) -> Result<u32, Refusal> {
+pub fn plan_insert<const W: usize>(
+    table: &[u64],
+    uncounted: bool,
+    rule: &[u64],
+    edition: u32,
+    plan: &mut [u32],
+) -> Result<u32, Refusal> {
     let given = Record::<W>::one(rule)?;
     let mut near = [0; 2 * SLOTS_MOST];
-    let records = check_listed(table, &mut near)?;
+    let records = check_listed(table, uncounted, &mut near)?;
     let slots = records.len();
     let new = ranked(given, edition)?;
     let known = slot_of_id(records, id_of(&new));
     if known < slots {
         return refuse(KNOWN, known);
     }
-    // a rule that is equal to the new one is its only tie
-    let tie = first_slot(records, |record| tied(record, &new));
-    if tie < slots {
-        return if is_equal(unsafe { records.get_unchecked(tie) }, &new) {
-            plan_one(PUT_IN, tie, plan)
-        } else {
-            refuse(TIE, tie)
-        };
+    let replaced = check_tie(records, uncounted, &new)?;
+    if replaced < slots {
+        return plan_one(PUT_IN, replaced, plan);
     }
-    let (after, dependant) = check_new(records, &new)?;
+    let (after, dependant) = check_new(records, uncounted, &new)?;
     let mut ends = [0; SLOTS_MOST];
     let mut down = [0; SLOTS_MOST];
     let mut up = [0; SLOTS_MOST];
@@ -52,17 +53,30 @@ fn first_slot<const W: usize>(records: &[Record<W>], test: impl Fn(&Record<W>) -
     slot
 }
 
+/// The slot of the rule that the new one replaces, or the number of slots; or check 8. In a counted table an equal rule is the only tie
+/// of the new one, in an uncounted one it ties with none.
+fn check_tie<const W: usize>(records: &[Record<W>], uncounted: bool, new: &Record<W>) -> Result<usize, Refusal> {
+    let tie = first_slot(records, |record| tied(record, new, uncounted));
+    if tie == records.len() && uncounted {
+        return Ok(first_slot(records, |record| is_equal_in_action(record, new)));
+    }
+    if tie == records.len() || !uncounted && is_equal(unsafe { records.get_unchecked(tie) }, new) {
+        return Ok(tie);
+    }
+    refuse(TIE, tie)
+}
+
 /// Checks 9 and 10; A + 1, and B.
-fn check_new<const W: usize>(records: &[Record<W>], new: &Record<W>) -> Result<(usize, usize), Refusal> {
+fn check_new<const W: usize>(records: &[Record<W>], uncounted: bool, new: &Record<W>) -> Result<(usize, usize), Refusal> {
     let slots = records.len();
     if first_slot(records, |record| id_of(record) == 0) == slots {
         return refuse(FULL, 0);
     }
     let mut after = slots;
-    while after > 0 && !precedes(unsafe { records.get_unchecked(after - 1) }, new) {
+    while after > 0 && !precedes(unsafe { records.get_unchecked(after - 1) }, new, uncounted) {
         after -= 1;
     }
-    let dependant = first_slot(records, |record| precedes(new, record));
+    let dependant = first_slot(records, |record| precedes(new, record, uncounted));
     if after > dependant + 1 {
         return refuse(CROSSED, after - 1);
     }
@@ -74,8 +88,8 @@ fn slot_of_id<const W: usize>(records: &[Record<W>], id: u32) -> usize {
     first_slot(records, |record| id_of(record) == id)
 }
 
-pub fn plan_delete<const W: usize>(table: &[u64], id: u32, plan: &mut [u32]) -> Result<u32, Refusal> {
-    let records = check_table::<W>(table)?;
+pub fn plan_delete<const W: usize>(table: &[u64], uncounted: bool, id: u32, plan: &mut [u32]) -> Result<u32, Refusal> {
+    let records = check_table::<W>(table, uncounted)?;
     if id == 0 {
         return refuse(RULE, 0);
     }
