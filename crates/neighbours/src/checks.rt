@@ -83,7 +83,7 @@ fn check_tie_by(table: &[u64], new: &[u64], mode: Mode) -> Check
     Check::Pass
 }
 
-// The same, with the width a constant for the compiler: it makes a copy for each.
+// The same, with the width a constant for the compiler, which may make a copy for each.
 pub fn check_tie(table: &[u64], new: &[u64], mode: Mode) -> Check
     requires { ⌜ (Width (mode .width)) × (slots (mode .width) (now table) ≤ mostSlots) × (length (now new) ≡ recordWords (mode .width)) × (checkRecords (mode .width) (now table) ≡ Pass) × (checkRecords (mode .width) (now new) ≡ Pass) ⌝ }
     ensures { λ r. ⌜ r ≡ checkTie (mode .width) (mode .uncounted) (now (table .entry)) (slotWords (mode .width) (now (new .entry)) 0) ⌝ }
@@ -139,7 +139,7 @@ fn after_a_by(table: &[u64], new: &[u64], mode: Mode) -> usize
     0
 }
 
-// The same, with the width a constant for the compiler: it makes a copy for each.
+// The same, with the width a constant for the compiler, which may make a copy for each.
 pub fn after_a(table: &[u64], new: &[u64], mode: Mode) -> usize
     requires { ⌜ (Width (mode .width)) × (length (now new) ≡ recordWords (mode .width)) × (checkRecords (mode .width) (now table) ≡ Pass) × (checkRecords (mode .width) (now new) ≡ Pass) ⌝ }
     ensures { λ r. ⌜ r ≡ afterA (mode .width) (mode .uncounted) (now (table .entry)) (slotWords (mode .width) (now (new .entry)) 0) ⌝ }
@@ -180,7 +180,7 @@ fn slot_b_by(table: &[u64], new: &[u64], mode: Mode) -> usize
     slots
 }
 
-// The same, with the width a constant for the compiler: it makes a copy for each.
+// The same, with the width a constant for the compiler, which may make a copy for each.
 pub fn slot_b(table: &[u64], new: &[u64], mode: Mode) -> usize
     requires { ⌜ (Width (mode .width)) × (length (now new) ≡ recordWords (mode .width)) × (checkRecords (mode .width) (now table) ≡ Pass) × (checkRecords (mode .width) (now new) ≡ Pass) ⌝ }
     ensures { λ r. ⌜ r ≡ slotB (mode .width) (mode .uncounted) (now (table .entry)) (slotWords (mode .width) (now (new .entry)) 0) ⌝ }

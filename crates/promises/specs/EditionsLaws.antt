@@ -13,7 +13,6 @@ use Rattle.layout.specs.Held.{Held}
 use Rattle.records.specs.Record.{word, recordWords, slotWords, ident, rank, recordOf}
 use Rattle.records.specs.Sound.{SoundRule}
 use Rattle.records.specs.Order.{slots, Replaceable}
-use Rattle.records.specs.Checks.{Shaped}
 use Rattle.records.specs.Laws.{sound-record-law, sound-rule-law}
 use Rattle.records.specs.RulesLaws.{length-listed, record-ident, record-sound}
 use Rattle.records.specs.Widths.{Width}
@@ -34,7 +33,8 @@ use Rattle.histories.specs.RuleSetLaws.{without-law}
 use Rattle.histories.specs.TableRules.{tableRules}
 use Rattle.histories.specs.TableRulesLaws.{table-holding}
 use Rattle.refusals.specs.Rows.{Accepts, Declines}
-use Rattle.refusals.specs.Calls.{tableRows, OtherRule, insertCallRows}
+use Rattle.refusals.specs.Calls.{tableRows, insertCallRows}
+use Rattle.refusals.specs.WidthsLaws.{no-other-rule}
 use Rattle.refusals.specs.TableLaws.{table-rows}
 use Rattle.tcam.specs.Cells.{InsertLeft, DeleteLeft}
 use Rattle.promises.specs.Calls.{CarriedOut}
@@ -112,11 +112,9 @@ module _ (w : ℕ) (u : Bool) (known : Width w) where
     -- the rows before 5 do not hold
     declined : (room : ℕ) → Declines (insertCallRows w u e t (entryAt w t i) room) RuleCause 0
     unfolding lent
-    declined room = inr (shape, inr (sound .1 .0, inr (sound .1 .1 .0, inr (sound .1 .1 .1 .0, inl (refl, unsound, refl)))))
-      where
-        shape : OtherRule w (entryAt w t i) ⊎ (Shaped w t → ⊥) → ⊥
-        shape bad =
-            ⊎-elim (λ other. ⊎-elim (λ width. ⊎-elim (width .0) (width .1) (known .2)) (λ words. words (length-listed (recordWords w) (slotWords w t i))) other) (sound .0) bad
+    declined room =
+        let words = no-other-rule w (entryAt w t i) known (length-listed (recordWords w) (slotWords w t i)) in
+        inr (⊎-elim words (sound .0), inr (sound .1 .0, inr (sound .1 .1 .0, inr (sound .1 .1 .1 .0, inl (refl, unsound, refl)))))
 
 pub editions : (w : ℕ) (u : Bool) → Width w → Editions w u
 editions w u known = record {

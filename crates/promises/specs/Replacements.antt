@@ -30,26 +30,25 @@ sentRule w e rule = ranked w (lentRule w e rule)
 abbrev pub sentWords : ℕ → ℕ → List ℕ → Words
 sentWords w e rule = word (recordOf w (sentRule w e rule))
 
--- It is sent again: the table is sound, the rule is sound, its edition is 10 or 13, its id is unknown, and slot s holds a rule of the same value, mask and
--- rank. Whether a slot is empty is not asked. By 2026-11, in an uncounted table, the rule in slot s has the same action too, and of several such s is the
--- lowest; a rule of another action in its place is a tie (refusals, tieRow).
-pub record SentAgain (w : ℕ) (u : Bool) (e : ℕ) (t rule : List ℕ) (s : ℕ) : Type 0 where
+-- It is sent to a sound table: the rule is sound, its edition is 10 or 13, and its id is unknown. Whether a slot is empty is not asked.
+pub record Sent (w : ℕ) (u : Bool) (e : ℕ) (t rule : List ℕ) : Type 0 where
   pub words : length rule ≡ recordWords w
   pub table : Accepts (tableRows w u t)
   pub sound : SoundRule w (lentRule w e rule .rule)
   pub edition : (e ≡ 10) ⊎ (e ≡ 13)
   pub unknown : (i : ℕ) → i < slots w t → OneId w (slotWords w t i) (sentWords w e rule) → ⊥
+
+-- It is sent again: slot s holds a rule of the same value, mask and rank. By 2026-11, in an uncounted table, the rule in slot s has the same action too, and
+-- of several such s is the lowest.
+pub record SentAgain (w : ℕ) (u : Bool) (e : ℕ) (t rule : List ℕ) (s : ℕ) : Type 0 where
+  pub sent : Sent w u e t rule
   pub inside : s < slots w t
   pub replaced : Replaceable w u (slotWords w t s) (sentWords w e rule)
   pub lowest : u ≡ true → (i : ℕ) → i < s → Replaceable w u (slotWords w t i) (sentWords w e rule) → ⊥
 
--- the same of a slot s whose rule is equal and has another action
+-- the rule in slot s has the same value, mask and rank, and another action
 pub record SentForAnother (w : ℕ) (u : Bool) (e : ℕ) (t rule : List ℕ) (s : ℕ) : Type 0 where
-  pub words : length rule ≡ recordWords w
-  pub table : Accepts (tableRows w u t)
-  pub sound : SoundRule w (lentRule w e rule .rule)
-  pub edition : (e ≡ 10) ⊎ (e ≡ 13)
-  pub unknown : (i : ℕ) → i < slots w t → OneId w (slotWords w t i) (sentWords w e rule) → ⊥
+  pub sent : Sent w u e t rule
   pub inside : s < slots w t
   pub equal : EqualRules w (slotWords w t s) (sentWords w e rule)
   pub differ : action w (slotWords w t s) ≡ action w (sentWords w e rule) → ⊥

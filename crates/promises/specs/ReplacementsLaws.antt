@@ -3,17 +3,20 @@ use mathlib.Core.Path.{_≡_, refl, sym, ap, _∙_, subst}
 use mathlib.Core.Bool.{Bool, true, false, true≢false}
 use mathlib.Core.Logic.{_↔_, _⊎_, ⊎-elim}
 use mathlib.Core.Logic._⊎_.{inl, inr}
-use mathlib.Core.List.{List, _∷_}
+use mathlib.Core.List.{List, [], _∷_, _++_}
+use Prim.{tt}
 use Prim.Native.Nat.{ℕ, _≤_, _<_}
 use native.Mathlib.Decide.{ℕ-discrete, decLt}
 use native.Mathlib.Omega.{arith}
 use lib.ListN.{length, getD, drop}
+use Rattle.ternary.specs.Pattern.{Words}
 use Rattle.layout.specs.Held.{Held}
 use Rattle.layout.specs.Write.{put}
 use Rattle.plan_words.specs.PlanWords.{writeWord}
 use Rattle.records.specs.Record.{word, recordWords, slotWords, ident, action, recordOf, putSlot}
+use Rattle.records.specs.Sound.{SoundRule}
 use Rattle.records.specs.Order.{slots, EqualRules, Replaceable}
-use Rattle.records.specs.Checks.{Told, Shaped, causeNumber, unless, tableChecks}
+use Rattle.records.specs.Checks.{Told, causeNumber, unless, tableChecks}
 use Rattle.records.specs.Laws.{same-id-law, tied-law, precedes-law, sound-rule-law}
 use Rattle.records.specs.RulesLaws.{rule-action}
 use Rattle.records.specs.Widths.{Width, checkRule, leaves}
@@ -26,14 +29,12 @@ use Rattle.records.specs.Laws.{table-checks-law}
 use Rattle.records.specs.Entries.{vacant, entries, entryOccupied, entrySame}
 use Rattle.records.specs.EntriesLaws.{entry-same, ident-cong, occupied-at, refuted}
 use Rattle.records.specs.declared.Rule.{Rule}
-use Rattle.records.specs.declared.Cause.{Cause}
-use Rattle.records.specs.declared.Cause.the-variants.{Tie}
 use Rattle.records.specs.declared.Check.{Check}
 use Rattle.records.specs.declared.Check.the-variants.{Pass}
 use Rattle.insert_plans.specs.Insertable.{InsertableGiven, Replacing, ReplacingGiven}
 use Rattle.insert_plans.specs.InsertableLaws.{insertable-law, replaces-none, replaced-first, replacing-passes, replacing-untied, replacing-uncrossed}
 use Rattle.neighbours.specs.NeighboursLaws.{replaced-none, untied-none}
-use Rattle.insert_plans.specs.Inserts.{insertAnswer, insertPlan, insertCall}
+use Rattle.insert_plans.specs.Inserts.{insertAnswer, insertPlan, insertCall, plannedWords}
 use Rattle.insert_plans.specs.InsertsLaws.{planned-replaced}
 use Rattle.insert_plans.specs.Replacements.{ReplacementPlanned}
 use Rattle.insert_plans.specs.ReplacementsLaws.{replacement-planned}
@@ -41,10 +42,12 @@ use Rattle.histories.specs.InsertedLaws.{inserted-replaced, changes-replaced}
 use Rattle.histories.specs.SoundnessLaws.{replacement-table, replacement-held, replacement-checks}
 use Rattle.histories.specs.Demand2Laws.{carried-whole}
 use Rattle.marshalling.specs.Cells.{dataCell, spotCell}
-use Rattle.refusals.specs.Calls.{ReplacesNone, OtherRule, tableRows, tieRow, newRuleRows, insertCallRows}
+use Rattle.refusals.specs.Calls.{Ties, ReplacesNone, OtherRule, tableRows, ruleRow, OtherEdition, editionRow, knownRow, tieRow, fullRow, crossedRow, shortRow, newRuleRows, rowsOr, insertCallRows}
 use Rattle.refusals.specs.PlanningLaws.{insert-rows}
-use Rattle.refusals.specs.Rows.{Declines, Accepts}
+use Rattle.refusals.specs.Rows.{Row, Accepts}
+use Rattle.refusals.specs.RowsLaws.{first-row, not-accepted}
 use Rattle.refusals.specs.TableLaws.{table-rows}
+use Rattle.refusals.specs.WidthsLaws.{no-other-rule}
 use Rattle.tcam.specs.Cells.{InsertLeft}
 use Rattle.promises.specs.Calls.{CarriedOut}
 use Rattle.promises.specs.CallsLaws.{carried-at}
@@ -68,14 +71,14 @@ module _ (w : ℕ) (u : Bool) (known : Width w) (e : ℕ) (t lent : List ℕ) (s
   -- the premises, by the tests
   replacing : ReplacingGiven w u t given s
   replacing =
-      let sound = sound-rule-law w (given .rule) .1 (again .sound) in
+      let sound = sound-rule-law w (given .rule) .1 (again .sent .sound) in
       record {
         sound = sound;
-        edition = again .edition;
+        edition = again .sent .edition;
         replacing = record {
-          table = table-rows w u t .passes .1 (again .table);
+          table = table-rows w u t .passes .1 (again .sent .table);
           sound = rank-sound w given sound;
-          new = λ i h. refuted (λ one. again .unknown i h (same-id-law w (slotWords w t i) (sentWords w e lent) .0 one));
+          new = λ i h. refuted (λ one. again .sent .unknown i h (same-id-law w (slotWords w t i) (sentWords w e lent) .0 one));
           inside = again .inside;
           replaced = again .replaced;
           lowest = again .lowest;
@@ -84,7 +87,7 @@ module _ (w : ℕ) (u : Bool) (known : Width w) (e : ℕ) (t lent : List ℕ) (s
 
   -- the call's answer and buffer are those of the definitions
   lent-passed : checkRule w (length lent) ≡ Pass
-  lent-passed = rule-law w (length lent) .1 (known, again .words)
+  lent-passed = rule-law w (length lent) .1 (known, again .sent .words)
 
   module _ (result : ℕ) (plan after : List ℕ) (count count′ spot spot′ : ℕ) (left : InsertLeft w u e t lent result plan after count count′ spot spot′) where
     promised : ReplacementPlanned s (insertAnswer w u t given (length plan)) plan (insertPlan w u t given plan)
@@ -177,11 +180,13 @@ accepted-either w u e t lent size accepts = pick (insertable-law w u t (lentRule
         inr (
           s,
           record {
-            words = size;
-            table = table-rows w u t .passes .0 (q .replacing .table);
-            sound = sound-rule-law w (lentRule w e lent .rule) .0 (q .sound);
-            edition = q .edition;
-            unknown = λ i h one. true≢false (sym (same-id-law w (slotWords w t i) (sentWords w e lent) .1 one) ∙ q .replacing .new i h);
+            sent = record {
+              words = size;
+              table = table-rows w u t .passes .0 (q .replacing .table);
+              sound = sound-rule-law w (lentRule w e lent .rule) .0 (q .sound);
+              edition = q .edition;
+              unknown = λ i h one. true≢false (sym (same-id-law w (slotWords w t i) (sentWords w e lent) .1 one) ∙ q .replacing .new i h);
+            };
             inside = q .replacing .inside;
             replaced = q .replacing .replaced;
             lowest = q .replacing .lowest;
@@ -203,6 +208,12 @@ not-below s i f = pick (decLt i s)
     pick (yes l) = absurd (f l)
     pick (no l) = omega arith
 
+-- equal rules of two ids and two actions tie, in a table of either kind
+another-ties : (w : ℕ) (u : Bool) (a b : Words) → EqualRules w a b → (ident w a ≡ ident w b → ⊥) → (action w a ≡ action w b → ⊥) → Ties w u a b
+another-ties w u a b equal apart differ =
+    let o = tied-law w false a b .0 (equal-tied w a b equal apart) .0 in
+    ((o .0, o .1, o .2, o .3, λ named. differ), equal .ranks)
+
 -- no lower slot holds an equal rule: one of the same action would be replaced in its place, and one of another would tie
 lowest-equal : (w : ℕ) (u : Bool) (t : List ℕ) (rule : Rule) (s : ℕ) → Replacing w u t rule s
     → (i : ℕ) → i < slots w t → EqualRules w (slotWords w t i) (word (recordOf w rule)) → i < s → ⊥
@@ -214,38 +225,39 @@ lowest-equal w u t rule s r i h equal less = pick (ℕ-discrete (action w (slotW
     pick : Dec (action w (slotWords w t i) ≡ action w (word (recordOf w rule))) → ⊥
     pick (yes same) = replaced-first w u t rule s r i less (record { equal = equal; actions = λ named. same })
     pick (no differ) =
-        let o = tied-law w false (slotWords w t i) (word (recordOf w rule)) .0 (equal-tied w (slotWords w t i) (word (recordOf w rule)) equal apart) .0 in
-        true≢false (sym (tied-law w u (slotWords w t i) (word (recordOf w rule)) .1 ((o .0, o .1, o .2, o .3, λ named. differ), equal .ranks))
+        true≢false (sym (tied-law w u (slotWords w t i) (word (recordOf w rule)) .1 (another-ties w u (slotWords w t i) (word (recordOf w rule)) equal apart differ))
         ∙ replacing-untied w u t rule s r i h (λ same. omega (arith, same)))
 
 -- an equal rule of another action ties: the row of 8 is the first that holds
-module _ (w : ℕ) (u : Bool) (known : Width w) (named : u ≡ true) (e : ℕ) (t lent : List ℕ) (s : ℕ) (sent : SentForAnother w u e t lent s) (room : ℕ) where
-  shape-row : OtherRule w lent ⊎ (Shaped w t → ⊥) → ⊥
-  shape-row bad =
-      ⊎-elim (λ other. ⊎-elim (λ width. ⊎-elim (width .0) (width .1) (known .2)) (λ words. words (sent .words)) other) (sent .table .0) bad
+module _ (w : ℕ) (u : Bool) (known : Width w) (named : u ≡ true) (e : ℕ) (t lent : List ℕ) (s : ℕ) (another : SentForAnother w u e t lent s) (room : ℕ) where
+  abbrev new : Words
+  new = sentWords w e lent
 
-  tie-row : tieRow w u t (sentWords w e lent) .condition
-  tie-row =
+  abbrev before : List Row
+  before = rowsOr (OtherRule w lent) (tableRows w u t ++ (ruleRow w (lentRule w e lent .rule) ∷ editionRow e ∷ knownRow w t new ∷ []))
+
+  abbrev after : List Row
+  after = fullRow w u t new ∷ crossedRow w u t new ∷ shortRow (length (plannedWords w u t (sentRule w e lent))) room ∷ []
+
+  before-hold-not : Accepts before
+  before-hold-not =
+      let s = another .sent in
+      let edition : OtherEdition e → ⊥ = λ other. ⊎-elim (other .0) (other .1) (s .edition) in
+      let unknown : knownRow w t new .condition → ⊥ = λ found. s .unknown (found .0) (found .1) (found .2) in
+      let rule : (SoundRule w (lentRule w e lent .rule) → ⊥) → ⊥ = λ unsound. unsound (s .sound) in
+      (⊎-elim (no-other-rule w lent known (s .words)) (s .table .0), (s .table .1 .0, (s .table .1 .1 .0, (s .table .1 .1 .1 .0, (rule, (edition, (unknown, tt)))))))
+
+  tie-holds : tieRow w u t new .condition
+  tie-holds =
       let a = slotWords w t s in
-      let b = sentWords w e lent in
-      let apart : ident w a ≡ ident w b → ⊥ = λ same. sent .unknown s (sent .inside) (sent .equal .first, sent .equal .second, same) in
-      let o = tied-law w false a b .0 (equal-tied w a b (sent .equal) apart) .0 in
-      (s, sent .inside, (((o .0, o .1, o .2, o .3, λ asked. sent .differ), sent .equal .ranks), λ other. sent .differ (other .actions named)))
-
-  walk : (cause : Cause) (spot : ℕ) → Declines (insertCallRows w u e t lent room) cause spot → Tie ≡ cause
-  walk cause spot (inl d) = absurd (shape-row (d .1))
-  walk cause spot (inr (_, inl d)) = absurd (sent .table .1 .0 (d .1))
-  walk cause spot (inr (_, inr (_, inl d))) = absurd (sent .table .1 .1 .0 (d .1))
-  walk cause spot (inr (_, inr (_, inr (_, inl d)))) = absurd (sent .table .1 .1 .1 .0 (d .1))
-  walk cause spot (inr (_, inr (_, inr (_, inr (_, inl d))))) = absurd (d .1 (sent .sound))
-  walk cause spot (inr (_, inr (_, inr (_, inr (_, inr (_, inl d)))))) = absurd (⊎-elim (d .1 .0) (d .1 .1) (sent .edition))
-  walk cause spot (inr (_, inr (_, inr (_, inr (_, inr (_, inr (_, inl d))))))) = absurd (sent .unknown (d .1 .0) (d .1 .1) (d .1 .2))
-  walk cause spot (inr (_, inr (_, inr (_, inr (_, inr (_, inr (_, inr (_, inl d)))))))) = d .0
-  walk cause spot (inr (_, inr (_, inr (_, inr (_, inr (_, inr (_, inr (_, inr (none, _))))))))) = absurd (none tie-row)
+      let equal = another .equal in
+      let apart : ident w a ≡ ident w new → ⊥ = λ same. another .sent .unknown s (another .inside) (equal .first, equal .second, same) in
+      (s, another .inside, (another-ties w u a new equal apart (another .differ), λ replaced. another .differ (replaced .actions named)))
 
   declined-tied : (result spot : ℕ) → DeclinesBy (insertCallRows w u e t lent room) result spot → result ≡ 8
-  declined-tied result spot d = ⊎-elim (λ zero. absurd (d .accepted .0 zero .1 .1 .1 .1 .1 .1 .1 .0 tie-row))
-      (λ other. other .1 ∙ ap causeNumber (sym (walk (other .0) spot (d .refused (other .0) spot .0 (other .1, refl))))) (d .either)
+  declined-tied result spot d = ⊎-elim (λ zero. absurd (not-accepted before (tieRow w u t new) after tie-holds (d .accepted .0 zero)))
+      (λ other. other .1
+      ∙ ap causeNumber (sym (first-row before (tieRow w u t new) after before-hold-not tie-holds (other .0) spot (d .refused (other .0) spot .0 (other .1, refl))))) (d .either)
 
 -- document 02, 2026-03, at every width that there is
 pub replacements : (w : ℕ) (u : Bool) → Width w → Replacements w u
@@ -267,9 +279,9 @@ replacements w u known = record {
       let before = replacing-uncrossed w u t (sentRule w e rule) s r a b (found .3) (omega (arith, found .2, found .3))
       (precedes-law w u (slotWords w t a) (sentWords w e rule) .1 (found .5)) (precedes-law w u (sentWords w e rule) (slotWords w t b) .1 (found .4)) in
       omega (arith, before, found .2);
-  otherwise = λ named e t rule s sent result plan after count count′ spot spot′ left.
+  otherwise = λ named e t rule s another result plan after count count′ spot spot′ left.
       let call = first-demand .insert w u e t rule result plan after count count′ spot spot′ left in
-      let eight = declined-tied w u known named e t rule s sent (length plan) result spot′ (call .0) in
+      let eight = declined-tied w u known named e t rule s another (length plan) result spot′ (call .0) in
       (eight, call .1 (λ zero. omega (arith, eight, zero)) .0);
   carried = λ e t rule s again plan after count count′ spot spot′ left y full.
       let there = carried-out w u known e t rule s again plan after count count′ spot spot′ left y full in (

@@ -76,6 +76,17 @@ declines-either (row ∷ rows) more cause spot =
           (λ late. inr (late .0 .0, l .1 (inr (late .0 .1, late .1)))) p,
     )
 
+-- a row that holds behind rows that do not is the one by which the call declines, and it does not accept
+pub first-row : (before : List Row) (row : Row) (after : List Row) → Accepts before → row .condition
+    → (cause : Cause) (spot : ℕ) → Declines (before ++ (row ∷ after)) cause spot → row .cause ≡ cause
+first-row [] row after none holds cause spot (inl d) = d .0
+first-row [] row after none holds cause spot (inr d) = absurd (d .0 holds)
+first-row (other ∷ before) row after none holds cause spot (inl d) = absurd (none .0 (d .1))
+first-row (other ∷ before) row after none holds cause spot (inr d) = first-row before row after (none .1) holds cause spot (d .1)
+
+pub not-accepted : (before : List Row) (row : Row) (after : List Row) → row .condition → Accepts (before ++ (row ∷ after)) → ⊥
+not-accepted before row after holds accepts = accepts-both before (row ∷ after) .0 accepts .1 .0 holds
+
 -- checks one after the other: of the second no more is asked than what it says where the first passes
 pub rows-then : (x y : Check) (rows more : List Row) → Agrees x rows → (x ≡ Pass → Agrees y more) → Agrees (orElse x y) (rows ++ more)
 rows-then Pass y rows more first next =

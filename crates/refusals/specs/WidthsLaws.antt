@@ -10,7 +10,7 @@ use borrow.Author.Tests.{eqb-true, eqb-false}
 use Rattle.records.specs.Record.{recordWords}
 use Rattle.records.specs.Checks.{Told, refusal, unless, orElse}
 use Rattle.records.specs.Laws.{cause-not-zero, pass-law}
-use Rattle.records.specs.Widths.{known, checkWidth, checkWords, checkKey, checkRule}
+use Rattle.records.specs.Widths.{Width, known, checkWidth, checkWords, checkKey, checkRule}
 use Rattle.records.specs.WidthsLaws.{width-law}
 use Rattle.records.specs.declared.Cause.{Cause}
 use Rattle.records.specs.declared.Cause.the-variants.{Shape}
@@ -90,3 +90,7 @@ key-row w key = shape-or _ _ _ _ (width-row w) (words-row (length key) w)
 pub rule-row : (w : ℕ) (rule : List ℕ) → ShapeRow (checkRule w (length rule)) (OtherRule w rule)
 unfolding checkRule
 rule-row w rule = shape-or _ _ _ _ (width-row w) (words-row (length rule) (recordWords w))
+
+-- at a width that there is, a rule of as many words as it asks for is no other
+pub no-other-rule : (w : ℕ) (rule : List ℕ) → Width w → length rule ≡ recordWords w → OtherRule w rule → ⊥
+no-other-rule w rule here size other = ⊎-elim (λ width. ⊎-elim (width .0) (width .1) (here .2)) (λ words. words size) other
