@@ -3,19 +3,33 @@
 use mathlib.Core.Bool.{cond}
 use mathlib.Core.List.{List, [], _∷_, _++_}
 use Prim.Native.Nat.{ℕ}
-use lib.Dec.{ltb}
-use lib.ListN.{length, drop}
+use lib.Dec.{eqb, ltb}
+use lib.ListN.{length, getD, take, drop}
 use Rattle.records.specs.Checks.{Told, success, refusal, unless, passes, orElse}
 use Rattle.records.specs.declared.Cause.the-variants.{Short}
 use Rattle.records.specs.declared.Check.{Check}
 use Rattle.records.specs.declared.Check.the-variants.{Pass, Fail}
 use Rattle.buffers.specs.declared.PlanAnswer.{PlanAnswer}
 use Rattle.buffers.specs.declared.PlanAnswer.the-variants.{Planned, Refused}
+use Rattle.buffers.specs.declared.InsertAnswer.{InsertAnswer}
+use Rattle.buffers.specs.declared.InsertAnswer.the-variants.{Planned as Inserted, Refused as Declined}
 
 -- document 01's number and values for each case of a planning call's answer
 abbrev pub planTold : PlanAnswer → Told
 planTold (Planned info) = success (info .count ∷ [])
 planTold (Refused cause spot) = refusal cause spot
+
+-- the same of an insert, whose success holds the slot of the rule that covers the new one too
+abbrev pub insertAnswerTold : InsertAnswer → Told
+insertAnswerTold (Inserted info) = success (info .count ∷ info .covered ∷ [])
+insertAnswerTold (Declined cause spot) = refusal cause spot
+
+-- an answer whose success holds a number more, and one without it; a refusal is as it was
+abbrev pub withCover : Told → ℕ → Told
+withCover told covered = record { number = told .number; values = cond (eqb (told .number) 0) (getD (told .values) 0 0 ∷ covered ∷ []) (told .values) }
+
+abbrev pub withoutCover : Told → Told
+withoutCover told = record { number = told .number; values = take 1 (told .values) }
 
 -- 11: the plan or image buffer is too short, spot the words or bytes needed
 unfoldable pub checkRoom : ℕ → ℕ → Check

@@ -5,7 +5,7 @@ ghost use mathlib.Core.Path.{_≡_};
 ghost use mathlib.Core.List.{[], _∷_};
 ghost use lib.ListN.{length};
 ghost use Rattle.records.specs.declared.Check.the-variants.{Pass};
-ghost use Rattle.buffers.specs.Buffers.{planTold, bufferAnswer, bufferAfter};
+ghost use Rattle.buffers.specs.Buffers.{planTold, insertAnswerTold, withoutCover, bufferAnswer, bufferAfter};
 
 // What a plan that was written tells: how many words it has.
 pub struct PlanInfo {
@@ -16,6 +16,28 @@ pub struct PlanInfo {
 pub enum PlanAnswer {
     Planned(PlanInfo),
     Refused(Cause, u32),
+}
+
+// What a plan of an insert tells that was written: how many words it has, and the slot of the rule that covers the new one, or none.
+pub struct InsertInfo {
+    pub count: u32,
+    pub covered: u32,
+}
+
+// What the planning of an insert answers.
+pub enum InsertAnswer {
+    Planned(InsertInfo),
+    Refused(Cause, u32),
+}
+
+// The answer of an insert without that slot.
+pub fn without_cover(answer: InsertAnswer) -> PlanAnswer
+    ensures { λ r. ⌜ planTold r ≡ withoutCover (insertAnswerTold answer) ⌝ }
+{
+    match answer {
+        InsertAnswer::Planned(info) => PlanAnswer::Planned(PlanInfo { count: info.count }),
+        InsertAnswer::Refused(cause, spot) => PlanAnswer::Refused(cause, spot),
+    }
 }
 
 // A plan of one word: the word, where the buffer has room for it.

@@ -1,8 +1,10 @@
 // Test program: tables at the edge of document 01, looked up and checked; what it prints is held to the file stdout.
-// A slot id action, M (miss), R number spot; P count and B with the buffer's first words; C: passes checks 1 to 4; W words last: a slot's record; S 0 or 1: is a rule sound.
+// A slot id action, M (miss), R number spot; K the covering slot of an insert, P count and B with the buffer's first words; C: passes checks 1 to 4; W words last: a slot's record; S 0 or 1: is a rule sound.
 ghost use mathlib.Core.Path.{_≡_};
 ghost use lib.ListN.{length};
+use buffers::InsertAnswer;
 use buffers::PlanAnswer;
+use buffers::without_cover;
 use delete_plans::plan_delete;
 use insert_plans::plan_insert;
 use insert_plans::plan_rule;
@@ -218,10 +220,20 @@ fn show_plan(answer: PlanAnswer, plan: &[u32]) {
     io::write_all(1, b"\n");
 }
 
+// The same of an insert's, with the slot of the rule that covers the new one before it.
+fn show_inserted(answer: InsertAnswer, plan: &[u32]) {
+    if let InsertAnswer::Planned(info) = answer {
+        io::write_all(1, b"K");
+        number(info.covered as u64);
+        io::write_all(1, b"\n");
+    }
+    show_plan(without_cover(answer), plan);
+}
+
 fn show_insert(table: &[u64], given: Rule) {
     let mut plan = [7u32; 2];
     let answer = plan_rule(table, given, &mut plan);
-    show_plan(answer, &plan);
+    show_inserted(answer, &plan);
 }
 
 fn show_delete(table: &[u64], id: u32) {
@@ -242,7 +254,7 @@ fn show_delete(table: &[u64], id: u32) {
 fn short_buffers(table: &[u64], given: Rule) {
     let mut one = [7u32; 1];
     let answer = plan_rule(table, given, &mut one);
-    show_plan(answer, &one);
+    show_inserted(answer, &one);
     let mut none = [7u32; 0];
     let deleted = plan_delete(
         table,
@@ -279,12 +291,14 @@ fn two_rules(table: &mut [u64]) {
     put(table, 1, rule(2, 10, 4, 4));
 }
 
-// Between the two, before both, at a tie, after both, of a known id; then buffers that are too short, and a delete.
+// Between the two, before both, at a tie, after both, covered by the first and by the second, of a known id; then buffers that are too short, and a delete.
 fn around_two_rules(table: &[u64]) {
     show_insert(table, rule(3, 20, 1, 1));
     show_insert(table, rule(3, 40, 0, 0));
     show_insert(table, rule(3, 30, 0, 0));
     show_insert(table, rule(3, 5, 0, 0));
+    show_insert(table, rule(3, 5, 6, 6));
+    show_insert(table, rule(3, 5, 4, 4));
     show_insert(table, rule(2, 20, 1, 1));
     short_buffers(table, rule(3, 20, 1, 1));
     show_delete(table, 2);
@@ -349,7 +363,7 @@ fn wide_plans(table: &[u64]) {
             uncounted: false,
         },
     );
-    show_plan(answer, &plan);
+    show_inserted(answer, &plan);
     let mut other = [7u32; 2];
     let refusal = plan_insert(
         table,
@@ -361,7 +375,7 @@ fn wide_plans(table: &[u64]) {
             uncounted: false,
         },
     );
-    show_plan(refusal, &other);
+    show_inserted(refusal, &other);
 }
 
 fn wide_tables() {

@@ -15,12 +15,12 @@ use Rattle.records.specs.Entries.{vacant, entries, entryOccupied, entryMisorder
 use Rattle.records.specs.Inserts.{insertChoiceOf, planWords}
 use Rattle.records.specs.Editions.{Given, lentRule, ranked}
 use Rattle.records.specs.declared.Rule.{Rule}
-use Rattle.buffers.specs.Buffers.{bufferAnswer, bufferAfter}
+use Rattle.buffers.specs.Buffers.{bufferAnswer, bufferAfter, withCover}
 use Rattle.costs.specs.Costs.{costOf}
 use Rattle.planner.specs.Emit.{Stays}
 use Rattle.planner.specs.Choice.{choiceWords}
 use Rattle.planner.specs.declared.PositionChoice.{PositionChoice}
-use Rattle.neighbours.specs.Neighbours.{afterA, slotB, replacedSlot, replaces, ruleWords, insertChecks}
+use Rattle.neighbours.specs.Neighbours.{afterA, slotB, replacedSlot, replaces, coveringSlot, ruleWords, insertChecks}
 
 -- the words of a plan that makes room: the far end of the chain first, the new rule last
 abbrev pub insertWords : ℕ → Bool → List ℕ → Rule → List ℕ
@@ -50,6 +50,16 @@ insertCall w u e t rule room = unless (checkRule w (length rule)) (insertAnswer 
 
 abbrev pub insertCallPlan : ℕ → Bool → ℕ → List ℕ → List ℕ → List ℕ → List ℕ
 insertCallPlan w u e t rule plan = leaves (checkRule w (length rule)) (insertPlan w u t (lentRule w e rule) plan) plan
+
+-- document 02, 2026-05: the slot that a success holds besides, by the table before the plan; the rule has its rank
+abbrev pub insertCover : ℕ → List ℕ → Given → ℕ
+insertCover w t given = coveringSlot w t (ruleWords w (ranked w given))
+
+abbrev pub insertReply : ℕ → Bool → List ℕ → Given → ℕ → Told
+insertReply w u t given room = withCover (insertAnswer w u t given room) (insertCover w t given)
+
+abbrev pub insertCallReply : ℕ → Bool → ℕ → List ℕ → List ℕ → ℕ → Told
+insertCallReply w u e t rule room = withCover (insertCall w u e t rule room) (insertCover w t (lentRule w e rule))
 
 -- the layout's choice between A and B, by A + 1 and B
 unfoldable pub choiceBetween : ℕ → Bool → List ℕ → ℕ → ℕ → Choice

@@ -14,8 +14,8 @@ use Rattle.layout.specs.Plan.{Choice, Range, afterPreceding, firstDependant, ra
 use Rattle.layout.specs.Insert.{LeastPlan}
 use Rattle.records.specs.Record.{word, recordWords, slotWords, recordOf, listed}
 use Rattle.records.specs.Order.{slots, precedes}
-use Rattle.records.specs.Checks.{success, refusal, orElse, checkRecords, tableChecks}
-use Rattle.records.specs.Laws.{failed, passed, or-else-pass, sound-law, table-checks-law}
+use Rattle.records.specs.Checks.{Told, success, refusal, unless, orElse, checkRecords, tableChecks}
+use Rattle.records.specs.Laws.{cause-not-zero, failed, passed, or-else-pass, sound-law, table-checks-law}
 use Rattle.records.specs.Entries.{vacant, entries, entryOccupied, entrySame, entryMisordered}
 use Rattle.records.specs.Inserts.{insertChoiceOf, planWords}
 use Rattle.records.specs.declared.Rule.{Rule}
@@ -23,15 +23,15 @@ use Rattle.records.specs.declared.Cause.{Cause}
 use Rattle.records.specs.declared.Cause.the-variants.{Short}
 use Rattle.records.specs.declared.Check.{Check}
 use Rattle.records.specs.declared.Check.the-variants.{Pass, Fail}
-use Rattle.records.specs.Widths.{leaves}
+use Rattle.records.specs.Widths.{checkRule, leaves}
 use Rattle.records.specs.RulesLaws.{rule-action}
 use Rattle.records.specs.Editions.{Given, lentRule, ranked, rankedRecord, checkGiven}
 use Rattle.records.specs.EditionsLaws.{given-law, ranked-action, ranked-record, ranked-passes}
 use Rattle.records.specs.EntriesLaws.{entries-length}
 use Rattle.records.specs.InsertsLaws.{newMisordered, misorderedNew, uncrossed-apart, insert-words, after-preceding-precedes, first-dependant-precedes}
 use Rattle.records.specs.InsertsLaws.{after-preceding-slots, first-dependant-slots}
-use Rattle.buffers.specs.Buffers.{bufferAnswer, bufferAfter}
-use Rattle.buffers.specs.BuffersLaws.{buffer-refused, buffer-short, buffer-written}
+use Rattle.buffers.specs.Buffers.{bufferAnswer, bufferAfter, withCover, withoutCover}
+use Rattle.buffers.specs.BuffersLaws.{buffer-refused, buffer-short, buffer-written, buffer-passed, cover-asked, cover-dropped}
 use Rattle.costs.specs.Costs.{costOf}
 use Rattle.planner.specs.Choice.{choiceOf, choiceWords}
 use Rattle.planner.specs.declared.PositionChoice.{PositionChoice}
@@ -39,7 +39,7 @@ use Rattle.planner.specs.Agree.{Agrees, Emits}
 use Rattle.planner.specs.ChoiceLaws.{choice-words-length}
 use Rattle.planner.specs.AgreeLaws.{plan-law, numbers-law}
 use Rattle.neighbours.specs.Neighbours.{afterA, slotB, checkCrossed, replaces, newChecks, placeChecks, ruleWords, ruleChecks, insertChecks}
-use Rattle.neighbours.specs.Neighbours.{foundCheck, FoundIn}
+use Rattle.neighbours.specs.Neighbours.{foundCheck, FoundIn, coveringSlot}
 use Rattle.neighbours.specs.declared.NewRule.{NewRule}
 use Rattle.neighbours.specs.declared.NewRule.the-variants.{Adds, Replaces, Declined}
 use Rattle.windows.specs.Windows.{endAt}
@@ -47,7 +47,7 @@ use Rattle.insert_plans.specs.Insertable.{Insertable, Replacing}
 use Rattle.insert_plans.specs.Joined.{Costed}
 use Rattle.insert_plans.specs.InsertableLaws.{insertable-law, replacing-slot, rule-words, uncrossed-numbers}
 use Rattle.insert_plans.specs.JoinedLaws.{ends-listed, ends-down as ends-down-law, ends-up as ends-up-law}
-use Rattle.insert_plans.specs.Inserts.{insertWords, replacementWords, plannedWords, insertAnswer, insertPlan, choiceBetween, recordChoice, recordPlan, Joined}
+use Rattle.insert_plans.specs.Inserts.{insertWords, replacementWords, plannedWords, insertAnswer, insertPlan, insertCall, insertCover, insertReply, insertCallReply, choiceBetween, recordChoice, recordPlan, Joined}
 
 module _ (w : ℕ) (u : Bool) (t : List ℕ) (rule : Rule) (p : Insertable w u t rule) where
   -- A + 1 and B of the table are those of its layout
@@ -247,6 +247,10 @@ module _ (w : ℕ) (u : Bool) (e : ℕ) (t lent new : List ℕ) (checks : tableC
       × (bufferAfter (placeChecks w u t (slotWords w l 0)) (recordPlan w u t (slotWords w l 0)) plan ≡ insertPlan w u t (lentRule w e lent) plan)) is-record
       (insert-answered w u t (lentRule w e lent) checks good plan)
 
+  -- and the rule that covers it is found by that record
+  pub lent-cover : coveringSlot w t (slotWords w new 0) ≡ insertCover w t (lentRule w e lent)
+  lent-cover = sym (ap (λ (l : List ℕ). coveringSlot w t (slotWords w l 0)) is-record)
+
 -- the lent record has it where the rule passes what it is checked for
 pub lent-ranked : (w : ℕ) (u : Bool) (e : ℕ) (t lent new before : List ℕ) {x : Check} → x ≡ ruleChecks w u t (lentRule w e lent)
     → new ≡ leaves (checkGiven w (lentRule w e lent)) (rankedRecord w e lent) before → x ≡ Pass → new ≡ rankedRecord w e lent
@@ -276,3 +280,32 @@ lent-found w u e t lent new plan checks size (Fail cause spot) f same =
     let declined = buffer-refused (recordPlan w u t (slotWords w new 0)) plan refl refl in
     let r = buffer-refused (plannedWords w u t (ranked w given)) plan (passed refl checks (failed (placeChecks w u t (ruleWords w (ranked w given))) f refl)) refl in
     (sym (declined .0) ∙ r .0, sym (declined .1) ∙ r .1)
+
+-- with the slot of the rule that covers it, which is told where the call plans
+pub lent-covered : (w : ℕ) (u : Bool) (e : ℕ) (t lent new plan : List ℕ) → tableChecks w u t ≡ Pass → length lent ≡ recordWords w → (x : Check) → x ≡ ruleChecks w u t (lentRule w e lent)
+    → (x ≡ Pass → new ≡ rankedRecord w e lent)
+    → withCover (bufferAnswer (orElse x (placeChecks w u t (slotWords w new 0))) (length (recordPlan w u t (slotWords w new 0))) (length plan)) (coveringSlot w t (slotWords w new 0))
+    ≡ insertReply w u t (lentRule w e lent) (length plan)
+unfolding insertChecks
+lent-covered w u e t lent new plan checks size x f same =
+    ap (λ (told : Told). withCover told (coveringSlot w t (slotWords w new 0))) (lent-found w u e t lent new plan checks size x f same .0)
+    ∙ cover-asked (insertAnswer w u t given (length plan)) _ _ (λ zero.
+    let passes = buffer-passed (insertChecks w u t given) (length (plannedWords w u t (ranked w given))) (length plan) zero in
+    let own = or-else-pass (tableChecks w u t) (orElse (ruleChecks w u t given) (placeChecks w u t (ruleWords w (ranked w given)))) .0 passes .1 in
+    let good = or-else-pass (ruleChecks w u t given) (placeChecks w u t (ruleWords w (ranked w given))) .0 own .0 in
+    lent-cover w u e t lent new checks size good (same (f ∙ good)))
+  where
+    given : Given
+    given = lentRule w e lent
+
+-- and without it the answer is that of the planning
+pub reply-dropped : (w : ℕ) (u : Bool) (t : List ℕ) (given : Given) (room : ℕ) → withoutCover (insertReply w u t given room) ≡ insertAnswer w u t given room
+reply-dropped w u t given room = cover-dropped (insertChecks w u t given) (length (plannedWords w u t (ranked w given))) room (insertCover w t given)
+
+pub call-reply-dropped : (w : ℕ) (u : Bool) (e : ℕ) (t rule : List ℕ) (room : ℕ) → withoutCover (insertCallReply w u e t rule room) ≡ insertCall w u e t rule room
+call-reply-dropped w u e t rule room = by (checkRule w (length rule))
+  where
+    by : (x : Check) → withoutCover (withCover (unless x (insertAnswer w u t (lentRule w e rule) room)) (insertCover w t (lentRule w e rule)))
+        ≡ unless x (insertAnswer w u t (lentRule w e rule) room)
+    by Pass = reply-dropped w u t (lentRule w e rule) room
+    by (Fail cause spot) = rw (cause-not-zero cause)

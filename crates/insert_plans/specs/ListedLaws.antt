@@ -4,50 +4,18 @@ use mathlib.Core.Path.{_≡_, sym, ap, _∙_}
 use mathlib.Core.Bool.{Bool, true, false, cond}
 use mathlib.Core.Logic.{_↔_}
 use mathlib.Core.List.{List}
-use Prim.Native.Nat.{ℕ, suc, _+_, _-_, _≤_, _<_}
+use Prim.Native.Nat.{ℕ, suc, _-_, _≤_, _<_}
 use native.Mathlib.Decide.{decLt}
 use native.Mathlib.Omega.{arith}
 use lib.Dec.{ltb}
 use borrow.Author.Tests.{lt-ltb, le-ltb}
-use Rattle.search.specs.Search.{least, Least, afterLast, AfterLast}
-use Rattle.search.specs.SearchLaws.{least-law, after-last-law}
+use Rattle.search.specs.Search.{afterLast, AfterLast}
+use Rattle.search.specs.SearchLaws.{after-last-law, first-is, first-none}
 use Rattle.layout.specs.Order.{Higher, Lower}
 use Rattle.records.specs.Order.{slots}
-use Rattle.neighbour_lists.specs.Lists.{firstFrom, lastBelow, nextDependant, lastPreceding}
-use Rattle.neighbour_lists.specs.ListsLaws.{first-from-none, first-from-at, last-below-none, last-below-at}
+use Rattle.neighbour_lists.specs.Lists.{lastBelow, nextDependant, lastPreceding}
+use Rattle.neighbour_lists.specs.ListsLaws.{last-below-none, last-below-at}
 use Rattle.insert_plans.specs.Nearest.{dependsAt, precedesAt, Nearest}
-
--- of n slots, fewer than 65,535, the first after slot i at which a test holds
-module _ (p : ℕ → Bool) (n i : ℕ) (few : n ≤ 65535) (h : i < n) where
-  abbrev m : ℕ
-  m = least p (n - suc i) (suc i)
-
-  first-law : Least p (suc i) (suc i + (n - suc i)) m
-  first-law = least-law p (n - suc i) (suc i)
-
-  first-is : (d : ℕ) → d < n → (firstFrom p (suc i) n ≡ d) ↔ ((i < d) × (p d ≡ true) × ((y : ℕ) → i < y → y < d → p y ≡ false))
-  unfolding firstFrom
-  first-is d l = (to (decLt m n), from)
-    where
-      to : Dec (m < n) → cond (ltb m n) m 65535 ≡ d → (i < d) × (p d ≡ true) × ((y : ℕ) → i < y → y < d → p y ≡ false)
-      to (yes a) e =
-          let q : m ≡ d = sym (ap (λ (b : Bool). cond b m 65535) (lt-ltb m n a)) ∙ e in
-          (omega (arith, first-law .low, q), ap p (sym q) ∙ first-law .hit (omega arith), λ y u v. first-law .before y u (omega (arith, q)))
-      to (no a) e = absurd (let q : 65535 ≡ d = sym (ap (λ (b : Bool). cond b m 65535) (le-ltb m n (omega arith))) ∙ e in omega (arith, q))
-
-      from : (i < d) × (p d ≡ true) × ((y : ℕ) → i < y → y < d → p y ≡ false) → cond (ltb m n) m 65535 ≡ d
-      from z = first-from-at p (suc i) n d (z .0) l (z .1) (z .2)
-
-  first-none : (firstFrom p (suc i) n ≡ 65535) ↔ ((y : ℕ) → i < y → y < n → p y ≡ false)
-  unfolding firstFrom
-  first-none = (to (decLt m n), from)
-    where
-      to : Dec (m < n) → cond (ltb m n) m 65535 ≡ 65535 → (y : ℕ) → i < y → y < n → p y ≡ false
-      to (yes a) e y u v = absurd (let q : m ≡ 65535 = sym (ap (λ (b : Bool). cond b m 65535) (lt-ltb m n a)) ∙ e in omega (arith, q))
-      to (no a) e y u v = first-law .before y u (omega arith)
-
-      from : ((y : ℕ) → i < y → y < n → p y ≡ false) → cond (ltb m n) m 65535 ≡ 65535
-      from f = first-from-none p (suc i) n (omega arith) f
 
 -- of the slots below slot i, fewer than 65,535, the last at which a test holds
 module _ (p : ℕ → Bool) (i : ℕ) (few : i ≤ 65535) where
@@ -86,13 +54,13 @@ module _ (w : ℕ) (u : Bool) (t : List ℕ) (few : slots w t ≤ 65535) (i : �
   pub next-nearest : (d : ℕ) → d < slots w t → (nextDependant w u t i ≡ d) ↔ Nearest Higher (dependsAt w u t) (slots w t) i d
   unfolding nextDependant
   next-nearest d l = (
-    λ e. let z = first-is (dependsAt w u t i) (slots w t) i few h d l .0 e in record { within = l; after = z .0; bounding = z .1; none-nearer = λ y v a b. z .2 y a b },
-    λ r. first-is (dependsAt w u t i) (slots w t) i few h d l .1 (r .after, r .bounding, λ y a b. r .none-nearer y (omega arith) a b),
+    λ e. let z = first-is (dependsAt w u t i) (suc i) (slots w t) h few d l .0 e in record { within = l; after = z .0; bounding = z .1; none-nearer = λ y v a b. z .2 y a b },
+    λ r. first-is (dependsAt w u t i) (suc i) (slots w t) h few d l .1 (r .after, r .bounding, λ y a b. r .none-nearer y (omega arith) a b),
   )
 
   pub next-none : (nextDependant w u t i ≡ 65535) ↔ ((y : ℕ) → i < y → y < slots w t → dependsAt w u t i y ≡ false)
   unfolding nextDependant
-  next-none = first-none (dependsAt w u t i) (slots w t) i few h
+  next-none = first-none (dependsAt w u t i) (suc i) (slots w t) h few
 
   pub before-nearest : (d : ℕ) → d < slots w t → (lastPreceding w u t i ≡ d) ↔ Nearest Lower (precedesAt w u t) (slots w t) i d
   unfolding lastPreceding

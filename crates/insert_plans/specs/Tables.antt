@@ -1,13 +1,14 @@
--- Document 01, "Tables at the edge": the ten items marked to be proved, as one list, with what the planning calls promise on them. A list of document 02's
--- rules that are sent again beside it.
+-- Document 01, "Tables at the edge": the ten items marked to be proved, as one list, with what the planning calls promise on them. Lists of document 02's
+-- rules that are sent again, of uncounted tables and of covered rules beside it.
 use mathlib.Core.Path.{_≡_}
 use mathlib.Core.List.{List, [], _∷_, _++_, map}
 use Prim.Native.Nat.{ℕ, _+_, _*_, _/_}
 use lib.ListN.{length}
 use mathlib.Core.Bool.{Bool, true, false}
-use Rattle.search.specs.Search.{all, any, least, afterLast}
+use Rattle.search.specs.Search.{all, any, least, afterLast, firstFrom}
 use Rattle.ternary.specs.Word.{agree, inside, both}
 use Rattle.ternary.specs.Pattern.{overlaps, within, fullMask}
+use Rattle.ternary.specs.Comparison.{covers}
 use Rattle.layout.specs.Minimum.{minimum, lowestAt as lowestOf, highestAt as highestOf}
 use Rattle.layout.specs.Cost.{windowEnd, costs, nextSlot}
 use Rattle.layout.specs.Chain.{steps}
@@ -16,8 +17,8 @@ use Rattle.layout.specs.Plan.{downCost, upCost, downChain, upChain, bestDown, b
 use Rattle.layout.specs.Plan.{insertChoice}
 use Rattle.plan_words.specs.PlanWords.{writeOf}
 use Rattle.records.specs.Record.{listed, empty, rankFits, soundParts, recordOf, ruleOf, word, putSlot}
-use Rattle.records.specs.Order.{distinct, precedes, tied, sameId, samePattern, equalRule, replaceable, misordered}
-use Rattle.records.specs.Checks.{Told, lowest, shaped, checkShape, unsoundAt, checkRecords, twiceAt, checkTwice, disorderAt, checkOrder, slotChecks}
+use Rattle.records.specs.Order.{distinct, precedes, tied, obscures, sameId, samePattern, equalRule, replaceable, misordered}
+use Rattle.records.specs.Checks.{Told, success, lowest, shaped, checkShape, unsoundAt, checkRecords, twiceAt, checkTwice, disorderAt, checkOrder, slotChecks}
 use Rattle.records.specs.Checks.{tableChecks}
 use Rattle.records.specs.Widths.{known, checkWidth, checkWords, checkRule as checkLent}
 use Rattle.records.specs.Entries.{vacant, entries}
@@ -26,9 +27,9 @@ use Rattle.records.specs.declared.Rule.{Rule}
 use Rattle.records.specs.Writes.{applyWords}
 use Rattle.buffers.specs.Buffers.{checkRoom, bufferAnswer, bufferAfter}
 use Rattle.neighbours.specs.Neighbours.{checkKnown, checkTie, checkFull, afterA, slotB, checkCrossed, replacedSlot, replaces, newChecks, placeChecks}
-use Rattle.neighbours.specs.Neighbours.{ruleChecks, insertChecks}
+use Rattle.neighbours.specs.Neighbours.{ruleChecks, insertChecks, coveringSlot}
 use Rattle.delete_plans.specs.Deletes.{hasId, slotOfId, checkId, checkUnknown, deleteChecks, deleteAnswer, deletePlan, deleteCall, deleteCallPlan}
-use Rattle.insert_plans.specs.Inserts.{insertAnswer, insertPlan, insertCall, insertCallPlan, plannedWords}
+use Rattle.insert_plans.specs.Inserts.{insertAnswer, insertPlan, insertCall, insertCallPlan, insertCallReply, plannedWords}
 
 -- a pattern, highest bit first: a bit that must be 0, one that must be 1, one not cared for
 pub data Symbol : Type 0 where
@@ -92,6 +93,14 @@ pub record Item : Type 0 where
   pub asked : Asked
   pub buffer : List ℕ
   pub expected : Result
+
+-- one of an insert whose rule may be covered
+pub record Covered : Type 0 where
+  pub table : List ℕ
+  pub rule : Rule
+  pub count : ℕ
+  pub covered : ℕ
+  pub plan : List ℕ
 
 unfoldable pub resultOf : ℕ → Bool → Item → Result
 unfolding all any least afterLast agree inside both overlaps within minimum lowestOf highestOf windowEnd costs nextSlot steps moves downCost upCost downChain upChain bestDown bestUp slotDown slotUp choose afterPreceding firstDependant insertChoice listed empty fullMask rankFits soundParts rankOf ranked knownEdition checkSound checkEdition checkGiven recordOf distinct precedes tied sameId misordered samePattern equalRule replaceable entries lowest shaped checkShape unsoundAt checkRecords twiceAt checkTwice disorderAt checkOrder slotChecks tableChecks checkRoom bufferAnswer bufferAfter checkKnown checkTie checkFull afterA slotB checkCrossed replacedSlot replaces newChecks placeChecks ruleChecks insertChecks hasId slotOfId checkId checkUnknown deleteChecks
@@ -291,6 +300,27 @@ module _ (w : ℕ) where
       ∷ record { table = crossed-table; asked = inserting (under13 (crossed-rule 1)); buffer = 801 ∷ []; expected = declined 10 1 (801 ∷ []) }
       ∷ []
 
+  -- document 02, 2026-05: rules within each other; and two that cover a third only together
+  unfoldable pub nested-table : List ℕ
+  nested-table = held (line 1 40 (one ∷ nought ∷ []) 7) ++ held (line 2 30 (one ∷ []) 7) ++ held (line 3 20 [] 7) ++ vacancy
+
+  unfoldable pub halves-table : List ℕ
+  halves-table = held (line 1 40 (one ∷ nought ∷ []) 7) ++ held (line 2 30 (one ∷ one ∷ []) 7) ++ vacancy
+
+  -- a rule that is inserted into a table, with four words of buffer, and what the call is to tell: count, covering slot, and the plan's words
+  unfoldable pub covered-items : List Covered
+  covered-items =
+      record { table = nested-table; rule = line 9 10 (one ∷ one ∷ []) 5; count = 1; covered = 1; plan = new 3 ∷ 802 ∷ 803 ∷ 804 ∷ [] }
+      ∷ record { table = nested-table; rule = line 9 25 (one ∷ one ∷ []) 5; count = 2; covered = 1; plan = moved 2 3 ∷ new 2 ∷ 803 ∷ 804 ∷ [] }
+      ∷ record { table = nested-table; rule = line 9 35 (one ∷ one ∷ []) 5; count = 3; covered = 65535; plan = moved 2 3 ∷ moved 1 2 ∷ new 1 ∷ 804 ∷ [] }
+      -- the same value and mask as a rule of higher rank; and of the same, which is replaced
+      ∷ record { table = nested-table; rule = line 9 29 (one ∷ []) 5; count = 2; covered = 1; plan = moved 2 3 ∷ new 2 ∷ 803 ∷ 804 ∷ [] }
+      ∷ record { table = nested-table; rule = line 9 30 (one ∷ []) 5; count = 1; covered = 65535; plan = new 1 ∷ 802 ∷ 803 ∷ 804 ∷ [] }
+      ∷ record { table = nested-table; rule = line 9 10 (nought ∷ one ∷ []) 5; count = 1; covered = 2; plan = new 3 ∷ 802 ∷ 803 ∷ 804 ∷ [] }
+      ∷ record { table = nested-table; rule = line 9 19 (one ∷ nought ∷ []) 5; count = 1; covered = 0; plan = new 3 ∷ 802 ∷ 803 ∷ 804 ∷ [] }
+      ∷ record { table = halves-table; rule = line 9 10 (one ∷ []) 5; count = 1; covered = 65535; plan = new 2 ∷ 802 ∷ 803 ∷ 804 ∷ [] }
+      ∷ []
+
 -- each item gives what is expected of it, by the definitions and by the calls
 abbrev pub AsExpected : ℕ → Bool → List Item → Type 0
 AsExpected w u list = (map (resultOf w u) list ≡ map expected list) × (map (calledOf w u) list ≡ map expected list)
@@ -308,6 +338,20 @@ AgainAtTheEdge w = AsExpected w false (again-items w)
 -- 2026-11: tables that are uncounted, and the same ones counted
 abbrev pub UncountedAtTheEdge : ℕ → Type 0
 UncountedAtTheEdge w = AsExpected w true (uncounted-items w) × AsExpected w false (counted-items w)
+
+-- 2026-05: what an insert replies and leaves, and what it is to
+unfoldable pub repliedOf : ℕ → Covered → Result
+unfolding calledOf obscures covers firstFrom coveringSlot
+repliedOf w item = record {
+  answer = insertCallReply w false 13 (item .table) (recordOf w (item .rule)) 4;
+  buffer = insertCallPlan w false 13 (item .table) (recordOf w (item .rule)) (801 ∷ 802 ∷ 803 ∷ 804 ∷ []);
+}
+
+unfoldable pub toldOf : Covered → Result
+toldOf item = record { answer = success (item .count ∷ item .covered ∷ []); buffer = item .plan }
+
+abbrev pub CoveredAtTheEdge : ℕ → Type 0
+CoveredAtTheEdge w = map (repliedOf w) (covered-items w) ≡ map toldOf (covered-items w)
 
 -- the table with a rule put in by its plan
 unfoldable pub afterInsert : ℕ → Bool → List ℕ → Rule → List ℕ

@@ -52,7 +52,7 @@ use Rattle.insert_plans.specs.Tables.{moved, planned, rule2, new, valueF
 use Rattle.insert_plans.specs.Tables.{deleting, rule3, rule-a, rule-other, maskFrom, expected, rule7, rule6, rule-c, rule1, result, resultOf}
 use Rattle.insert_plans.specs.Tables.{Result, called, calledOf, TablesAtTheEdge, CallsAtTheEdge, AgainAtTheEdge, again-items, again-table, again-equal, again-known, again-mask, again-rank}
 use Rattle.insert_plans.specs.Tables.{UncountedAtTheEdge, uncounted-items, counted-items, loose-table, loose-rule, alike-table, alike-rule, equal-table, equal-rule}
-use Rattle.insert_plans.specs.Tables.{crossed-table, crossed-rule}
+use Rattle.insert_plans.specs.Tables.{crossed-table, crossed-rule, CoveredAtTheEdge, repliedOf, toldOf, covered-items, nested-table, halves-table}
 use Rattle.insert_plans.specs.Tables.{items, rule4, vacancy, after-third, inserting, line, afterInsert, precedence}
 
 -- what holds at two words and at five holds at every width
@@ -105,6 +105,10 @@ sent-again = by-widths _ (refl, refl) (refl, refl)
 pub uncounted-tables : (w : ℕ) → Width w → UncountedAtTheEdge w
 unfolding calledOf expected uncounted-items counted-items loose-table loose-rule alike-table alike-rule equal-table equal-rule crossed-table crossed-rule line valueFrom maskFrom
 uncounted-tables = by-widths _ ((refl, refl), (refl, refl)) ((refl, refl), (refl, refl))
+
+pub covered-rules : (w : ℕ) → Width w → CoveredAtTheEdge w
+unfolding repliedOf toldOf covered-items nested-table halves-table line valueFrom maskFrom
+covered-rules = by-widths _ refl refl
 
 -- at a width that there is, what a call gives is what the definitions give
 pub called-insert : (w : ℕ) (u : Bool) → Width w → (t : List ℕ) (given : Given) → Fields w (given .rule) → (plan : List ℕ)

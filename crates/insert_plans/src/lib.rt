@@ -1,5 +1,7 @@
-// Planning an insert: costs in both directions, the choice between them, and the words of its chain; the one word of a replacement.
+// Planning an insert: costs in both directions, the choice between them, and the words of its chain; the one word of a replacement; the rule that covers the new one.
 // The table is never changed, and a call that declines leaves the plan buffer as it was.
+use buffers::InsertAnswer;
+use buffers::InsertInfo;
 use buffers::PlanAnswer;
 use buffers::PlanInfo;
 use buffers::answer_word;
@@ -8,6 +10,7 @@ use neighbours::NewRule;
 use neighbours::checks::after_a;
 use neighbours::checks::check_crossed;
 use neighbours::checks::check_for_insert;
+use neighbours::checks::covering_slot;
 use neighbours::checks::slot_b;
 use plan_words::PlanWrite;
 use plan_words::word_of;
@@ -41,16 +44,16 @@ ghost use Rattle.records.specs.Editions.{lentRule, under13, ranked};
 ghost use Rattle.records.specs.Checks.{orElse, checkRecords, tableChecks};
 ghost use Rattle.records.specs.Inserts.{planWords};
 ghost use Rattle.records.specs.declared.Check.the-variants.{Pass};
-ghost use Rattle.buffers.specs.Buffers.{planTold, bufferAnswer, bufferAfter};
+ghost use Rattle.buffers.specs.Buffers.{planTold, insertAnswerTold, withCover, withoutCover, bufferAnswer, bufferAfter};
 ghost use Rattle.neighbour_lists.specs.Lists.{Listed};
 ghost use Rattle.costs.specs.Costs.{costOf};
 ghost use Rattle.planner.specs.Emit.{Stays};
 ghost use Rattle.planner.specs.Choice.{choiceOf, choiceWords};
-ghost use Rattle.neighbours.specs.Neighbours.{checkCrossed, replaces, placeChecks, foundCheck, FoundIn};
+ghost use Rattle.neighbours.specs.Neighbours.{checkCrossed, replaces, coveringSlot, placeChecks, foundCheck, FoundIn};
 ghost use Rattle.insert_plans.specs.Joined.{Costed};
 ghost use Rattle.insert_plans.specs.Insertable.{InsertableGiven, InsertableCall};
 ghost use Rattle.insert_plans.specs.Demand3.{Demand3};
-ghost use Rattle.insert_plans.specs.Inserts.{choiceBetween, recordChoice, replacementWords, recordPlan, insertAnswer, insertPlan, insertCall, insertCallPlan};
+ghost use Rattle.insert_plans.specs.Inserts.{choiceBetween, recordChoice, replacementWords, recordPlan, insertReply, insertPlan, insertCallReply, insertCallPlan};
 
 // The costs of all positions along one direction, with the ends of their windows.
 fn costs_along(
@@ -245,6 +248,35 @@ fn plan_checked(
     }
 }
 
+// The same, and where there is a plan the slot of the rule that covers the new one, in the table before it.
+fn plan_covered(
+    table: &[u64],
+    near: &[u16],
+    new: &[u64],
+    found: NewRule,
+    plan: &mut [u32],
+    mode: Mode,
+) -> InsertAnswer
+    requires { ⌜ (Width (mode .width)) × (tableChecks (mode .width) (mode .uncounted) (now table) ≡ Pass) × (2 * mostSlots ≤ length (now near)) × Listed (mode .width) (mode .uncounted) (now table) (now near) ⌝ }
+    requires { ⌜ (length (now new) ≡ recordWords (mode .width)) × FoundIn (mode .width) (mode .uncounted) (now table) (slotWords (mode .width) (now new) 0) found × (foundCheck found ≡ Pass → checkRecords (mode .width) (now new) ≡ Pass) ⌝ }
+    requires { ⌜ (foundCheck found ≡ Pass → replaces (mode .width) (mode .uncounted) (now table) (slotWords (mode .width) (now new) 0) ≡ false
+        → placeChecks (mode .width) (mode .uncounted) (now table) (slotWords (mode .width) (now new) 0) ≡ Pass
+        → recordChoice (mode .width) (mode .uncounted) (now table) (slotWords (mode .width) (now new) 0) .cost < slotsOf (mode .width) (now table)) ⌝ }
+    ensures { λ r. ⌜ insertAnswerTold r ≡ withCover (bufferAnswer (orElse (foundCheck found) (placeChecks (mode .width) (mode .uncounted) (now (table .entry)) (slotWords (mode .width) (now (new .entry)) 0)))
+        (length (recordPlan (mode .width) (mode .uncounted) (now (table .entry)) (slotWords (mode .width) (now (new .entry)) 0))) (length (now (plan .entry))))
+        (coveringSlot (mode .width) (now (table .entry)) (slotWords (mode .width) (now (new .entry)) 0)) ⌝ }
+    ensures { λ _. ⌜ now (plan .exit) ≡ bufferAfter (orElse (foundCheck found) (placeChecks (mode .width) (mode .uncounted) (now (table .entry)) (slotWords (mode .width) (now (new .entry)) 0)))
+        (recordPlan (mode .width) (mode .uncounted) (now (table .entry)) (slotWords (mode .width) (now (new .entry)) 0)) (now (plan .entry)) ⌝ }
+{
+    match plan_checked(table, near, new, found, plan, mode) {
+        PlanAnswer::Planned(info) => InsertAnswer::Planned(InsertInfo {
+            count: info.count,
+            covered: covering_slot(table, new, mode.width),
+        }),
+        PlanAnswer::Refused(cause, spot) => InsertAnswer::Refused(cause, spot),
+    }
+}
+
 // The plan of an insert into a table that passes checks 1 to 4, by its neighbour list: what a rule is checked for, and its plan.
 fn plan_listed(
     table: &[u64],
@@ -253,28 +285,34 @@ fn plan_listed(
     edition: u32,
     plan: &mut [u32],
     mode: Mode,
-) -> PlanAnswer
+) -> InsertAnswer
     requires { ⌜ (Width (mode .width)) × (tableChecks (mode .width) (mode .uncounted) (now table) ≡ Pass) × (2 * mostSlots ≤ length (now near)) × Listed (mode .width) (mode .uncounted) (now table) (now near) ⌝ }
     requires { ⌜ length (now rule) ≡ recordWords (mode .width) ⌝ }
-    ensures { λ r. ⌜ planTold r ≡ insertAnswer (mode .width) (mode .uncounted) (now (table .entry)) (lentRule (mode .width) edition (now (rule .entry))) (length (now (plan .entry))) ⌝ }
+    ensures { λ r. ⌜ insertAnswerTold r ≡ insertReply (mode .width) (mode .uncounted) (now (table .entry)) (lentRule (mode .width) edition (now (rule .entry))) (length (now (plan .entry))) ⌝ }
     ensures { λ _. ⌜ now (plan .exit) ≡ insertPlan (mode .width) (mode .uncounted) (now (table .entry)) (lentRule (mode .width) edition (now (rule .entry))) (now (plan .entry)) ⌝ }
 {
     let mut ranked = [0u64; WIDE_RECORD];
     let words = record_words(mode.width);
     let found = check_for_insert(table, rule, edition, &mut ranked[0..words], mode);
-    plan_checked(table, near, &ranked[0..words], found, plan, mode)
+    plan_covered(table, near, &ranked[0..words], found, plan, mode)
 }
 
 // The plan of an insert at a width that there is, its rule lent as a record.
-fn insert_at(table: &[u64], rule: &[u64], edition: u32, plan: &mut [u32], mode: Mode) -> PlanAnswer
+fn insert_at(
+    table: &[u64],
+    rule: &[u64],
+    edition: u32,
+    plan: &mut [u32],
+    mode: Mode,
+) -> InsertAnswer
     requires { ⌜ (Width (mode .width)) × (length (now rule) ≡ recordWords (mode .width)) ⌝ }
-    ensures { λ r. ⌜ planTold r ≡ insertAnswer (mode .width) (mode .uncounted) (now (table .entry)) (lentRule (mode .width) edition (now (rule .entry))) (length (now (plan .entry))) ⌝ }
+    ensures { λ r. ⌜ insertAnswerTold r ≡ insertReply (mode .width) (mode .uncounted) (now (table .entry)) (lentRule (mode .width) edition (now (rule .entry))) (length (now (plan .entry))) ⌝ }
     ensures { λ _. ⌜ now (plan .exit) ≡ insertPlan (mode .width) (mode .uncounted) (now (table .entry)) (lentRule (mode .width) edition (now (rule .entry))) (now (plan .entry)) ⌝ }
 {
     let mut near = [0u16; LIST_NUMBERS];
     let check = check_listed(table, &mut near, mode);
     if let Check::Fail(cause, spot) = check {
-        return PlanAnswer::Refused(cause, spot);
+        return InsertAnswer::Refused(cause, spot);
     }
     plan_listed(table, &near, rule, edition, plan, mode)
 }
@@ -286,25 +324,25 @@ pub fn plan_insert(
     edition: u32,
     plan: &mut [u32],
     mode: Mode,
-) -> PlanAnswer
-    ensures { λ r. ⌜ planTold r ≡ insertCall (mode .width) (mode .uncounted) edition (now (table .entry)) (now (rule .entry)) (length (now (plan .entry))) ⌝ }
+) -> InsertAnswer
+    ensures { λ r. ⌜ insertAnswerTold r ≡ insertCallReply (mode .width) (mode .uncounted) edition (now (table .entry)) (now (rule .entry)) (length (now (plan .entry))) ⌝ }
     ensures { λ _. ⌜ now (plan .exit) ≡ insertCallPlan (mode .width) (mode .uncounted) edition (now (table .entry)) (now (rule .entry)) (now (plan .entry)) ⌝ }
     ensures shortest { λ r. ⌜ (InsertableCall (mode .width) (mode .uncounted) edition (now (table .entry)) (now (rule .entry))
-        → Demand3 (mode .width) (mode .uncounted) (now (table .entry)) (ranked (mode .width) (lentRule (mode .width) edition (now (rule .entry)))) (planTold r) (now (plan .entry)) (now (plan .exit))) ⌝ }
+        → Demand3 (mode .width) (mode .uncounted) (now (table .entry)) (ranked (mode .width) (lentRule (mode .width) edition (now (rule .entry)))) (withoutCover (insertAnswerTold r)) (now (plan .entry)) (now (plan .exit))) ⌝ }
 {
     let lent = check_rule(mode.width, rule.len());
     if let Check::Fail(cause, spot) = lent {
-        return PlanAnswer::Refused(cause, spot);
+        return InsertAnswer::Refused(cause, spot);
     }
     insert_at(table, rule, edition, plan, mode)
 }
 
 // The same of document 01's rule struct, at two words, under 1.3.
-pub fn plan_rule(table: &[u64], rule: Rule, plan: &mut [u32]) -> PlanAnswer
-    ensures { λ r. ⌜ planTold r ≡ insertAnswer 2 false (now (table .entry)) (under13 rule) (length (now (plan .entry))) ⌝ }
+pub fn plan_rule(table: &[u64], rule: Rule, plan: &mut [u32]) -> InsertAnswer
+    ensures { λ r. ⌜ insertAnswerTold r ≡ insertReply 2 false (now (table .entry)) (under13 rule) (length (now (plan .entry))) ⌝ }
     ensures { λ _. ⌜ now (plan .exit) ≡ insertPlan 2 false (now (table .entry)) (under13 rule) (now (plan .entry)) ⌝ }
     ensures shortest { λ r. ⌜ (InsertableGiven 2 false (now (table .entry)) (under13 rule)
-        → Demand3 2 false (now (table .entry)) rule (planTold r) (now (plan .entry)) (now (plan .exit))) ⌝ }
+        → Demand3 2 false (now (table .entry)) rule (withoutCover (insertAnswerTold r)) (now (plan .entry)) (now (plan .exit))) ⌝ }
 {
     let words = record_of(rule);
     insert_at(

@@ -1,11 +1,15 @@
 -- Laws on lent cells: what a success and a refusal leave in each.
-use mathlib.Core.Path.{_≡_, ap, _∙_}
+use mathlib.Core.Path.{_≡_, refl, ap, _∙_}
+use mathlib.Core.Bool.{Bool, true, false}
 use Prim.Native.Nat.{ℕ}
+use lib.Dec.{eqb}
 use lib.ListN.{getD}
 use mathlib.Core.List.{List}
+use borrow.Author.Tests.{eq-eqb}
 use Rattle.records.specs.Checks.{Told, causeNumber, success, refusal}
 use Rattle.records.specs.Laws.{cause-not-zero}
 use Rattle.records.specs.declared.Cause.{Cause}
+use Rattle.buffers.specs.Buffers.{withCover}
 use Rattle.marshalling.specs.Cells.{dataCell, spotCell}
 
 -- equal answers leave equal cells
@@ -35,3 +39,17 @@ refusal-cells cause place slot id action spot e = (
   ap (λ (t : Told). t .number) e,
   (refusal-kept cause place 0 slot e, (refusal-kept cause place 1 id e, (refusal-kept cause place 2 action e, refusal-put cause place spot e))),
 )
+
+-- a number that a success holds more moves neither the cell for its first value nor that for a refusal's spot
+pub cover-cells : (told : Told) (covered before spot : ℕ)
+    → (dataCell (withCover told covered) 0 before ≡ dataCell told 0 before) × (spotCell (withCover told covered) spot ≡ spotCell told spot)
+cover-cells told covered before spot = pick (eqb (told .number) 0) refl
+  where
+    pick : (b : Bool) → eqb (told .number) 0 ≡ b
+        → (dataCell (withCover told covered) 0 before ≡ dataCell told 0 before) × (spotCell (withCover told covered) spot ≡ spotCell told spot)
+    pick true e = (rw e, rw e)
+    pick false e = (rw e, rw e)
+
+-- that number is in the cell for a second value
+pub cover-cell : (told : Told) (covered before : ℕ) → told .number ≡ 0 → dataCell (withCover told covered) 1 before ≡ covered
+cover-cell told covered before e = rw (eq-eqb (told .number) 0 e)

@@ -1,11 +1,13 @@
 // What crosses between the C interface and the calls: a planning call's answer as its number and lent cells.
 // A step takes its progress as two numbers, and its answer crosses as one: the cause's number in the lower half, the spot in the upper.
+use buffers::InsertAnswer;
 use buffers::PlanAnswer;
+use buffers::PlanInfo;
 use carrying::StepAnswer;
 use records::cause_number;
 use steps::step::step;
 ghost use mathlib.Core.Path.{_≡_};
-ghost use Rattle.buffers.specs.Buffers.{planTold};
+ghost use Rattle.buffers.specs.Buffers.{planTold, insertAnswerTold};
 ghost use Rattle.carrying.specs.Carrying.{stepCallTable};
 ghost use Rattle.marshalling.specs.Cells.{dataCell, spotCell};
 ghost use Rattle.marshalling.specs.Carried.{carriedStep};
@@ -25,6 +27,31 @@ pub fn spread(answer: PlanAnswer, count: &mut u32, spot: &mut u32) -> u32
             *spot = at;
             cause_number(cause)
         }
+    }
+}
+
+// The same of an insert's, with the cell for the slot of the rule that covers the new one.
+pub fn spread_insert(
+    answer: InsertAnswer,
+    count: &mut u32,
+    covered: &mut u32,
+    spot: &mut u32,
+) -> u32
+    ensures { λ r. ⌜ r ≡ insertAnswerTold answer .number ⌝ }
+    ensures { λ _. ⌜ now (count .exit) ≡ dataCell (insertAnswerTold answer) 0 (now (count .entry)) ⌝ }
+    ensures { λ _. ⌜ now (covered .exit) ≡ dataCell (insertAnswerTold answer) 1 (now (covered .entry)) ⌝ }
+    ensures { λ _. ⌜ now (spot .exit) ≡ spotCell (insertAnswerTold answer) (now (spot .entry)) ⌝ }
+{
+    match answer {
+        InsertAnswer::Planned(info) => {
+            *covered = info.covered;
+            spread(
+                PlanAnswer::Planned(PlanInfo { count: info.count }),
+                count,
+                spot,
+            )
+        }
+        InsertAnswer::Refused(cause, at) => spread(PlanAnswer::Refused(cause, at), count, spot),
     }
 }
 

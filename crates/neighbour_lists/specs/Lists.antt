@@ -6,7 +6,7 @@ use mathlib.Core.List.{List}
 use Prim.Native.Nat.{ℕ, suc, _+_, _-_, _*_, _<_}
 use lib.Dec.{ltb}
 use lib.ListN.{getD}
-use Rattle.search.specs.Search.{least, afterLast}
+use Rattle.search.specs.Search.{afterLast, firstFrom}
 use Rattle.records.specs.Record.{slotWords, rank, occupied}
 use Rattle.records.specs.Order.{slots, precedes, misordered}
 
@@ -23,10 +23,7 @@ rankAt w t i = rank w (slotWords w t i)
 abbrev pub occupiedAt : ℕ → List ℕ → ℕ → Bool
 occupiedAt w t i = occupied w (slotWords w t i)
 
--- the first index, of those from a start up to an end, at which a test holds, and the last below an end; 65,535 for none
-unfoldable pub firstFrom : (ℕ → Bool) → ℕ → ℕ → ℕ
-firstFrom p from to = cond (ltb (least p (to - from) from) to) (least p (to - from) from) 65535
-
+-- the last index below an end at which a test holds; 65,535 for none
 unfoldable pub lastBelow : (ℕ → Bool) → ℕ → ℕ
 lastBelow p to = cond (ltb 0 (afterLast p to)) (afterLast p to - 1) 65535
 

@@ -8,9 +8,9 @@ use native.Mathlib.Decide.{ℕ-discrete}
 use native.Mathlib.Omega.{arith}
 use lib.Dec.{eqb}
 use borrow.Author.Tests.{eq-eqb, eqb-true, lt-ltb, le-ltb}
-use Rattle.search.specs.Search.{least, afterLast}
-use Rattle.search.specs.SearchLaws.{decided, and-both, and-left, and-right, least-law, least-unique, after-last-law, after-last-unique}
-use Rattle.neighbour_lists.specs.Lists.{firstFrom, lastBelow}
+use Rattle.search.specs.Search.{least, afterLast, firstFrom}
+use Rattle.search.specs.SearchLaws.{decided, and-both, and-left, and-right, least-law, least-unique, after-last-law, after-last-unique, first-from-none, first-from-at}
+use Rattle.neighbour_lists.specs.Lists.{lastBelow}
 use Rattle.neighbour_lists.specs.Row.{keep, firstSeen}
 use Rattle.neighbour_lists.specs.RowLaws.{keep-none, keep-some}
 
@@ -29,23 +29,6 @@ last-below-at p n m h t f =
     = after-last-unique (after-last-law p n)
     (record { high = h; after = λ i l u. f i l u; hit = λ i q. (let g : i ≡ m = omega arith in ap p g ∙ t) }) in
     rw (lt-ltb 0 (afterLast p n) (omega arith)) (omega arith)
-
--- the first index from a start at which a test holds, likewise
-pub first-from-none : (p : ℕ → Bool) (from to : ℕ) → from ≤ to → ((i : ℕ) → from ≤ i → i < to → p i ≡ false) → firstFrom p from to ≡ 65535
-unfolding firstFrom
-first-from-none p from to l f =
-    let q : least p (to - from) from ≡ to
-    = least-unique (least-law p (to - from) from)
-    (record { low = l; high = omega arith; before = λ i a b. f i a b; hit = λ u. absurd (omega arith) }) in
-    rw (le-ltb (least p (to - from) from) to (omega arith))
-
-pub first-from-at : (p : ℕ → Bool) (from to m : ℕ) → from ≤ m → m < to → p m ≡ true → ((i : ℕ) → from ≤ i → i < m → p i ≡ false) → firstFrom p from to ≡ m
-unfolding firstFrom
-first-from-at p from to m a b t f =
-    let q : least p (to - from) from ≡ m
-    = least-unique (least-law p (to - from) from)
-    (record { low = a; high = omega arith; before = λ i x y. f i x y; hit = λ u. t }) in
-    rw (lt-ltb (least p (to - from) from) to (omega arith)) q
 
 -- before any index is asked there is none
 pub seen-start : (p : ℕ → Bool) (i : ℕ) → firstSeen p (i + 1) (i + 1 - (i + 1)) ≡ 65535

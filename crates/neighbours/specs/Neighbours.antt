@@ -1,16 +1,16 @@
--- A new rule against a table: is its id known, does it replace a rule, does it tie, is there room, and its neighbours A and B. Checks 6 and 8 to 10 of
+-- A new rule against a table: is its id known, does it replace a rule, does it tie, is there room, its neighbours A and B, and which rule covers it. Checks 6 and 8 to 10 of
 -- document 01, and all checks of an insert in their order.
 -- The new rule is given by its record's words, new.
 use mathlib.Core.Path.{_≡_}
 use mathlib.Core.Bool.{Bool, true, false, cond}
 use mathlib.Core.List.{List}
 use Prim.{Unit}
-use Prim.Native.Nat.{ℕ, suc, _-_}
+use Prim.Native.Nat.{ℕ, suc, _-_, _<_}
 use lib.Dec.{ltb}
-use Rattle.search.specs.Search.{any, least, afterLast}
+use Rattle.search.specs.Search.{any, least, afterLast, firstFrom}
 use Rattle.ternary.specs.Pattern.{Words}
 use Rattle.records.specs.Record.{slotWords, empty, ident, recordOf}
-use Rattle.records.specs.Order.{slots, sameId, tied, precedes, replaceable}
+use Rattle.records.specs.Order.{slots, sameId, tied, precedes, obscures, Obscures, replaceable}
 use Rattle.records.specs.Checks.{lowest, orElse, tableChecks}
 use Rattle.records.specs.Editions.{Given, ranked, checkGiven}
 use Rattle.records.specs.declared.Rule.{Rule}
@@ -57,6 +57,19 @@ replaces w u t new = ltb (replacedSlot w u t new) (slots w t)
 
 abbrev pub replacedId : ℕ → Bool → List ℕ → Words → ℕ
 replacedId w u t new = ident w (slotWords w t (replacedSlot w u t new))
+
+-- document 02, 2026-05: the lowest slot of a higher-ranked rule that alone covers the new one, or 65,535 for none
+unfoldable pub coveringSlot : ℕ → List ℕ → Words → ℕ
+coveringSlot w t new = firstFrom (λ (i : ℕ). obscures w (slotWords w t i) new) 0 (slots w t)
+
+-- in words: slot c is the lowest of a higher-ranked rule that alone covers the new one; or there is none
+pub record CoveredAt (w : ℕ) (t : List ℕ) (new : Words) (c : ℕ) : Type 0 where
+  pub inside : c < slots w t
+  pub obscuring : Obscures w (slotWords w t c) new
+  pub lowest : (i : ℕ) → i < c → Obscures w (slotWords w t i) new → ⊥
+
+abbrev pub Uncovered : ℕ → List ℕ → Words → Type 0
+Uncovered w t new = (i : ℕ) → i < slots w t → Obscures w (slotWords w t i) new → ⊥
 
 -- what a rule with its rank is checked for in a table: 6; then nothing more if it replaces a rule, else 8 and 9
 unfoldable pub newChecks : ℕ → Bool → List ℕ → Words → Check

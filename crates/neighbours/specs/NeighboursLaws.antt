@@ -1,23 +1,25 @@
--- Laws on a new rule's checks and neighbours: the searches of the code, and how each check ends.
+-- Laws on a new rule's checks and neighbours, and on the rule that covers it: the searches of the code, and how each check ends.
 use mathlib.Core.Path.{_≡_, refl, sym, ap, _∙_}
 use mathlib.Core.Bool.{Bool, true, false, cond, true≢false}
+use mathlib.Core.Logic.{_↔_, _⊎_}
 use mathlib.Core.List.{List}
 use Prim.Native.Nat.{ℕ, suc, _+_, _-_, _≤_, _<_}
 use native.Mathlib.Omega.{arith}
 use borrow.Author.Tests.{lt-ltb, le-ltb, ltb-true, ltb-false}
 use Rattle.search.specs.Search.{least}
-use Rattle.search.specs.SearchLaws.{any-some, any-none, least-law, least-none, after-last-law}
+use Rattle.search.specs.SearchLaws.{any-some, any-none, least-law, least-none, after-last-law, first-is, first-none, first-either}
 use Rattle.ternary.specs.Pattern.{Words}
 use Rattle.records.specs.Record.{slotWords, empty, ident}
-use Rattle.records.specs.Order.{slots, sameId, tied, precedes, replaceable, Replaceable}
+use Rattle.records.specs.Order.{slots, sameId, tied, precedes, replaceable, Replaceable, obscures}
 use Rattle.records.specs.Laws.{or-else-pass, lowest-pass, same-id-law}
 use Rattle.records.specs.EntriesLaws.{refuted}
 use Rattle.records.specs.EqualLaws.{replaceable-law, equal-tied}
+use Rattle.records.specs.ObscuredLaws.{obscures-law}
 use Rattle.records.specs.Checks.{orElse}
 use Rattle.records.specs.declared.Cause.the-variants.{Known, Tie, Full, Crossed}
 use Rattle.records.specs.declared.Check.{Check}
 use Rattle.records.specs.declared.Check.the-variants.{Pass, Fail}
-use Rattle.neighbours.specs.Neighbours.{checkKnown, checkTie, checkFull, afterA, slotB, crossedBy, replacedSlot, replaces, newChecks}
+use Rattle.neighbours.specs.Neighbours.{checkKnown, checkTie, checkFull, afterA, slotB, crossedBy, replacedSlot, replaces, coveringSlot, CoveredAt, Uncovered, newChecks}
 
 -- a loop over the slots ends in one of two ways
 pub room-at : (w : ℕ) (t : List ℕ) (i : ℕ) → i < slots w t → empty w (slotWords w t i) ≡ true → Pass ≡ checkFull w t
@@ -117,3 +119,32 @@ new-adds w u t new counted e f g =
     untied-none w u t new (lowest-pass Known (λ (i : ℕ). sameId w (slotWords w t i) new) (slots w t) .0 g)
     (lowest-pass Tie (λ (i : ℕ). tied w u (slotWords w t i) new) (slots w t) .0 (or-else-pass (checkTie w u t new) (checkFull w t) .0 (sym e ∙ f) .0))
     (λ named. absurd (true≢false (sym named ∙ counted)))
+
+-- the slot that is told exactly where it is the lowest that covers the new rule, and 65,535 exactly where none does
+pub covered-at : (w : ℕ) (t : List ℕ) (new : Words) → slots w t ≤ 65535 → (c : ℕ) → ((c < slots w t) × (coveringSlot w t new ≡ c)) ↔ CoveredAt w t new c
+unfolding coveringSlot
+covered-at w t new few c = (
+  λ e. let z = first-is p 0 (slots w t) (omega arith) few c (e .0) .0 (e .1) in
+      record { inside = e .0; obscuring = obscures-law w (slotWords w t c) new .0 (z .1); lowest = λ i h o. true≢false (sym (obscures-law w (slotWords w t i) new .1 o) ∙ z .2 i (omega arith) h) },
+  λ r. (
+    r .inside,
+    first-is p 0 (slots w t) (omega arith) few c (r .inside) .1
+        (omega arith, obscures-law w (slotWords w t c) new .1 (r .obscuring), λ i l h. refuted (λ e. r .lowest i h (obscures-law w (slotWords w t i) new .0 e))),
+  ),
+)
+  where
+    p : ℕ → Bool
+    p i = obscures w (slotWords w t i) new
+
+pub covered-none : (w : ℕ) (t : List ℕ) (new : Words) → slots w t ≤ 65535 → (coveringSlot w t new ≡ 65535) ↔ Uncovered w t new
+unfolding coveringSlot
+covered-none w t new few =
+    let law = first-none (λ (i : ℕ). obscures w (slotWords w t i) new) 0 (slots w t) (omega arith) few in (
+      λ e i h o. true≢false (sym (obscures-law w (slotWords w t i) new .1 o) ∙ law .0 e i (omega arith) h),
+      λ none. law .1 (λ i l h. refuted (λ e. none i h (obscures-law w (slotWords w t i) new .0 e))),
+    )
+
+-- a slot is told, or that there is none
+pub covered-either : (w : ℕ) (t : List ℕ) (new : Words) → slots w t ≤ 65535 → (coveringSlot w t new < slots w t) ⊎ (coveringSlot w t new ≡ 65535)
+unfolding coveringSlot
+covered-either w t new few = first-either (λ (i : ℕ). obscures w (slotWords w t i) new) 0 (slots w t) (omega arith) few

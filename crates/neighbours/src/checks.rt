@@ -1,6 +1,7 @@
-// A new rule against a table: known id, the rule that it replaces, tie, room, and its neighbours A and B. Checks 5, 18, 6 and 8 to 10 of an insert.
-// The new rule is lent as a table of one slot that holds its record. Rules are compared in tables that pass check 2, and the new one is sound by then.
+// A new rule against a table: known id, the rule that it replaces, tie, room, its neighbours A and B, and the rule that covers it. Checks 5, 18, 6 and 8 to 10 of an insert.
+// The new rule is lent as a table of one slot that holds its record. Ranks of rules that overlap are compared in tables that pass check 2, and the new one is sound by then.
 use crate::NewRule;
+use pairs::obscures_pair;
 use pairs::precedes_pair;
 use pairs::replaceable_pair;
 use pairs::same_id;
@@ -9,6 +10,7 @@ use records::Cause;
 use records::Check;
 use records::Mode;
 use records::NARROW;
+use records::NO_SLOT;
 use records::WIDE;
 use slots::given::check_given;
 use slots::given::rank_record;
@@ -24,7 +26,7 @@ ghost use Rattle.records.specs.Widths.{Width, leaves};
 ghost use Rattle.records.specs.Checks.{orElse, checkRecords};
 ghost use Rattle.records.specs.declared.Check.the-variants.{Pass};
 ghost use Rattle.records.specs.Editions.{lentRule, rankedRecord, checkGiven};
-ghost use Rattle.neighbours.specs.Neighbours.{checkKnown, checkTie, checkFull, afterA, slotB, crossedBy, replacedSlot, replaces, newChecks, ruleChecks, foundCheck, FoundIn};
+ghost use Rattle.neighbours.specs.Neighbours.{checkKnown, checkTie, checkFull, afterA, slotB, crossedBy, replacedSlot, replaces, coveringSlot, newChecks, ruleChecks, foundCheck, FoundIn};
 
 // Check 6: the id is not in the table.
 fn check_known_by(table: &[u64], new: &[u64], mode: Mode) -> Check
@@ -325,4 +327,20 @@ pub fn check_for_insert(
     }
     rank_record(rule, edition, new, mode.width);
     check_new(table, new, mode)
+}
+
+// The lowest slot with a higher-ranked rule that alone covers the new one, or none.
+pub fn covering_slot(table: &[u64], new: &[u64], width: usize) -> u32
+    requires { ⌜ (Width width) × (slots width (now table) ≤ mostSlots) × (length (now new) ≡ recordWords width) ⌝ }
+    ensures { λ r. ⌜ r ≡ coveringSlot width (now (table .entry)) (slotWords width (now (new .entry)) 0) ⌝ }
+{
+    let slots = slot_count(table, width);
+    let mut slot = 0;
+    while slot < slots {
+        if obscures_pair(table, slot, new, 0, width) {
+            return slot as u32;
+        }
+        slot += 1;
+    }
+    NO_SLOT
 }

@@ -1,4 +1,4 @@
-// Two slots side by side: overlap, one id in both, compared, tied, equal, one before the other. Each slot is read in its own table.
+// Two slots side by side: apart, overlapping or covering, one id in both, compared, tied, equal, one before the other. Each slot is read in its own table.
 // A slot of one table and a slot of another, or of the same; a rule to be inserted is a table of one slot.
 use records::Mode;
 use records::NARROW;
@@ -11,15 +11,20 @@ use slots::slot_rank;
 use slots::slot_vacant;
 use slots::slot_word;
 use slots::value_word;
+use ternary::Comparison;
+use ternary::compare_masks;
+use ternary::first_covers;
+use ternary::not_apart;
 ghost use mathlib.Core.Path.{_≡_};
 ghost use mathlib.Core.Bool.{_&&_};
 ghost use Prim.Native.Nat.{_<_};
 ghost use lib.Dec.{eqb};
-ghost use Rattle.records.specs.Record.{slotWords, action, occupied};
+ghost use Rattle.records.specs.Record.{slotWords, mask, action, occupied};
+ghost use Rattle.ternary.specs.Comparison.{masksWithin};
 ghost use Rattle.records.specs.Checks.{checkRecords};
 ghost use Rattle.records.specs.Widths.{Width};
 ghost use Rattle.records.specs.declared.Check.the-variants.{Pass};
-ghost use Rattle.records.specs.Order.{slots, sameId, actionsCompared, compared, tied, precedes, overlapAt, overlapping, samePattern, equalRule, replaceable};
+ghost use Rattle.records.specs.Order.{slots, sameId, actionsCompared, compared, tied, precedes, obscures, overlapAt, overlapping, maskWithinAt, slotComparison, samePattern, equalRule, replaceable};
 
 // Whether two slots' patterns do not differ in one word at bits that both care for. The other's words come first: in the search for pairs it is the later
 // slot, whose words the compiler keeps at hand.
@@ -42,23 +47,59 @@ fn word_overlaps(
     )
 }
 
-// Whether two slots' patterns overlap, the slots read as rules. It ends at the first word that tells them apart. Word 0 stands before the loop: it tells
-// most pairs apart, and the compiled search for pairs is shorter for it.
+// Whether a slot's mask has no bit in one word that another's has not.
+fn mask_within(
+    table: &[u64],
+    slot: usize,
+    others: &[u64],
+    other: usize,
+    index: usize,
+    width: usize,
+) -> bool
+    requires { ⌜ (Width width) × (slot < slots width (now table)) × (other < slots width (now others)) × (index < width) ⌝ }
+    ensures { λ r. ⌜ r ≡ maskWithinAt width (slotWords width (now (table .entry)) slot) (slotWords width (now (others .entry)) other) index ⌝ }
+{
+    ternary::word_within(
+        mask_word(table, slot, index, width),
+        mask_word(others, other, index, width),
+    )
+}
+
+// What two slots' patterns are to each other, the slots read as rules: of two that overlap the one covers whose mask lies within the other's. It ends at the
+// first word that tells them apart. Word 0 stands before the loop: it tells most pairs apart, and the compiled search for pairs is shorter for it.
+fn compare_slots(
+    table: &[u64],
+    slot: usize,
+    others: &[u64],
+    other: usize,
+    width: usize,
+) -> Comparison
+    requires { ⌜ (Width width) × (slot < slots width (now table)) × (other < slots width (now others)) ⌝ }
+    ensures { λ r. ⌜ r ≡ slotComparison width (slotWords width (now (table .entry)) slot) (slotWords width (now (others .entry)) other) ⌝ }
+{
+    if !word_overlaps(table, slot, others, other, 0, width) {
+        return Comparison::Apart;
+    }
+    let mut first = mask_within(table, slot, others, other, 0, width);
+    let mut second = mask_within(others, other, table, slot, 0, width);
+    let mut index = 1;
+    while index < width {
+        if !word_overlaps(table, slot, others, other, index, width) {
+            return Comparison::Apart;
+        }
+        first = first & mask_within(table, slot, others, other, index, width);
+        second = second & mask_within(others, other, table, slot, index, width);
+        index += 1;
+    }
+    compare_masks(first, second)
+}
+
+// Whether two slots' patterns overlap: they are not apart. The compiler leaves out what the comparison tells besides.
 fn slots_overlap_by(table: &[u64], slot: usize, others: &[u64], other: usize, width: usize) -> bool
     requires { ⌜ (Width width) × (slot < slots width (now table)) × (other < slots width (now others)) ⌝ }
     ensures { λ r. ⌜ r ≡ overlapping width (slotWords width (now (table .entry)) slot) (slotWords width (now (others .entry)) other) ⌝ }
 {
-    if !word_overlaps(table, slot, others, other, 0, width) {
-        return false;
-    }
-    let mut index = 1;
-    while index < width {
-        if !word_overlaps(table, slot, others, other, index, width) {
-            return false;
-        }
-        index += 1;
-    }
-    true
+    not_apart(compare_slots(table, slot, others, other, width))
 }
 
 // The same, with the width a constant for the compiler: it makes a copy for each.
@@ -231,4 +272,45 @@ pub fn precedes_pair(table: &[u64], slot: usize, others: &[u64], other: usize, m
         return false;
     }
     compared_rules(table, slot, others, other, mode)
+}
+
+// Whether a slot's mask has no bit that another's has not. It ends at the first word that has one.
+fn masks_within(table: &[u64], slot: usize, others: &[u64], other: usize, width: usize) -> bool
+    requires { ⌜ (Width width) × (slot < slots width (now table)) × (other < slots width (now others)) ⌝ }
+    ensures { λ r. ⌜ r ≡ masksWithin width (mask width (slotWords width (now (table .entry)) slot)) (mask width (slotWords width (now (others .entry)) other)) ⌝ }
+{
+    let mut index = 0;
+    while index < width {
+        if !mask_within(table, slot, others, other, index, width) {
+            return false;
+        }
+        index += 1;
+    }
+    true
+}
+
+// Whether a rule obscures another: it covers it, and its rank is the higher one. Ranks first: an empty slot's is 0, so that it obscures none. Then the masks:
+// they tell most rules that overlap, whose comparison goes on to the last word.
+fn obscures_by(table: &[u64], slot: usize, others: &[u64], other: usize, width: usize) -> bool
+    requires { ⌜ (Width width) × (slot < slots width (now table)) × (other < slots width (now others)) ⌝ }
+    ensures { λ r. ⌜ r ≡ obscures width (slotWords width (now (table .entry)) slot) (slotWords width (now (others .entry)) other) ⌝ }
+{
+    if slot_rank(table, slot, width) <= slot_rank(others, other, width) {
+        return false;
+    }
+    if !masks_within(table, slot, others, other, width) {
+        return false;
+    }
+    first_covers(compare_slots(table, slot, others, other, width))
+}
+
+// The same, with the width a constant for the compiler: it makes a copy for each.
+pub fn obscures_pair(table: &[u64], slot: usize, others: &[u64], other: usize, width: usize) -> bool
+    requires { ⌜ (Width width) × (slot < slots width (now table)) × (other < slots width (now others)) ⌝ }
+    ensures { λ r. ⌜ r ≡ obscures width (slotWords width (now (table .entry)) slot) (slotWords width (now (others .entry)) other) ⌝ }
+{
+    if width == NARROW {
+        return obscures_by(table, slot, others, other, NARROW);
+    }
+    obscures_by(table, slot, others, other, WIDE)
 }

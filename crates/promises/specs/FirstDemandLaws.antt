@@ -91,7 +91,7 @@ told-declines rows told result spot spot′ answer e f = ⊎-elim went declined 
         }
 
 -- a refusal leaves a data cell, and the lent buffer or table
-cell-kept : (told : Told) (k before : ℕ) → IsRefusal (told .number) → dataCell told k before ≡ before
+pub cell-kept : (told : Told) (k before : ℕ) → IsRefusal (told .number) → dataCell told k before ≡ before
 cell-kept told k before refused = ap (λ (zero-number : Bool). cond zero-number (getD (told .values) k 0) before) (ne-eqb (told .number) 0 refused)
 
 buffer-kept : (checks : Check) (contents buffer : List ℕ) → IsRefusal (bufferAnswer checks (length contents) (length buffer) .number)

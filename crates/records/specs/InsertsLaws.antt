@@ -10,8 +10,8 @@ use lib.Dec.{eqb}
 use lib.ListN.{length, getD, take, length-map}
 use Rattle.search.specs.Search.{least, afterLast}
 use Rattle.search.specs.SearchLaws.{least-law, least-cong, after-last-law, after-last-cong}
-use Rattle.ternary.specs.Pattern.{Words, Overlap, overlaps}
-use Rattle.ternary.specs.PatternLaws.{overlaps-law, overlaps-cong}
+use Rattle.ternary.specs.Pattern.{Words, overlaps}
+use Rattle.ternary.specs.PatternLaws.{overlap-turned, overlaps-law, overlaps-cong}
 use Rattle.layout.specs.Held.{NewId}
 use Rattle.layout.specs.Plan.{Choice, afterPreceding, firstDependant, writes}
 use Rattle.layout.specs.Valid.{Between, Placed}
@@ -35,15 +35,15 @@ use Rattle.records.specs.EntriesLaws.{occupied-at, entry-laws, order-ent
 use Rattle.records.specs.WritesLaws.{words-back, apply-plan, plan-below, plan-entries}
 use Rattle.records.specs.Inserts.{Untied, planWords, insertChoiceOf, IdNew}
 
-overlap-turned : (w : ℕ) (a b : Words) → Overlap w (value a) (mask w a) (value b) (mask w b) → Overlap w (value b) (mask w b) (value a) (mask w a)
-overlap-turned w a b o j h i c = o j h i (c .1, c .0, λ e. c .2 (sym e))
-
 -- overlap, in either order
 pub overlapping-turned : (w : ℕ) (a b : Words) → overlapping w a b ≡ overlapping w b a
 overlapping-turned w a b =
     let l = overlaps-law w (value a) (mask w a) (value b) (mask w b) in
     let m = overlaps-law w (value b) (mask w b) (value a) (mask w a) in
-    same-truth (overlapping w a b) (overlapping w b a) (λ e. m .1 (overlap-turned w a b (l .0 e)), λ e. l .1 (overlap-turned w b a (m .0 e)))
+    same-truth (overlapping w a b) (overlapping w b a) (
+      λ e. m .1 (overlap-turned w (value a) (mask w a) (value b) (mask w b) (l .0 e)),
+      λ e. l .1 (overlap-turned w (value b) (mask w b) (value a) (mask w a) (m .0 e)),
+    )
 
 pub tied-turned : (w : ℕ) (u : Bool) (a b : Words) → tied w u a b ≡ tied w u b a
 unfolding tied
@@ -58,7 +58,7 @@ precedes-untied w u a b untied = same-truth (precedes w u a b) (misordered w u b
     back e =
         let s = misordered-law w u b a .0 e in
         let o = s .0 in
-        let turned : Overlapping w u a b = (o .1, o .0, λ d. o .2 (sym d), overlap-turned w b a (o .3), λ named d. o .4 named (sym d)) in
+        let turned : Overlapping w u a b = (o .1, o .0, λ d. o .2 (sym d), overlap-turned w (value b) (mask w b) (value a) (mask w a) (o .3), λ named d. o .4 named (sym d)) in
         let ne : rank w a ≢ rank w b = λ d. true≢false (sym (tied-law w u a b .1 (turned, d)) ∙ untied) in
         precedes-law w u a b .1 (turned, omega (arith, s .1))
 

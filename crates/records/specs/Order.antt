@@ -1,4 +1,4 @@
--- Two records side by side: overlap, precedence, one id in two slots, equal rules, and which pair is out of order. A table's order.
+-- Two records side by side: overlap, precedence, cover, one id in two slots, equal rules, and which pair is out of order. A table's order.
 -- Copies of one id are not compared with each other, so that these definitions hold in the middle of a plan too.
 -- u: the table is named as uncounted (document 02, 2026-11). `compared` and `replaceable` alone ask it.
 use mathlib.Core.Path.{_≡_}
@@ -8,8 +8,10 @@ use Prim.Native.Nat.{ℕ, _*_, _/_, _<_}
 use lib.Dec.{eqb, ltb, leb}
 use lib.ListN.{length}
 use Rattle.search.specs.Search.{all}
-use Rattle.ternary.specs.Word.{agree, both}
+use Rattle.ternary.specs.Word.{agree, inside, both}
 use Rattle.ternary.specs.Pattern.{Words, Overlap, overlaps}
+use Rattle.ternary.specs.Comparison.{Covers, covers, comparison}
+use Rattle.ternary.specs.declared.Comparison.{Comparison}
 use Rattle.records.specs.Record.{recordWords, slotWords, value, mask, ident, action, rank, occupied}
 
 -- how many slots a table has
@@ -22,6 +24,14 @@ overlapAt w a b j = agree (value a j) (value b j) (both (mask w a j) (mask w b j
 
 abbrev pub overlapping : ℕ → Words → Words → Bool
 overlapping w a b = overlaps w (value a) (mask w a) (value b) (mask w b)
+
+-- the first mask has no bit in word j that the second has not
+abbrev pub maskWithinAt : ℕ → Words → Words → ℕ → Bool
+maskWithinAt w a b j = inside (mask w a j) (mask w b j)
+
+-- document 02, 2026-05: what two records' patterns are to each other
+abbrev pub slotComparison : ℕ → Words → Words → Comparison
+slotComparison w a b = comparison w (value a) (mask w a) (value b) (mask w b)
 
 -- two rules of different ids: copies of one id are not compared with each other
 unfoldable pub distinct : ℕ → Words → Words → Bool
@@ -42,6 +52,11 @@ precedes w u a b = (overlapping w a b && ltb (rank w b) (rank w a)) && compared 
 -- document 01: an overlap at equal priority, by document 02 at equal rank
 unfoldable pub tied : ℕ → Bool → Words → Words → Bool
 tied w u a b = (overlapping w a b && eqb (rank w a) (rank w b)) && compared w u a b
+
+-- document 02, 2026-05: a rule is obscured when a higher one covers it; ids and actions are not looked at. The rank of an empty slot is 0, so that it
+-- obscures none
+unfoldable pub obscures : ℕ → Words → Words → Bool
+obscures w a b = ltb (rank w b) (rank w a) && covers w (value a) (mask w a) (value b) (mask w b)
 
 -- one id stands in both slots
 unfoldable pub sameId : ℕ → Words → Words → Bool
@@ -96,3 +111,9 @@ pub record EqualRules (w : ℕ) (a b : Words) : Type 0 where
 pub record Replaceable (w : ℕ) (u : Bool) (a b : Words) : Type 0 where
   pub equal : EqualRules w a b
   pub actions : u ≡ true → action w a ≡ action w b
+
+-- In words: a rule is obscured by one of higher rank that alone covers it.
+pub record Obscures (w : ℕ) (a b : Words) : Type 0 where
+  pub holds : occupied w a ≡ true
+  pub higher : rank w b < rank w a
+  pub covering : Covers w (value a) (mask w a) (value b) (mask w b)

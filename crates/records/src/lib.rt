@@ -36,6 +36,9 @@ pub const MOST_PRIORITY: u64 = 65535;
 
 pub const EXACT_RANK: u64 = 65536;
 
+// What an answer has in place of a slot where there is none.
+pub const NO_SLOT: u32 = 65535;
+
 // How a call reads its tables: how many words a value has, and whether the table is one without counters, in which only rules of different actions are ordered.
 pub struct Mode {
     pub width: usize,

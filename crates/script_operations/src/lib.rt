@@ -2,6 +2,7 @@
 // The table is lent as its own words, and nothing else of the memory; the output has room for the longest answer.
 use buffers::PlanAnswer;
 use buffers::PlanInfo;
+use buffers::without_cover;
 use delete_plans::plan_delete;
 use insert_plans::plan_rule;
 use lookups::Hit;
@@ -125,7 +126,7 @@ fn insert(table: &mut [u64], rule: Rule, plan: &mut [u32], out: &mut [u8; 14343]
     ensures { λ r. ⌜ Changed (insertOutcome (now (table .entry)) rule) (r .length) (now (table .exit)) (now (out .entry)) (now (out .exit)) ⌝ }
     ensures { λ r. ⌜ lineTold (r .answer) ≡ insertTold (now (table .entry)) rule ⌝ }
 {
-    let answer = plan_rule(table, rule, plan);
+    let answer = without_cover(plan_rule(table, rule, plan));
     let length = carry_and_print(answer, table, plan, rule, out);
     Said {
         length,

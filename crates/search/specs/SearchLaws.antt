@@ -6,7 +6,9 @@ use mathlib.Core.Logic._⊎_.{inl, inr}
 use Prim.Native.Nat.{ℕ, zero, suc, _+_, _-_, _≤_, _<_}
 use native.Mathlib.Omega.{arith}
 use native.Mathlib.Decide.{ℕ-discrete, decLt}
-use Rattle.search.specs.Search.{all, any, least, AfterLast, Least, afterLast, NoneFrom, NoneAbove, AllBelow}
+use lib.Dec.{ltb}
+use borrow.Author.Tests.{lt-ltb, le-ltb}
+use Rattle.search.specs.Search.{all, any, least, AfterLast, Least, afterLast, firstFrom, NoneFrom, NoneAbove, AllBelow}
 
 -- a Bool is one of the two, with the equation at hand
 pub decided : (b : Bool) → (b ≡ true) ⊎ (b ≡ false)
@@ -57,6 +59,11 @@ all-law p (suc n) = (
   λ e. below-suc (λ (j : ℕ). p j ≡ true) n (all-law p n .0 (and-left (all p n) (p n) e)) (and-right (all p n) (p n) e),
   λ h. and-both (all p n) (p n) (all-law p n .1 (λ j l. h j (omega arith))) (h n (omega arith)),
 )
+
+-- one index more
+pub all-next : (p : ℕ → Bool) (n : ℕ) → all p (n + 1) ≡ all p n && p n
+unfolding all
+all-next p n = let e : n + 1 ≡ suc n = omega arith in rw e
 
 -- a test that fails below n
 pub all-not : (p : ℕ → Bool) (n j : ℕ) → j < n → p j ≡ false → all p n ≡ false
@@ -154,6 +161,57 @@ least-shift p (suc k) i = pick (decided (p (suc i))) (least-shift p k (suc i))
         → cond (p (suc i)) (suc i) (least p k (suc (suc i))) ≡ suc (cond (p (suc i)) i (least (λ j. p (suc j)) k (suc i)))
     pick (inl t) e = rw t
     pick (inr t) e = rw t e
+
+-- the first index from a start up to an end at which a test holds: there is none, or one before which it does not hold
+pub first-from-none : (p : ℕ → Bool) (from to : ℕ) → from ≤ to → ((i : ℕ) → from ≤ i → i < to → p i ≡ false) → firstFrom p from to ≡ 65535
+unfolding firstFrom
+first-from-none p from to l f =
+    let q : least p (to - from) from ≡ to
+    = least-unique (least-law p (to - from) from)
+    (record { low = l; high = omega arith; before = λ i a b. f i a b; hit = λ u. absurd (omega arith) }) in
+    rw (le-ltb (least p (to - from) from) to (omega arith))
+
+pub first-from-at : (p : ℕ → Bool) (from to m : ℕ) → from ≤ m → m < to → p m ≡ true → ((i : ℕ) → from ≤ i → i < m → p i ≡ false) → firstFrom p from to ≡ m
+unfolding firstFrom
+first-from-at p from to m a b t f =
+    let q : least p (to - from) from ≡ m
+    = least-unique (least-law p (to - from) from)
+    (record { low = a; high = omega arith; before = λ i x y. f i x y; hit = λ u. t }) in
+    rw (lt-ltb (least p (to - from) from) to (omega arith)) q
+
+-- and what a number that it gives says
+module _ (p : ℕ → Bool) (from to : ℕ) (room : from ≤ to) (few : to ≤ 65535) where
+  abbrev m : ℕ
+  m = least p (to - from) from
+
+  first-law : Least p from (from + (to - from)) m
+  first-law = least-law p (to - from) from
+
+  pub first-is : (d : ℕ) → d < to → (firstFrom p from to ≡ d) ↔ ((from ≤ d) × (p d ≡ true) × ((y : ℕ) → from ≤ y → y < d → p y ≡ false))
+  unfolding firstFrom
+  first-is d l = (by (decLt m to), λ z. first-from-at p from to d (z .0) l (z .1) (z .2))
+    where
+      by : Dec (m < to) → cond (ltb m to) m 65535 ≡ d → (from ≤ d) × (p d ≡ true) × ((y : ℕ) → from ≤ y → y < d → p y ≡ false)
+      by (yes a) e =
+          let q : m ≡ d = sym (ap (λ (b : Bool). cond b m 65535) (lt-ltb m to a)) ∙ e in
+          (omega (arith, first-law .low, q), ap p (sym q) ∙ first-law .hit (omega arith), λ y u v. first-law .before y u (omega (arith, q)))
+      by (no a) e = absurd (let q : 65535 ≡ d = sym (ap (λ (b : Bool). cond b m 65535) (le-ltb m to (omega arith))) ∙ e in omega (arith, q))
+
+  pub first-either : (firstFrom p from to < to) ⊎ (firstFrom p from to ≡ 65535)
+  unfolding firstFrom
+  first-either = by (decLt m to)
+    where
+      by : Dec (m < to) → (cond (ltb m to) m 65535 < to) ⊎ (cond (ltb m to) m 65535 ≡ 65535)
+      by (yes a) = inl (rw (lt-ltb m to a) a)
+      by (no a) = inr (rw (le-ltb m to (omega arith)))
+
+  pub first-none : (firstFrom p from to ≡ 65535) ↔ ((y : ℕ) → from ≤ y → y < to → p y ≡ false)
+  unfolding firstFrom
+  first-none = (by (decLt m to), first-from-none p from to room)
+    where
+      by : Dec (m < to) → cond (ltb m to) m 65535 ≡ 65535 → (y : ℕ) → from ≤ y → y < to → p y ≡ false
+      by (yes a) e y u v = absurd (let q : m ≡ 65535 = sym (ap (λ (b : Bool). cond b m 65535) (lt-ltb m to a)) ∙ e in omega (arith, q))
+      by (no a) e y u v = first-law .before y u (omega arith)
 
 -- the invariant of a search loop that counts up: the test has held nowhere below i
 abbrev pub NoneBelow : (ℕ → Bool) → ℕ → ℕ → Type 0

@@ -10,7 +10,7 @@ use Rattle.records.specs.Checks.{Told}
 use Rattle.records.specs.Editions.{lentRule, ranked}
 use Rattle.lookups.specs.Lookup.{lookupCall, FirstAt, NoMatch}
 use Rattle.delete_plans.specs.Deletes.{deleteCall, deleteCallPlan}
-use Rattle.insert_plans.specs.Inserts.{insertCall, insertCallPlan}
+use Rattle.insert_plans.specs.Inserts.{insertCall, insertCallPlan, insertCallReply}
 use Rattle.insert_plans.specs.Insertable.{InsertableCall}
 use Rattle.insert_plans.specs.Demand3.{Demand3}
 use Rattle.marshalling.specs.Cells.{dataCell, spotCell}
@@ -48,6 +48,10 @@ pub record PlanLeft (told : Told) (planned : List ℕ) (result : ℕ) (after : L
 pub record InsertLeft (w : ℕ) (u : Bool) (e : ℕ) (t rule : List ℕ) (result : ℕ) (plan after : List ℕ) (count count′ spot spot′ : ℕ) : Type 0 where
   pub left : PlanLeft (insertCall w u e t rule (length plan)) (insertCallPlan w u e t rule plan) result after count count′ spot spot′
   pub shortest : InsertableCall w u e t rule → Demand3 w u t (ranked w (lentRule w e rule)) (insertCall w u e t rule (length plan)) plan after
+
+-- and in the cell for the slot of the rule that covers the new one (document 02, 2026-05), the second value of a success
+abbrev pub CoverLeft : ℕ → Bool → ℕ → List ℕ → List ℕ → ℕ → ℕ → ℕ → Type 0
+CoverLeft w u e t rule room covered covered′ = covered′ ≡ dataCell (insertCallReply w u e t rule room) 1 covered
 
 -- a delete
 abbrev pub DeleteLeft : ℕ → Bool → List ℕ → ℕ → ℕ → List ℕ → List ℕ → ℕ → ℕ → ℕ → ℕ → Type 0

@@ -4,15 +4,17 @@ pub mod carry;
 pub mod images;
 
 ghost use mathlib.Core.Path.{_≡_};
+ghost use lib.ListN.{length};
 ghost use Rattle.lookups.specs.Lookup.{partStartCall, partLengthCall};
 ghost use Rattle.marshalling.specs.Cells.{flagOf};
-ghost use Rattle.tcam.specs.Cells.{LookupLeft, InsertLeft, DeleteLeft};
+ghost use Rattle.tcam.specs.Cells.{LookupLeft, InsertLeft, CoverLeft, DeleteLeft};
 use delete_plans::plan_delete;
 use insert_plans::plan_insert;
 use lookups::LookupAnswer;
 use lookups::lookup::lookup;
 use lookups::lookup::slot_record;
 use marshalling::spread;
+use marshalling::spread_insert;
 use records::Mode;
 use records::cause_number;
 
@@ -65,7 +67,7 @@ pub extern "C" fn tcam_slot_record(table: &[u64], width: u32, slot: u32, first: 
     words
 }
 
-// The shortest plan of an insert, into the lent buffer: its count, or a refusal.
+// The shortest plan of an insert, into the lent buffer: its count and the slot of the rule that covers the new one, or a refusal.
 #[no_mangle]
 pub extern "C" fn tcam_plan_insert(
     table: &[u64],
@@ -75,16 +77,18 @@ pub extern "C" fn tcam_plan_insert(
     edition: u32,
     plan: &mut [u32],
     count: &mut u32,
+    covered: &mut u32,
     spot: &mut u32,
 ) -> u32
     ensures { λ r. ⌜ InsertLeft width (flagOf uncounted) edition (now (table .entry)) (now (rule .entry)) r (now (plan .entry)) (now (plan .exit)) (now (count .entry)) (now (count .exit)) (now (spot .entry)) (now (spot .exit)) ⌝ }
+    ensures { λ _. ⌜ CoverLeft width (flagOf uncounted) edition (now (table .entry)) (now (rule .entry)) (length (now (plan .entry))) (now (covered .entry)) (now (covered .exit)) ⌝ }
 {
     let mode = Mode {
         width: width as usize,
         uncounted: uncounted != 0,
     };
     let answer = plan_insert(table, rule, edition, plan, mode);
-    spread(answer, count, spot)
+    spread_insert(answer, count, covered, spot)
 }
 
 // The plan of a delete, into the lent buffer: its count, or a refusal.

@@ -3,7 +3,7 @@
 use mathlib.Core.Path.{_≡_, refl, sym, ap, ap₂, _∙_}
 use mathlib.Core.Logic.{_↔_}
 use Prim.Native.Nat.{ℕ, zero, suc, _+_, _*_, _/_, _%_, _^_, _≤_, _<_, min, max}
-use native.Mathlib.Nat.{mod-lt, zero-lt-suc, pow-suc, mul-comm, zero-div, div-one, div-div-eq-div-mul}
+use native.Mathlib.Nat.{mod-lt, zero-lt-suc, pow-suc, pow-le-pow-right, mul-comm, zero-div, div-one, div-eq-of-lt, div-div-eq-div-mul, lt-of-lt-of-le}
 use native.Mathlib.Omega.{arith}
 use lib.Bits.{bitAnd, bitOr, bitXor, and-step, or-step, xor-step, and-shr, or-shr, xor-shr, differ}
 use lib.Arith.{bin-ind}
@@ -110,3 +110,8 @@ bit-ones i h = set-below 64 i h
 pub bit-past-ones : (i : ℕ) → 64 ≤ i → bit ones i ≡ 0
 unfolding allBits
 bit-past-ones i h = unset-above 64 i h
+
+-- a number below 2^k has no bit from k on
+pub bit-past : (k x i : ℕ) → x < 2 ^ k → k ≤ i → bit x i ≡ 0
+unfolding bit
+bit-past k x i h past = ap (λ (y : ℕ). y % 2) (div-eq-of-lt (lt-of-lt-of-le h (pow-le-pow-right (zero-lt-suc 1) past)))

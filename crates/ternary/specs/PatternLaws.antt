@@ -75,6 +75,9 @@ overlaps-law w value mask value′ mask′ =
     each (λ (j : ℕ). agree (value j) (value′ j) (both (mask j) (mask′ j))) (λ (j : ℕ). (i : ℕ) → Clash value mask value′ mask′ j i → ⊥)
     (no-clash value mask value′ mask′) w
 
+pub overlap-turned : (w : ℕ) (value mask value′ mask′ : Words) → Overlap w value mask value′ mask′ → Overlap w value′ mask′ value mask
+overlap-turned w value mask value′ mask′ o j h i clash = o j h i (clash .1, clash .0, λ e. clash .2 (sym e))
+
 pub common-matches : (w : ℕ) (value mask value′ mask′ : Words) → overlaps w value mask value′ mask′ ≡ true
     → (matches w (commonKey value mask value′ mask′) value mask ≡ true) × (matches w (commonKey value mask value′ mask′) value′ mask′ ≡ true)
 unfolding matches overlaps commonKey

@@ -1,4 +1,4 @@
--- The three tests of one word, by masks and exclusive-or against zero, which the code computes.
+-- The tests of one word, by masks and exclusive-or against zero, which the code computes.
 use mathlib.Core.Bool.{Bool}
 use Prim.Native.Nat.{ℕ}
 use lib.Dec.{eqb}

@@ -1,15 +1,15 @@
 -- Laws on the tests of one word: what each says of every bit position.
-use mathlib.Core.Path.{_≡_, sym, ap, _∙_}
+use mathlib.Core.Path.{_≡_, refl, sym, ap, ap₂, _∙_}
 use mathlib.Core.Bool.{true}
 use mathlib.Core.Logic.{_↔_}
 use Prim.Native.Nat.{ℕ, zero, suc, _^_, _<_, min, max}
 use native.Mathlib.Omega.{arith}
 use native.Mathlib.Decide.{ℕ-discrete, decLt}
 use lib.Dec.{eqb}
-use lib.Bits.{bitAnd, bitXor, differ, and-lt, or-lt}
+use lib.Bits.{bitAnd, bitXor, differ, and-lt, or-lt, xor-lt}
 use borrow.Author.Tests.{eqb-true, eq-eqb}
 use Rattle.ternary.specs.Bit.{bit}
-use Rattle.ternary.specs.BitLaws.{bit-lt, bit-and, bit-or, bit-xor, zero-bits, bit-ones, bit-past-ones}
+use Rattle.ternary.specs.BitLaws.{bit-lt, bit-and, bit-or, bit-xor, zero-bits, bit-ones, bit-past-ones, bit-past}
 use Rattle.ternary.specs.Word.{inside, common, agree, both, ones}
 
 -- a test against zero, bit by bit
@@ -65,6 +65,21 @@ inside-law v m = (
 
     at : (i : ℕ) → bit (bitXor (bitAnd v m) v) i ≡ differ (min (bit v i) (bit m i)) (bit v i)
     at i = bit-xor (bitAnd v m) v i ∙ ap (λ (x : ℕ). differ x (bit v i)) (bit-and v m i)
+
+-- so each bit of v is one of m
+pub inside-set : (v m : ℕ) → (inside v m ≡ true) ↔ ((i : ℕ) → bit v i ≡ 1 → bit m i ≡ 1)
+inside-set v m = (
+  λ e i set. pick i set (ℕ-discrete (bit m i) 0) (inside-law v m .0 e i),
+  λ h. inside-law v m .1 (λ i z. unset i z (ℕ-discrete (bit v i) 0) (h i)),
+)
+  where
+    pick : (i : ℕ) → bit v i ≡ 1 → Dec (bit m i ≡ 0) → (bit m i ≡ 0 → bit v i ≡ 0) → bit m i ≡ 1
+    pick i set (yes z) f = absurd (omega (arith, set, f z))
+    pick i set (no z) f = omega (arith, bit-lt m i)
+
+    unset : (i : ℕ) → bit m i ≡ 0 → Dec (bit v i ≡ 0) → (bit v i ≡ 1 → bit m i ≡ 1) → bit v i ≡ 0
+    unset i z (yes e) f = e
+    unset i z (no e) f = absurd (omega (arith, z, f (omega (arith, bit-lt v i))))
 
 -- every bit of a word is set exactly when all bits are inside it
 pub full-word-law : (m : ℕ) → (inside ones m ≡ true) ↔ ((i : ℕ) → i < 64 → bit m i ≡ 1)
@@ -126,3 +141,56 @@ common-right v m w n e =
 pub common-fits : (k v m w n : ℕ) → v < 2 ^ k → w < 2 ^ k → m < 2 ^ k → n < 2 ^ k → common v m w n < 2 ^ k
 unfolding common
 common-fits k v m w n a b c d = or-lt k (bitAnd v m) (bitAnd w n) (and-lt k v m a c) (and-lt k w n b d)
+
+-- a key that agrees with w at each bit of n, and differs from v at every other: v, w and n have 64 bits
+unfoldable pub stray : ℕ → ℕ → ℕ → ℕ
+stray v w n = common w n (bitXor ones v) (bitXor ones n)
+
+-- a bit that is set in a word of 64 bits is one of them
+set-inside : (m i : ℕ) → m < 2 ^ 64 → bit m i ≡ 1 → i < 64
+set-inside m i h e = pick (decLt i 64)
+  where
+    pick : Dec (i < 64) → i < 64
+    pick (yes l) = l
+    pick (no l) = absurd (omega (arith, e, bit-past 64 m i h (omega arith)))
+
+-- the digits of the stray key
+bit-turned : (x i : ℕ) → i < 64 → bit (bitXor ones x) i ≡ differ 1 (bit x i)
+bit-turned x i h = bit-xor ones x i ∙ ap (λ (y : ℕ). differ y (bit x i)) (bit-ones i h)
+
+bit-stray : (v w n i : ℕ) → i < 64 → bit (stray v w n) i ≡ max (min (bit w i) (bit n i)) (min (differ 1 (bit v i)) (differ 1 (bit n i)))
+unfolding stray
+bit-stray v w n i h =
+    bit-common w n (bitXor ones v) (bitXor ones n) i
+    ∙ ap₂ (λ (x y : ℕ). max (min (bit w i) (bit n i)) (min x y)) (bit-turned v i h) (bit-turned n i h)
+
+-- it agrees with w at the bits of n, ..
+stray-cared : (v w n : ℕ) → v < 2 → w < 2 → n ≡ 1 → max (min w n) (min (differ 1 v) (differ 1 n)) ≡ w
+stray-cared v w zero a b e = absurd (omega arith)
+stray-cared v w (suc zero) a b e = omega arith
+stray-cared v w (suc (suc n)) a b e = absurd (omega arith)
+
+pub stray-agrees : (v w n : ℕ) → n < 2 ^ 64 → agree (stray v w n) w n ≡ true
+stray-agrees v w n h =
+    agree-law (stray v w n) w n .1
+    (λ i e. bit-stray v w n i (set-inside n i h e) ∙ stray-cared (bit v i) (bit w i) (bit n i) (bit-lt v i) (bit-lt w i) e)
+
+-- .. and with v at the bits of m only if n has each of these bits, and w the value that v has there
+stray-elsewhere : (n v w : ℕ) → v < 2 → w < 2 → n < 2 → max (min w n) (min (differ 1 v) (differ 1 n)) ≡ v → (n ≡ 1) × (v ≡ w)
+stray-elsewhere zero zero w a b c e = absurd (omega arith)
+stray-elsewhere zero (suc zero) w a b c e = absurd (omega arith)
+stray-elsewhere zero (suc (suc v)) w a b c e = absurd (omega arith)
+stray-elsewhere (suc zero) v w a b c e = (refl, sym e ∙ stray-cared v w 1 a b refl)
+stray-elsewhere (suc (suc n)) v w a b c e = absurd (omega arith)
+
+pub stray-covered : (v w m n : ℕ) → m < 2 ^ 64 → agree (stray v w n) v m ≡ true → (i : ℕ) → bit m i ≡ 1 → (bit n i ≡ 1) × (bit v i ≡ bit w i)
+stray-covered v w m n h e i c =
+    stray-elsewhere (bit n i) (bit v i) (bit w i) (bit-lt v i) (bit-lt w i) (bit-lt n i)
+    (sym (bit-stray v w n i (set-inside m i h c)) ∙ agree-law (stray v w n) v m .0 e i c)
+
+pub stray-fits : (v w n : ℕ) → v < 2 ^ 64 → w < 2 ^ 64 → n < 2 ^ 64 → stray v w n < 2 ^ 64
+unfolding stray
+stray-fits v w n a b c = common-fits 64 w n (bitXor ones v) (bitXor ones n) b (xor-lt 64 ones v all a) c (xor-lt 64 ones n all c)
+  where
+    all : ones < 2 ^ 64
+    all = omega arith

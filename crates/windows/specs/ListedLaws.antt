@@ -8,7 +8,7 @@ use native.Mathlib.Decide.{decLt}
 use native.Mathlib.Omega.{arith}
 use lib.Dec.{ltb}
 use borrow.Author.Tests.{lt-ltb, le-ltb}
-use Rattle.search.specs.Search.{least, afterLast, AfterLast}
+use Rattle.search.specs.Search.{least, afterLast, AfterLast, firstFrom}
 use Rattle.search.specs.SearchLaws.{least-law, least-unique, least-cong, after-last-law}
 use Rattle.records.specs.Record.{slotWords}
 use Rattle.records.specs.Order.{slots, precedes, misordered}
@@ -17,7 +17,7 @@ use Rattle.records.specs.Laws.{tied-law, order-law, slot-checks-law, table-chec
 use Rattle.records.specs.declared.Check.the-variants.{Pass}
 use Rattle.records.specs.EntriesLaws.{refuted, shaped-slots}
 use Rattle.records.specs.InsertsLaws.{precedes-untied}
-use Rattle.neighbour_lists.specs.Lists.{Listed, precedesSlot, nextDependant, lastPreceding, firstFrom, lastBelow}
+use Rattle.neighbour_lists.specs.Lists.{Listed, precedesSlot, nextDependant, lastPreceding, lastBelow}
 use Rattle.windows.specs.Windows.{windowEndAt, misplacedAt, endAfter, endBefore, listedEnd}
 
 -- document 01: in a table in order no two rules tie, so the rule in y may not stand before that in i exactly when it depends on it

@@ -6,9 +6,9 @@ use denote.Ref.{now}
 use borrow.Author.Needs.{needs}
 use Rattle.records.specs.Editions.{lentRule, ranked}
 use Rattle.records.specs.Laws.{failed}
-use Rattle.buffers.specs.BuffersLaws.{buffer-refused}
+use Rattle.buffers.specs.BuffersLaws.{buffer-refused, cover-refused}
 use Rattle.neighbours.specs.Neighbours.{insertChecks}
-use Rattle.insert_plans.specs.Inserts.{plannedWords}
+use Rattle.insert_plans.specs.Inserts.{plannedWords, insertCover}
 use Rattle.insert_plans.proofs.insert_at.Statement.{statement}
 use Rattle.insert_plans.proofs.insert_at.Tie as tie
 
@@ -25,8 +25,10 @@ returns : tie.Need-returns
 unfolding insertChecks
 returns c =
     let a = c .before .before .before .before .before .before .before .before .before .args in
-    buffer-refused (plannedWords (a .mode .width) (a .mode .uncounted) (now (a .table)) (ranked (a .mode .width) (lentRule (a .mode .width) (a .edition) (now (a .rule))))) (now (a .plan))
-    (failed _ (c .before .before .before .before .check-listed .ensures .0) (c .before .check .given .1)) refl
+    let given = lentRule (a .mode .width) (a .edition) (now (a .rule)) in
+    let refused = buffer-refused (plannedWords (a .mode .width) (a .mode .uncounted) (now (a .table)) (ranked (a .mode .width) given)) (now (a .plan))
+    (failed _ (c .before .before .before .before .check-listed .ensures .0) (c .before .check .given .1)) refl in
+    (cover-refused (c .before .check .given .0 .0) (c .before .check .given .0 .1 .0) (insertCover (a .mode .width) (now (a .table)) given) (refused .0), refused .1)
 
 enum-told : tie.Need-enum-told
 enum-told c = search needs

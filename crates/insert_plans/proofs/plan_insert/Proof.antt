@@ -1,15 +1,19 @@
 -- `insert_plans::plan_insert` meets its contract.
 -- The check of the width and of the rule's words decides first, and leaves the buffer as it was; demand 3 is of calls that pass it.
-use mathlib.Core.Path.{sym, ap, _∙_}
+use mathlib.Core.Path.{refl, sym, ap, _∙_}
 use mathlib.Core.Bool.{false≢true}
+use lib.ListN.{length}
 use denote.Ref.{now}
 use borrow.Author.Needs.{needs}
 use Rattle.records.specs.Record.{word}
-use Rattle.records.specs.Checks.{passes}
+use Rattle.records.specs.Checks.{Told, passes}
 use Rattle.records.specs.RulesLaws.{rule-action}
 use Rattle.records.specs.WidthsLaws.{rule-law, call-refused, call-answered}
 use Rattle.records.specs.Editions.{lentRule}
-use Rattle.insert_plans.specs.Inserts.{insertPlan}
+use Rattle.buffers.specs.Buffers.{withCover, withoutCover}
+use Rattle.buffers.specs.BuffersLaws.{cover-refused}
+use Rattle.insert_plans.specs.Inserts.{insertPlan, insertCover}
+use Rattle.insert_plans.specs.InsertsLaws.{reply-dropped}
 use Rattle.insert_plans.specs.Demand3Laws.{demand-3-call}
 use Rattle.insert_plans.proofs.plan_insert.Statement.{statement}
 use Rattle.insert_plans.proofs.plan_insert.Tie as tie
@@ -29,7 +33,7 @@ returns c =
     let checked = c .before .before .before .check-rule .ensures in
     let fails = c .before .lent .given .1 in
     let refused = call-refused _ (insertPlan w u (now (a .table)) (lentRule w (a .edition) (now (a .rule))) plan) plan checked fails in
-    (refused .0, (refused .1, λ p. absurd (false≢true (ap passes (sym fails ∙ (checked ∙ rule-law _ _ .1 (p .width, p .words)))))))
+    (cover-refused (c .before .lent .given .0 .0) (c .before .lent .given .0 .1 .0) (insertCover w (now (a .table)) (lentRule w (a .edition) (now (a .rule)))) (refused .0), (refused .1, λ p. absurd (false≢true (ap passes (sym fails ∙ (checked ∙ rule-law _ _ .1 (p .width, p .words)))))))
 
 enum-told : tie.Need-enum-told
 enum-told c = search needs
@@ -50,8 +54,10 @@ returns-2 c =
     let checked = c .before .before .before .before .before .before .check-rule .ensures in
     let pass = c .before .before .before .before .enum-told .given .1 in
     let called = c .before .before .insert-at .ensures in
-    let answered = call-answered plan checked pass called in
-    (answered .0, (answered .1, λ p. demand-3-call w u (now (a .table)) given plan _ _ (rule-action w (word (now (a .rule)))) (called .0) (called .1) (p .given)))
+    let answered = call-answered plan checked pass (refl, called .1) in
+    let told = called .0 ∙ ap (λ (x : Told). withCover x (insertCover w (now (a .table)) given)) (answered .0) in
+    let dropped = ap withoutCover (called .0) ∙ reply-dropped w u (now (a .table)) given (length plan) in
+    (told, (answered .1, λ p. demand-3-call w u (now (a .table)) given plan _ _ (rule-action w (word (now (a .rule)))) dropped (called .1) (p .given)))
 
 pub plan-insert-spec : {M : Type 1} → statement M
 plan-insert-spec =

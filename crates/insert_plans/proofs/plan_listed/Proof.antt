@@ -14,7 +14,7 @@ use Rattle.records.specs.Checks.{checkRecords}
 use Rattle.records.specs.declared.Check.the-variants.{Pass}
 use Rattle.table_checks.specs.SlotsLaws.{table-few, table-records}
 use Rattle.neighbours.specs.Neighbours.{FoundIn}
-use Rattle.insert_plans.specs.InsertsLaws.{lent-passes, lent-finite, lent-ranked, lent-found}
+use Rattle.insert_plans.specs.InsertsLaws.{lent-passes, lent-finite, lent-ranked, lent-found, lent-covered}
 use Rattle.insert_plans.proofs.plan_listed.Statement.{statement}
 use Rattle.insert_plans.proofs.plan_listed.Tie as tie
 
@@ -38,20 +38,20 @@ check-for-insert-requires c κs =
     let t = now (s .args .table) in
     (s .pre .0 .0, table-few w u t (s .pre .0 .1), s .pre .1, search needs, table-records w u t (s .pre .0 .1))
 
-sub-plan-checked : tie.Need-sub-plan-checked
-sub-plan-checked c = search needs
+sub-plan-covered : tie.Need-sub-plan-covered
+sub-plan-covered c = search needs
 
-part-plan-checked-start : tie.Need-part-plan-checked-start
-part-plan-checked-start c = search needs
+part-plan-covered-start : tie.Need-part-plan-covered-start
+part-plan-covered-start c = search needs
 
-part-plan-checked-end : tie.Need-part-plan-checked-end
-part-plan-checked-end c =
+part-plan-covered-end : tie.Need-part-plan-covered-end
+part-plan-covered-end c =
     let w = c .before .before .before .before .before .before .before .before .before .args .mode .width in
     let long : length (c .before .before .check-for-insert .last .1 .1 .1 .0) ≡ recordWords w = search needs in
     simp length-append (omega (arith, long, c .before .before .before .before .record-words .ensures))
 
-plan-checked-requires : tie.Need-plan-checked-requires
-plan-checked-requires c κs =
+plan-covered-requires : tie.Need-plan-covered-requires
+plan-covered-requires c κs =
     let s = c .before .before .before .before .before .before .before .before .before .before .before in
     let a = s .args in
     let w = a .mode .width in
@@ -91,8 +91,9 @@ returns c =
     let front = take-at _ _ _ (long ∙ (sym (number .ensures) ∙ sym (sub-zero (number .result)))) in
     let ranks = lent-ranked w u (a .edition) t lent _ _ (called .ensures .0) (called .ensures .1 .0) in
     let answered = lent-found w u (a .edition) t lent _ (now (a .plan)) (s .pre .0 .1) (s .pre .1) _ (called .ensures .0) (λ pass. front ∙ ranks pass) in
-    let planned = c .before .before .plan-checked .ensures in
-    (planned .0 ∙ answered .0, planned .1 ∙ answered .1)
+    let planned = c .before .before .plan-covered .ensures in
+    let covered = lent-covered w u (a .edition) t lent _ (now (a .plan)) (s .pre .0 .1) (s .pre .1) _ (called .ensures .0) (λ pass. front ∙ ranks pass) in
+    (planned .0 ∙ covered, planned .1 ∙ answered .1)
 
 pub plan-listed-spec : {M : Type 1} → statement M
 plan-listed-spec =
@@ -103,9 +104,9 @@ plan-listed-spec =
     part-ranked-start
     part-ranked-end
     check-for-insert-requires
-    sub-plan-checked
-    part-plan-checked-start
-    part-plan-checked-end
-    plan-checked-requires
+    sub-plan-covered
+    part-plan-covered-start
+    part-plan-covered-end
+    plan-covered-requires
     same-length
     returns)

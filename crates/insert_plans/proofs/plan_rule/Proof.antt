@@ -14,7 +14,9 @@ use Rattle.records.specs.RulesLaws.{record-length, rule-of-record}
 use Rattle.records.specs.WidthsLaws.{two}
 use Rattle.records.specs.Editions.{under13}
 use Rattle.records.specs.declared.Rule.{Rule}
-use Rattle.insert_plans.specs.Inserts.{insertAnswer, insertPlan}
+use Rattle.buffers.specs.Buffers.{withoutCover}
+use Rattle.insert_plans.specs.Inserts.{insertReply, insertPlan}
+use Rattle.insert_plans.specs.InsertsLaws.{reply-dropped}
 use Rattle.insert_plans.specs.Demand3Laws.{demand-3-rule}
 use Rattle.insert_plans.proofs.plan_rule.Statement.{statement}
 use Rattle.insert_plans.proofs.plan_rule.Tie as tie
@@ -47,9 +49,10 @@ returns c =
     } in
     let same = ap (λ (l : List ℕ). ruleOf 2 (word l)) (c .before .before .before .before .before .record-of .ensures) ∙ rule-of-record 2 (a .rule) fields in
     let called = c .before .before .insert-at .ensures in
-    let told = called .0 ∙ ap (λ (r : Rule). insertAnswer 2 false t (under13 r) (length plan)) same in
+    let told = called .0 ∙ ap (λ (r : Rule). insertReply 2 false t (under13 r) (length plan)) same in
     let buffer = called .1 ∙ ap (λ (r : Rule). insertPlan 2 false t (under13 r) plan) same in
-    (told, (buffer, demand-3-rule 2 false t (a .rule) plan _ _ (fields .action32) told buffer))
+    let dropped = ap withoutCover told ∙ reply-dropped 2 false t (under13 (a .rule)) (length plan) in
+    (told, (buffer, demand-3-rule 2 false t (a .rule) plan _ _ (fields .action32) dropped buffer))
 
 pub plan-rule-spec : {M : Type 1} → statement M
 plan-rule-spec =
