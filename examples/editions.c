@@ -24,9 +24,9 @@ static struct frame frames[] = {
 
 static void put_in(const uint64_t *rule, uint32_t edition)
 {
-    uint32_t plan[SLOTS], count, spot;
-    uint32_t number =
-        tcam_plan_insert(table, WORDS, WIDTH, TCAM_COUNTED, rule, RECORD_WORDS, edition, plan, SLOTS, &count, &spot);
+    uint32_t plan[SLOTS], count, covered, spot;
+    uint32_t number = tcam_plan_insert(table, WORDS, WIDTH, TCAM_COUNTED, rule, RECORD_WORDS, edition, plan, SLOTS,
+                                       &count, &covered, &spot);
     if (number != TCAM_OK)
         stop("insert", number, spot);
     printf("insert rule %" PRIu32 ", priority %" PRIu32 "\n", tcam_record_id(rule, WIDTH), tcam_record_priority(rule, WIDTH));

@@ -34,11 +34,13 @@ int main(void)
     uint64_t rule[TCAM_RECORD_WORDS(WIDTH)];
     tcam_make_record(rule, WIDTH, 1, 30, bits, bits, 7); /* id, priority, value, mask, action */
 
-    uint32_t plan[4], count, spot; /* a plan has at most as many words as the table has slots */
+    uint32_t plan[4], count, covered, spot; /* a plan has at most as many words as the table has slots */
     uint32_t number = tcam_plan_insert(table, TCAM_WORDS(table), WIDTH, TCAM_COUNTED, rule, TCAM_WORDS(rule), EDITION, plan,
-                                       TCAM_WORDS(plan), &count, &spot);
+                                       TCAM_WORDS(plan), &count, &covered, &spot);
     if (number != TCAM_OK)
         return refused("insert", number, spot);
+    if (covered != TCAM_NONE)
+        printf("no key gets to this rule while the one that is now in slot %" PRIu32 " stands\n", covered);
 
     tcam_progress progress = {0, count};
     uint64_t result;

@@ -104,4 +104,15 @@ static inline void carry_out_and_tell(uint64_t *table, size_t words, const uint3
         stop("carrying out", tcam_carry_number(result), tcam_carry_spot(result));
 }
 
+/* Takes a rule out of a counted table, and tells which frames have another reply then. A delete puts no rule in. */
+static inline void take_out_and_tell(uint64_t *table, size_t words, uint32_t id, struct frame *frames, size_t frame_count)
+{
+    uint32_t plan[1], count, spot;
+    uint32_t number = tcam_plan_delete(table, words, WIDTH, TCAM_COUNTED, id, plan, 1, &count, &spot);
+    if (number != TCAM_OK)
+        stop("delete", number, spot);
+    printf("delete rule %" PRIu32 "\n", id);
+    carry_out_and_tell(table, words, plan, count, tcam_no_rule, TCAM_EDITION_13, frames, frame_count);
+}
+
 #endif

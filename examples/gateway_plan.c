@@ -52,13 +52,13 @@ static void restart(void)
 
 int main(void)
 {
-    uint32_t plan[SLOTS], count, spot; /* as many words as slots always do */
+    uint32_t plan[SLOTS], count, covered, spot; /* as many words as slots always do */
 
     printf("at the start\n");
     print_replies(table, WORDS, frames, FRAMES);
 
-    uint32_t number =
-        tcam_plan_insert(table, WORDS, WIDTH, TCAM_COUNTED, console, RECORD_WORDS, TCAM_EDITION_13, plan, SLOTS, &count, &spot);
+    uint32_t number = tcam_plan_insert(table, WORDS, WIDTH, TCAM_COUNTED, console, RECORD_WORDS, TCAM_EDITION_13, plan, SLOTS,
+                                       &count, &covered, &spot);
     if (number != TCAM_OK)
         stop("insert", number, spot);
     printf("insert rule 11, %" PRIu32 " writes\n", count);

@@ -42,9 +42,9 @@ static void carry_out_plan(const uint32_t *plan, uint32_t count, const uint64_t 
 /* Under OpenFlow 1.3 a rule's rank is its priority: a record that stood in a slot gets the rank again that it had. */
 static void put_in(const uint64_t *rule)
 {
-    uint32_t plan[SLOTS], count, spot;
-    uint32_t number =
-        tcam_plan_insert(table, WORDS, WIDTH, TCAM_COUNTED, rule, RECORD_WORDS, TCAM_EDITION_13, plan, SLOTS, &count, &spot);
+    uint32_t plan[SLOTS], count, covered, spot;
+    uint32_t number = tcam_plan_insert(table, WORDS, WIDTH, TCAM_COUNTED, rule, RECORD_WORDS, TCAM_EDITION_13, plan, SLOTS,
+                                       &count, &covered, &spot);
     if (number != TCAM_OK)
         stop("insert", number, spot);
     printf("insert rule %" PRIu32 "\n", tcam_record_id(rule, WIDTH));
@@ -103,12 +103,12 @@ static int by_falling_rank(const void *left, const void *right)
 
 int main(void)
 {
-    uint32_t plan[SLOTS], count, spot;
+    uint32_t plan[SLOTS], count, covered, spot;
     printf("at the start\n");
     print_replies(table, WORDS, frames, FRAMES);
 
-    uint32_t number =
-        tcam_plan_insert(table, WORDS, WIDTH, TCAM_COUNTED, web, RECORD_WORDS, TCAM_EDITION_13, plan, SLOTS, &count, &spot);
+    uint32_t number = tcam_plan_insert(table, WORDS, WIDTH, TCAM_COUNTED, web, RECORD_WORDS, TCAM_EDITION_13, plan, SLOTS,
+                                       &count, &covered, &spot);
     print_refusal("insert of rule 23", number, spot);
     if (number != TCAM_CROSSED)
         return 1;

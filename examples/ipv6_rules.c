@@ -97,24 +97,14 @@ static void make_rule(uint64_t *record, const struct entry *entry)
 static void put_in(const struct entry *entry)
 {
     uint64_t rule[RECORD_WORDS];
-    uint32_t plan[SLOTS], count, spot; /* as many words as slots always do */
+    uint32_t plan[SLOTS], count, covered, spot; /* as many words as slots always do */
     make_rule(rule, entry);
-    uint32_t number =
-        tcam_plan_insert(table, WORDS, WIDTH, TCAM_COUNTED, rule, RECORD_WORDS, TCAM_EDITION_13, plan, SLOTS, &count, &spot);
+    uint32_t number = tcam_plan_insert(table, WORDS, WIDTH, TCAM_COUNTED, rule, RECORD_WORDS, TCAM_EDITION_13, plan, SLOTS,
+                                       &count, &covered, &spot);
     if (number != TCAM_OK)
         stop("insert", number, spot);
     printf("insert rule %" PRIu32 ", %" PRIu32 " %s\n", entry->id, count, count == 1 ? "write" : "writes");
     carry_out_and_tell(table, WORDS, plan, count, rule, TCAM_EDITION_13, frames, PACKETS);
-}
-
-static void take_out(uint32_t id)
-{
-    uint32_t plan[1], count, spot;
-    uint32_t number = tcam_plan_delete(table, WORDS, WIDTH, TCAM_COUNTED, id, plan, 1, &count, &spot);
-    if (number != TCAM_OK)
-        stop("delete", number, spot);
-    printf("delete rule %" PRIu32 "\n", id);
-    carry_out_and_tell(table, WORDS, plan, count, tcam_no_rule, TCAM_EDITION_13, frames, PACKETS); /* a delete puts no rule in */
 }
 
 int main(void)
@@ -123,7 +113,7 @@ int main(void)
         set_words(frames[index].key, &packets[index]);
     for (size_t index = 0; index < sizeof entries / sizeof entries[0]; index++)
         put_in(&entries[index]);
-    take_out(31);
+    take_out_and_tell(table, WORDS, 31, frames, PACKETS);
     printf("at the end\n");
     print_replies(table, WORDS, frames, PACKETS);
     return 0;

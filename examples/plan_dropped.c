@@ -26,7 +26,9 @@ static struct frame frames[] = {
 
 static uint32_t plan_insert(uint32_t *plan, uint32_t *count, uint32_t *spot)
 {
-    return tcam_plan_insert(table, WORDS, WIDTH, TCAM_COUNTED, console, RECORD_WORDS, TCAM_EDITION_13, plan, SLOTS, count, spot);
+    uint32_t covered;
+    return tcam_plan_insert(table, WORDS, WIDTH, TCAM_COUNTED, console, RECORD_WORDS, TCAM_EDITION_13, plan, SLOTS, count,
+                            &covered, spot);
 }
 
 /* Makes writes of the plan, as many as are told or to its end, and tells which replies that changed. */

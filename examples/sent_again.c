@@ -25,17 +25,17 @@ static struct frame frames[] = {
 
 int main(void)
 {
-    uint32_t plan[SLOTS], count, spot;
+    uint32_t plan[SLOTS], count, covered, spot;
 
     printf("at the start\n");
     print_replies(table, WORDS, frames, FRAMES);
 
-    uint32_t number =
-        tcam_plan_insert(table, WORDS, WIDTH, TCAM_COUNTED, web, RECORD_WORDS, TCAM_EDITION_13, plan, SLOTS, &count, &spot);
+    uint32_t number = tcam_plan_insert(table, WORDS, WIDTH, TCAM_COUNTED, web, RECORD_WORDS, TCAM_EDITION_13, plan, SLOTS,
+                                       &count, &covered, &spot);
     print_refusal("insert of rule 17", number, spot);
 
-    number =
-        tcam_plan_insert(table, WORDS, WIDTH, TCAM_COUNTED, moved, RECORD_WORDS, TCAM_EDITION_13, plan, SLOTS, &count, &spot);
+    number = tcam_plan_insert(table, WORDS, WIDTH, TCAM_COUNTED, moved, RECORD_WORDS, TCAM_EDITION_13, plan, SLOTS, &count,
+                              &covered, &spot);
     if (number != TCAM_OK)
         stop("insert", number, spot);
     printf("insert rule 16, %" PRIu32 " write\n", count);

@@ -26,9 +26,9 @@ static struct frame frames[] = {
 /* The plan of an insert into the table as it is named, and what it takes; 0 words where it is declined. */
 static uint32_t plan_insert(const char *named, uint32_t flag, const uint64_t *rule, uint32_t *plan)
 {
-    uint32_t count = 0, spot;
-    uint32_t number =
-        tcam_plan_insert(table, WORDS, WIDTH, flag, rule, RECORD_WORDS, TCAM_EDITION_13, plan, SLOTS, &count, &spot);
+    uint32_t count = 0, covered, spot;
+    uint32_t number = tcam_plan_insert(table, WORDS, WIDTH, flag, rule, RECORD_WORDS, TCAM_EDITION_13, plan, SLOTS, &count,
+                                       &covered, &spot);
     printf("insert of rule %" PRIu32 ", ", tcam_record_id(rule, WIDTH));
     if (number == TCAM_OK)
         printf("%s: %" PRIu32 " write%s\n", named, count, count == 1 ? "" : "s");

@@ -99,6 +99,16 @@
  * its old reply. After it the table is in order, each other rule stands in its one slot as before, and every
  * key has the reply of these rules: that of the highest-ranked match among them, or a miss.
  *
+ * COVER. A rule covers another when the other cares for every bit that it cares for, with the same value: then every
+ * key that matches the other matches it too. Two rules of one value and mask cover each other. Ids, actions and the
+ * flag are not looked at. An insert that is planned, a replacement too, also tells whether a rule of the table obscures
+ * the new one: it names the lowest slot with a rule of strictly higher rank that covers the new one by itself, or says
+ * that there is none. While that rule stands, no key of a counted table is answered by the new one. Of an uncounted
+ * table nothing is promised: the id that tcam_lookup tells there may be the new rule's. Two rules that cover the new
+ * one only together do not count: where none is named, the new rule may still be one that no key gets to. The slot is
+ * one of the table before the plan, and the plan may move the rule that stands there: its id, read before the first
+ * write, tells it afterwards too. None of this plays a part in the plan, in its count or in what is refused.
+ *
  * AN IMAGE is a table as bytes, to be kept and loaded again. Its numbers are big-endian:
  *
  *     slots (2 bytes), rules e (2)
@@ -164,12 +174,12 @@
  *     tcam_slot_record        128       128
  *     tcam_plan_delete     24,640    24,640
  *     tcam_carry_out          320       320
- *     tcam_plan_insert     30,992    30,992, or 10,752 and 96 for each word of the plan, where that is more
+ *     tcam_plan_insert     31,008    31,008, or 10,752 and 96 for each word of the plan, where that is more
  *     tcam_save            24,704    24,704
  *     tcam_load            74,112   123,264
  *
  * The longest plan, of 1,024 words, takes 109,056 bytes, 106.5 KiB. A plan that does not fit its buffer is
- * not written out, so that a buffer of n words bounds the stack at 10,752 + 96 * n bytes, or at 30,992 where
+ * not written out, so that a buffer of n words bounds the stack at 10,752 + 96 * n bytes, or at 31,008 where
  * that is more. tcam_load builds the whole table on the stack before it writes the lent one.
  */
 #ifndef TCAM_H
@@ -222,6 +232,9 @@ extern "C" {
 /* `from` of a plan word that puts the new rule in, and of one that empties a slot. */
 #define TCAM_PUT 65535u
 #define TCAM_EMPTY 65534u
+
+/* In place of a slot: there is none. */
+#define TCAM_NONE 65535u
 
 /*
  * Why a call declines, and the calls that return it, without their tcam_. Where none is named, no call
@@ -306,9 +319,11 @@ uint32_t tcam_slot_record(const uint64_t *table, size_t words, uint32_t width, u
  *   edition           10 or 13, which gives the rule its rank
  *   plan, plan_words  buffer for the plan and its length in words
  *   count             cell for the number of words that the call wrote
+ *   covered           cell for the slot of a rule that covers the new one
  *   spot              cell for a refusal's spot
  *
- * Result TCAM_OK: the plan is the words 0 to *count - 1 of the buffer.
+ * Result TCAM_OK: the plan is the words 0 to *count - 1 of the buffer. *covered is the lowest slot of the table, as it
+ * stands before the plan, with a rule of higher rank that alone covers the new one, or TCAM_NONE where no slot has one.
  *
  * Where the table has a rule of the new one's value, mask and rank, and if it is an uncounted table of its action too,
  * the new one replaces it: *count is 1, and word 0 puts the new rule into the slot of that rule, the lowest of several,
@@ -350,7 +365,7 @@ uint32_t tcam_slot_record(const uint64_t *table, size_t words, uint32_t width, u
  */
 uint32_t tcam_plan_insert(const uint64_t *table, size_t words, uint32_t width, uint32_t uncounted, const uint64_t *rule,
                           size_t rule_words, uint32_t edition, uint32_t *plan, size_t plan_words, uint32_t *count,
-                          uint32_t *spot);
+                          uint32_t *covered, uint32_t *spot);
 
 /*
  * Plans a delete: the one write that empties a rule's slot.

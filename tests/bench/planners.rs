@@ -46,7 +46,7 @@ impl Planner {
 /// Under 1.3, where a rule's rank is the priority that it is given with, as the papers' planners have it.
 fn plan_by_library(memory: &Memory, new: &Rule) -> Result<Chain, NoPlan> {
     match support::calls::plan_insert(&memory.words, WIDTH, COUNTED, &new.record(WIDTH), EDITION_13) {
-        Ok(plan) => Ok(plan.iter().rev().map(|write| (write % 65_536) as usize).collect()),
+        Ok(planned) => Ok(planned.writes.iter().rev().map(|write| (write % 65_536) as usize).collect()),
         Err(refusal) if refusal.number == CROSSED => Err(NoPlan::Crossed),
         Err(refusal) => panic!("a workload has no insert that is refused with {refusal:?}"),
     }

@@ -73,8 +73,8 @@ fn check(planner: Planner, memory: &Memory, new: &Rule, free: Free, planned: Res
 }
 
 fn least_count(memory: &Memory, new: &Rule) -> Result<usize, NoPlan> {
-    let plan = plan_insert(&memory.words, WIDTH, COUNTED, &new.record(WIDTH), EDITION_13, memory.slots.len());
-    plan.map(|plan| plan.len()).map_err(|refusal| {
+    let planned = plan_insert(&memory.words, WIDTH, COUNTED, &new.record(WIDTH), EDITION_13, memory.slots.len());
+    planned.map(|planned| planned.writes.len()).map_err(|refusal| {
         assert_eq!(refusal.number, CROSSED);
         NoPlan::Crossed
     })

@@ -66,7 +66,7 @@ pub fn measure(kind: &Kind, size: Size, seed: u64, outcome: &mut Outcome) {
 
 fn ask(memory: &Memory, new: &Rule, uncounted: bool) -> Answer {
     let planned = support::calls::plan_insert(&memory.words, WIDTH, uncounted, &new.record(WIDTH), EDITION_13);
-    planned.map_err(|refusal| refusal.number)
+    planned.map(|planned| planned.writes).map_err(|refusal| refusal.number)
 }
 
 impl Inserts {
@@ -205,5 +205,6 @@ pub fn self_check() {
 fn hold_to_reference(memory: &Memory, new: &Rule, answer: &Answer, uncounted: bool) {
     let slots = memory.slots.len();
     let expected = plan_insert(&memory.words, WIDTH, uncounted, &new.record(WIDTH), EDITION_13, slots);
-    assert_eq!(answer, &expected.map_err(|refusal| refusal.number), "uncounted: {uncounted}");
+    let expected = expected.map(|planned| planned.writes).map_err(|refusal| refusal.number);
+    assert_eq!(answer, &expected, "uncounted: {uncounted}");
 }

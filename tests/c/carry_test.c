@@ -835,13 +835,14 @@ static void rule_goes(void)
 
 static uint32_t insert(uint32_t *count)
 {
-    uint32_t spot;
+    uint32_t covered, spot;
     record_words given;
     set_record(given, &rule);
     room = slots_of(words);
     for (uint32_t index = 0; index < room; index++)
         plan[index] = COPY(index, index);
-    uint32_t number = tcam_plan_insert(table, words, width, uncounted, given, SLOTS(1), edition, plan, room, count, &spot);
+    uint32_t number =
+        tcam_plan_insert(table, words, width, uncounted, given, SLOTS(1), edition, plan, room, count, &covered, &spot);
     replaced_id = id_to_replace();
     if (number == TCAM_OK)
         carry_to_the_end(*count, rule_comes);
@@ -902,7 +903,7 @@ static void five_slots(void)
 /* In the middle of a plan, a rule standing in two slots, no planning call takes the table. */
 static void plans_in_the_middle(void)
 {
-    uint32_t count = 77, spot = 77, other[5] = {1, 2, 3, 4, 5};
+    uint32_t count = 77, covered = 77, spot = 77, other[5] = {1, 2, 3, 4, 5};
     const struct rule new_rule = made_rule(9, 50, "0");
     record_words given;
     HERE;
@@ -915,8 +916,9 @@ static void plans_in_the_middle(void)
     room = 2;
     progress = (tcam_progress){0, 2};
     CHECK(tcam_carry_out(table, words, width, given, SLOTS(1), edition, plan, room, &progress) == TCAM_WROTE && progress.done == 1);
-    CHECK(tcam_plan_insert(table, words, width, uncounted, given, SLOTS(1), edition, other, 5, &count, &spot) == TCAM_TWICE);
-    CHECK(spot == 2);
+    CHECK(tcam_plan_insert(table, words, width, uncounted, given, SLOTS(1), edition, other, 5, &count, &covered, &spot) ==
+          TCAM_TWICE);
+    CHECK(spot == 2 && covered == 77);
     spot = 77;
     CHECK(tcam_plan_delete(table, words, width, uncounted, 1, other, 5, &count, &spot) == TCAM_TWICE && spot == 2);
     CHECK(count == 77 && other[0] == 1 && other[4] == 5);

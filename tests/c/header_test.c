@@ -239,8 +239,11 @@ static void five_slots(void)
 static uint32_t insert(const struct rule *rule, uint32_t *plan, size_t room, uint32_t *count, uint32_t *spot)
 {
     record_words given;
+    uint32_t covered = 88, number;
     tcam_make_record(given, width, rule->id, (uint32_t)rule->priority, rule->value, rule->mask, rule->action);
-    return tcam_plan_insert(TABLE, uncounted, given, TCAM_RECORD_WORDS(width), edition, plan, room, count, spot);
+    number = tcam_plan_insert(TABLE, uncounted, given, TCAM_RECORD_WORDS(width), edition, plan, room, count, &covered, spot);
+    CHECK(covered == (number == TCAM_OK ? TCAM_NONE : 88)); /* no rule here is covered */
+    return number;
 }
 
 static void refused_plans(void)

@@ -8,7 +8,7 @@
 #if TCAM_WIDTH_128 != 2 || TCAM_WIDTH_320 != 5 || TCAM_MAX_SLOTS != 1024 || TCAM_PUT != 65535 || TCAM_EMPTY != 65534 || \
     TCAM_WROTE != 0 || TCAM_FINISHED != 4294967295 || TCAM_SPOT_TEXT != 24 || TCAM_EDITION_10 != 10 || \
     TCAM_EDITION_13 != 13 || TCAM_MAX_PRIORITY != 65535 || TCAM_EXACT_RANK != 65536 || TCAM_COUNTED != 0 || \
-    TCAM_UNCOUNTED != 1
+    TCAM_UNCOUNTED != 1 || TCAM_NONE != 65535
 #error "a constant of tcam.h, in a condition of the preprocessor"
 #endif
 
@@ -19,7 +19,7 @@ uint8_t every_image[TCAM_IMAGE_BYTES(TCAM_WIDTH_320, TCAM_MAX_SLOTS)];
 char every_text[TCAM_SPOT_TEXT];
 const uint64_t every_record[TCAM_RECORD_WORDS(TCAM_WIDTH_128)] = {0, 0, 0, 0, TCAM_ID_ACTION(1, 2), 3};
 size_t every_words = TCAM_WORDS(every_table) + TCAM_WORDS(every_plan);
-uint32_t every_number[] = {TCAM_PUT, TCAM_EMPTY, TCAM_FINISHED, TCAM_OK, TCAM_IMAGE, TCAM_ROOM};
+uint32_t every_number[] = {TCAM_PUT, TCAM_EMPTY, TCAM_FINISHED, TCAM_OK, TCAM_IMAGE, TCAM_ROOM, TCAM_NONE};
 uint32_t every_edition[] = {TCAM_EDITION_10, TCAM_EDITION_13};
 uint32_t every_flag[] = {TCAM_COUNTED, TCAM_UNCOUNTED};
 uint64_t every_rank[] = {TCAM_MAX_PRIORITY, TCAM_EXACT_RANK};
@@ -27,7 +27,7 @@ uint64_t every_result[] = {TCAM_WROTE, TCAM_FINISHED};
 
 size_t every_size(int rules, uint32_t slots, uint32_t width, int signed_width);
 uint64_t every_record_function(uint64_t *record, uint32_t width, const uint64_t *key, uint32_t index);
-uint32_t every_planning(uint32_t width, uint32_t *count, uint32_t *spot);
+uint32_t every_planning(uint32_t width, uint32_t *count, uint32_t *covered, uint32_t *spot);
 uint64_t every_carrying_out(uint32_t width, tcam_progress *progress);
 uint32_t every_image_call(uint32_t width, uint32_t flag, uint32_t *bytes, uint32_t *spot);
 int every_comparison(uint32_t number, uint64_t result, size_t words);
@@ -50,10 +50,10 @@ uint64_t every_record_function(uint64_t *record, uint32_t width, const uint64_t 
            tcam_record_action(record, width) + tcam_record_priority(record, width) + tcam_record_rank(record, width);
 }
 
-uint32_t every_planning(uint32_t width, uint32_t *count, uint32_t *spot)
+uint32_t every_planning(uint32_t width, uint32_t *count, uint32_t *covered, uint32_t *spot)
 {
     return tcam_plan_insert(every_table, TCAM_WORDS(every_table), width, TCAM_COUNTED, tcam_no_rule, TCAM_RECORD_WORDS(width),
-                            TCAM_EDITION_10, every_plan, TCAM_WORDS(every_plan), count, spot);
+                            TCAM_EDITION_10, every_plan, TCAM_WORDS(every_plan), count, covered, spot);
 }
 
 uint32_t every_image_call(uint32_t width, uint32_t flag, uint32_t *bytes, uint32_t *spot)
@@ -72,7 +72,7 @@ uint64_t every_carrying_out(uint32_t width, tcam_progress *progress)
 /* with a number, a result and a length, as callers do */
 int every_comparison(uint32_t number, uint64_t result, size_t words)
 {
-    return number == TCAM_OK || number < TCAM_IMAGE || number == TCAM_EDITION || tcam_write_from(number) == TCAM_PUT ||
+    return number == TCAM_OK || number < TCAM_IMAGE || number == TCAM_EDITION || number == TCAM_NONE || tcam_write_from(number) == TCAM_PUT ||
            tcam_write_from(number) >= TCAM_EMPTY || result == TCAM_WROTE || result != TCAM_FINISHED ||
            TCAM_TABLE_SLOTS(TCAM_WIDTH_128, words) > TCAM_MAX_SLOTS || words == TCAM_WORDS(every_table);
 }

@@ -1,8 +1,8 @@
 /*
  * Plans inserts and deletes as firmware would, at each width, carries the plans out, and checks every answer, every lent buffer
  * and every table on the way: first cases whose plans are written here, then all tables of a few slots and random ones.
- * Their plans come from a reference written from document 01 and document 02's 2026-07, 2026-03 and 2026-11, and their counts from a
- * search of the comparison class.
+ * Their plans come from a reference written from document 01 and document 02's 2026-07, 2026-03, 2026-11 and 2026-05, and their counts
+ * from a search of the comparison class.
  *
  *     plan_test [seed [tables]]
  */
@@ -11,9 +11,9 @@
 
 /* ---- The reference: document 01, "Why a call declines" and "How a plan is found" ---- */
 
-/* A refusal's number and spot, or 0, the count and the plan. */
+/* A refusal's number and spot, or 0, the count, the plan and, of an insert, the slot of the rule that covers the new one. */
 struct told {
-    uint32_t number, spot, count;
+    uint32_t number, spot, count, covered;
     uint32_t plan[TCAM_MAX_SLOTS];
 };
 
@@ -176,7 +176,7 @@ static uint32_t replaced_slot(const uint64_t *table, uint32_t slots, const uint6
 }
 
 /* Checks 1 to 10 of an insert, with 18 after 5 and a replacement after 6, and its plan. */
-static void ref_insert(const uint64_t *table, size_t words, const struct rule *rule, struct told *told)
+static void ref_plan(const uint64_t *table, size_t words, const struct rule *rule, struct told *told)
 {
     record_words record;
     uint32_t slots = slots_of(words), empties = 0;
@@ -223,6 +223,40 @@ static void ref_insert(const uint64_t *table, size_t words, const struct rule *r
         return;
     }
     find_plan(table, (int)slots, a, b, told);
+}
+
+/* Bit by bit: what the first of two rules cares for, the second asks for too. */
+static int covers(const uint64_t *a, const uint64_t *b)
+{
+    for (uint32_t bit = 0; bit < 64 * width; bit++) {
+        const uint32_t value = bit / 64, mask = width + value;
+        const uint64_t one = TOP >> bit % 64;
+        if ((a[mask] & one) != 0 && ((b[mask] & one) == 0 || (a[value] & one) != (b[value] & one)))
+            return 0;
+    }
+    return 1;
+}
+
+/* The lowest slot with a rule of higher rank that covers the new one by itself; 65,535 where there is none. */
+static uint32_t covering_slot(const uint64_t *table, uint32_t slots, const uint64_t *new_record)
+{
+    for (uint32_t slot = 0; slot < slots; slot++) {
+        const uint64_t *held = table + SLOTS(slot);
+        if (!is_empty(held) && rank_of(held) > rank_of(new_record) && covers(held, new_record))
+            return slot;
+    }
+    return 65535;
+}
+
+/* All that is told of an insert. */
+static void ref_insert(const uint64_t *table, size_t words, const struct rule *rule, struct told *told)
+{
+    record_words record;
+    ref_plan(table, words, rule, told);
+    if (told->number != 0)
+        return;
+    set_ranked(record, rule);
+    told->covered = covering_slot(table, slots_of(words), record);
 }
 
 /* Checks 1 to 4, 5 and 7 of a delete, and its plan. */
@@ -272,7 +306,7 @@ static void lend_plan(uint32_t room, int at_end)
 }
 
 /* The lent cells, each between guards. */
-enum { COUNT = 1, SPOT = 3, CELLS = 5 };
+enum { COUNT = 1, COVERED = 3, SPOT = 5, CELLS = 7 };
 
 static struct {
     uint32_t now[CELLS], before[CELLS];
@@ -315,8 +349,9 @@ static uint32_t call_insert_of(const struct lent *lent, const struct rule *rule,
     lend_plan(room, at_end);
     mark_cells(cells.now, cells.before, CELLS);
     uint32_t number = tcam_plan_insert(lent->table, lent->words, width, uncounted, lent_rule.table, rule_words, edition,
-                                       plan.words, room, &cells.now[COUNT], &cells.now[SPOT]);
+                                       plan.words, room, &cells.now[COUNT], &cells.now[COVERED], &cells.now[SPOT]);
     check_left(lent, number, want);
+    CHECK(cells.now[COVERED] == (number == TCAM_OK ? want->covered : cells.before[COVERED]));
     check_lent(&lent_rule);
     return number;
 }
@@ -659,13 +694,20 @@ static void check_ref(void)
     CHECK(memcmp(ref.plan, want.plan, want.count * sizeof *want.plan) == 0);
 }
 
-/* An insert on the case's table, both ends of the pages, with a buffer of each length that matters. The reference must agree. */
+/* The reference must agree with what is wanted of an insert; the slot of the rule that covers the new one is the reference's. */
+static void check_insert_ref(size_t words, const struct rule *rule)
+{
+    ref_insert(table, words, rule, &ref);
+    check_ref();
+    want.covered = ref.covered;
+}
+
+/* An insert on the case's table, both ends of the pages, with a buffer of each length that matters. */
 static void try_insert(size_t words, const struct rule *rule)
 {
     uint32_t one_short = want.count - (want.count > 0);
     uint32_t rooms[] = {want.count, one_short, want.count + 1, want.count + 7, 1, 0, want.count / 2, TCAM_MAX_SLOTS + 2};
-    ref_insert(table, words, rule, &ref);
-    check_ref();
+    check_insert_ref(words, rule);
     for (int at_end = 0; at_end < 2; at_end++) {
         struct lent lent = lend(table, words, at_end);
         protect_table(0);
@@ -685,6 +727,15 @@ static void wanted(uint32_t number, uint32_t spot, const uint32_t *writes, size_
     want.count = (uint32_t)count;
     for (size_t index = 0; index < count; index++)
         want.plan[index] = writes[index];
+}
+
+/* After an insert into a counted table: while the rule that covers the new one stands, no key is answered by the new one. */
+static void check_obscured(uint32_t slots, const struct rule *rule, uint32_t covered, const struct keys *keys)
+{
+    int answered = 0;
+    for (uint32_t key = 0; key < keys->count; key++)
+        answered |= first_reply(carried, slots, keys->key[key]) / 4294967296u == rule->id;
+    CHECK(covered == TCAM_NONE || uncounted != TCAM_COUNTED || !answered);
 }
 
 /* A rule that replaces another is none that the comparison class is for. */
@@ -709,10 +760,18 @@ static void insert_case(int line, uint32_t slots, struct rule rule, int stay, co
         return;
     sample_keys(&keys, table, slots, &rule, slots > 100 ? 8 : MOST_KEYS);
     carry_out_insert(table, slots, &rule, plan.words, cells.now[COUNT], &keys);
+    check_obscured(slots, &rule, cells.now[COVERED], &keys);
     if (slots <= CLASS_SLOTS && !replaces(table, slots, &rule))
         CHECK(least_in_class(table, slots, &rule) == count);
     if (stay)
         memcpy(table, carried, SLOTS(slots) * sizeof *table);
+}
+
+/* The same, and the slot of the rule that covers the new one. */
+static void covered_case(int line, uint32_t slots, struct rule rule, uint32_t covered, const uint32_t *writes, size_t count)
+{
+    insert_case(line, slots, rule, 0, writes, count);
+    CHECK(want.covered == covered);
 }
 
 static void insert_refused(int line, size_t words, struct rule rule, uint32_t number, uint32_t spot)
@@ -762,6 +821,7 @@ static void delete_refused(int line, size_t words, uint32_t id, uint32_t number,
 
 #define WRITES(...) (uint32_t[]){__VA_ARGS__}, sizeof((uint32_t[]){__VA_ARGS__}) / sizeof(uint32_t)
 #define PLANNED(slots, rule, ...) insert_case(__LINE__, slots, rule, 0, WRITES(__VA_ARGS__))
+#define COVERED_BY(slot, slots, rule, ...) covered_case(__LINE__, slots, rule, slot, WRITES(__VA_ARGS__))
 #define INSERTED(slots, rule, ...) insert_case(__LINE__, slots, rule, 1, WRITES(__VA_ARGS__))
 #define REFUSED(words, rule, number, spot) insert_refused(__LINE__, words, rule, number, spot)
 #define DELETED(slots, id, slot) delete_case(__LINE__, slots, id, slot, 1)
@@ -772,6 +832,7 @@ static void names(void)
     HERE;
     CHECK(TCAM_PUT == 65535);
     CHECK(TCAM_EMPTY == 65534);
+    CHECK(TCAM_NONE == 65535);
     CHECK(tcam_write_from(0) == 0 && tcam_write_to(0) == 0);
     CHECK(tcam_write_from(0x00010004u) == 1 && tcam_write_to(0x00010004u) == 4);
     CHECK(tcam_write_from(0x03FF0000u) == 1023 && tcam_write_to(0x000003FFu) == 1023);
@@ -868,13 +929,13 @@ static void other_widths(void)
     set_record(given, &rule);
     for (size_t index = 0; index < COUNT_OF(others); index++)
         for (size_t words = 0; words <= SLOTS(3); words++) {
-            uint32_t lent_plan[4] = {77, 78, 79, 80}, count = 81, spot = 82;
+            uint32_t lent_plan[4] = {77, 78, 79, 80}, count = 81, covered = 83, spot = 82;
             HERE;
             for (size_t rule_words = 0; rule_words <= ROOM(1); rule_words++, spot = 82) {
                 uint32_t number = tcam_plan_insert(table, words, others[index], uncounted, given, rule_words, edition, lent_plan, 4,
-                                                   &count, &spot);
+                                                   &count, &covered, &spot);
                 CHECK(number == TCAM_SHAPE);
-                CHECK(lent_plan[0] == 77 && lent_plan[1] == 78 && count == 81 && spot == 0);
+                CHECK(lent_plan[0] == 77 && lent_plan[1] == 78 && count == 81 && covered == 83 && spot == 0);
             }
             CHECK(tcam_plan_delete(table, words, others[index], uncounted, 1, lent_plan, 4, &count, &spot) == TCAM_SHAPE);
             CHECK(lent_plan[0] == 77 && lent_plan[1] == 78 && count == 81 && spot == 0);
@@ -910,26 +971,29 @@ static void edge_tables(void)
 /* A plan of two in a buffer of one word. */
 static void short_buffers(void)
 {
-    uint32_t two_words[2] = {77, 78}, count = 79, spot = 80;
+    uint32_t two_words[2] = {77, 78}, count = 79, covered = 81, spot = 80;
     const struct rule rule = rule_of(22, 20, "11", 3);
     record_words given;
     between_two();
     HERE;
     set_record(given, &rule);
-    CHECK(tcam_plan_insert(table, SLOTS(3), width, uncounted, given, SLOTS(1), edition, two_words, 1, &count, &spot) ==
-          TCAM_SHORT);
-    CHECK(two_words[0] == 77 && two_words[1] == 78 && count == 79 && spot == 2);
+    CHECK(tcam_plan_insert(table, SLOTS(3), width, uncounted, given, SLOTS(1), edition, two_words, 1, &count, &covered,
+                           &spot) == TCAM_SHORT);
+    CHECK(two_words[0] == 77 && two_words[1] == 78 && count == 79 && covered == 81 && spot == 2);
 
     /* no buffer at all, no table and no rule */
-    CHECK(tcam_plan_insert(table, SLOTS(3), width, uncounted, given, SLOTS(1), edition, NULL, 0, &count, &spot) == TCAM_SHORT);
-    CHECK(count == 79 && spot == 2);
+    CHECK(tcam_plan_insert(table, SLOTS(3), width, uncounted, given, SLOTS(1), edition, NULL, 0, &count, &covered, &spot) ==
+          TCAM_SHORT);
+    CHECK(count == 79 && covered == 81 && spot == 2);
     CHECK(tcam_plan_delete(table, SLOTS(3), width, uncounted, 21, NULL, 0, &count, &spot) == TCAM_SHORT);
     CHECK(count == 79 && spot == 1);
-    CHECK(tcam_plan_insert(NULL, 0, width, uncounted, given, SLOTS(1), edition, two_words, 2, &count, &spot) == TCAM_SHAPE);
-    CHECK(count == 79 && spot == 0);
+    CHECK(tcam_plan_insert(NULL, 0, width, uncounted, given, SLOTS(1), edition, two_words, 2, &count, &covered, &spot) ==
+          TCAM_SHAPE);
+    CHECK(count == 79 && covered == 81 && spot == 0);
     spot = 80;
-    CHECK(tcam_plan_insert(table, SLOTS(3), width, uncounted, NULL, 0, edition, two_words, 2, &count, &spot) == TCAM_SHAPE);
-    CHECK(count == 79 && spot == 0);
+    CHECK(tcam_plan_insert(table, SLOTS(3), width, uncounted, NULL, 0, edition, two_words, 2, &count, &covered, &spot) ==
+          TCAM_SHAPE);
+    CHECK(count == 79 && covered == 81 && spot == 0);
     spot = 80;
     CHECK(tcam_plan_delete(NULL, 0, width, uncounted, 21, two_words, 2, &count, &spot) == TCAM_SHAPE);
     CHECK(two_words[0] == 77 && two_words[1] == 78 && count == 79 && spot == 0);
@@ -1087,24 +1151,24 @@ static void long_lengths(void)
     static uint32_t long_plan[65536];
     const size_t long_words = 3 * 65536 + SLOTS(1);
     const struct rule rule = rule_of(1, 1, "", 1);
-    uint32_t count = 77, spot = 78;
+    uint32_t count = 77, covered = 79, spot = 78;
     record_words given;
     HERE;
     memset(long_table, 0, sizeof long_table);
     long_plan[0] = 0;
     set_record(given, &rule);
     CHECK(long_words % SLOTS(1) == 0);
-    CHECK(tcam_plan_insert(long_table, long_words, width, uncounted, given, SLOTS(1), edition, long_plan, 1, &count, &spot) ==
-          TCAM_SHAPE);
-    CHECK(long_plan[0] == 0 && count == 77 && spot == 0);
+    CHECK(tcam_plan_insert(long_table, long_words, width, uncounted, given, SLOTS(1), edition, long_plan, 1, &count, &covered,
+                           &spot) == TCAM_SHAPE);
+    CHECK(long_plan[0] == 0 && count == 77 && covered == 79 && spot == 0);
     spot = 78;
     CHECK(tcam_plan_delete(long_table, long_words, width, uncounted, 1, long_plan, 1, &count, &spot) == TCAM_SHAPE);
     CHECK(long_plan[0] == 0 && count == 77 && spot == 0);
     spot = 78;
     uint32_t number = tcam_plan_insert(long_table, SLOTS(1), width, uncounted, given, SLOTS(1), edition, long_plan,
-                                       COUNT_OF(long_plan), &count, &spot);
+                                       COUNT_OF(long_plan), &count, &covered, &spot);
     CHECK(number == TCAM_OK);
-    CHECK(long_plan[0] == PUT(0) && long_plan[1] == 0 && count == 1 && spot == 78);
+    CHECK(long_plan[0] == PUT(0) && long_plan[1] == 0 && count == 1 && covered == TCAM_NONE && spot == 78);
     count = 77;
     long_table[2 * width] = TCAM_ID_ACTION(1, 1);
     CHECK(tcam_plan_delete(long_table, SLOTS(1), width, uncounted, 1, long_plan, COUNT_OF(long_plan), &count, &spot) == TCAM_OK);
@@ -1206,7 +1270,7 @@ static void two_rules(void)
 /* A rule sent again, with another id: one put-in over the one present, even where no slot is empty. */
 static void sent_again(void)
 {
-    uint32_t words[3] = {77, 78, 79}, count = 80, spot = 81;
+    uint32_t words[3] = {77, 78, 79}, count = 80, covered = 82, spot = 81;
     const struct rule again = rule_of(9, 20, "1", 5);
     record_words given;
     for (size_t index = 0; index < COUNT_OF(editions); index++) {
@@ -1230,11 +1294,13 @@ static void sent_again(void)
     HERE; /* no word, and more than one */
     two_rules();
     set_record(given, &again);
-    CHECK(tcam_plan_insert(table, SLOTS(2), width, uncounted, given, SLOTS(1), edition, words, 0, &count, &spot) == TCAM_SHORT);
-    CHECK(words[0] == 77 && count == 80 && spot == 1);
+    CHECK(tcam_plan_insert(table, SLOTS(2), width, uncounted, given, SLOTS(1), edition, words, 0, &count, &covered, &spot) ==
+          TCAM_SHORT);
+    CHECK(words[0] == 77 && count == 80 && covered == 82 && spot == 1);
     spot = 81;
-    CHECK(tcam_plan_insert(table, SLOTS(2), width, uncounted, given, SLOTS(1), edition, words, 3, &count, &spot) == TCAM_OK);
-    CHECK(words[0] == PUT(1) && words[1] == 78 && words[2] == 79 && count == 1 && spot == 81);
+    CHECK(tcam_plan_insert(table, SLOTS(2), width, uncounted, given, SLOTS(1), edition, words, 3, &count, &covered, &spot) ==
+          TCAM_OK);
+    CHECK(words[0] == PUT(1) && words[1] == 78 && words[2] == 79 && count == 1 && covered == TCAM_NONE && spot == 81);
 
     /* an empty slot is equal to nothing, nor to a rule of zeros but for its id */
     clear();
@@ -1480,8 +1546,7 @@ static void faulty_inserts(uint32_t set, size_t lowest)
             wanted(faults[lowest].number, faults[lowest].spot, NULL, 0);
         else
             wanted(0, 0, writes, 2);
-        ref_insert(table, words, &rule, &ref);
-        check_ref();
+        check_insert_ref(words, &rule);
         struct lent lent = lend(table, words, variant % 2);
         call_insert(&lent, &rule, set & SHORT ? variant % 2 : 2 + variant, 1, &want);
     }
@@ -1662,7 +1727,7 @@ static void priorities_given(void)
 {
     static const uint64_t wrong[] = {65536, 65537, 0x100000007u, 0x100010000u, TOP, ALL};
     for (size_t index = 0; index < COUNT_OF(editions); index++) {
-        uint32_t words[3] = {77, 78, 79}, count = 80, spot = 81;
+        uint32_t words[3] = {77, 78, 79}, count = 80, covered = 82, spot = 81;
         record_words again;
         edition = editions[index];
         clear();
@@ -1674,13 +1739,112 @@ static void priorities_given(void)
         put(0, for_key_zero(1, 65536, 1));
         memcpy(again, table, SLOTS(1) * sizeof *table);
         for (int taken_out = 0; taken_out < 2; taken_out++) {
-            CHECK(tcam_plan_insert(table, SLOTS(3), width, uncounted, again, SLOTS(1), edition, words, 3, &count, &spot) ==
-                  TCAM_RULE);
-            CHECK(words[0] == 77 && words[1] == 78 && words[2] == 79 && count == 80 && spot == 0);
+            CHECK(tcam_plan_insert(table, SLOTS(3), width, uncounted, again, SLOTS(1), edition, words, 3, &count, &covered,
+                                   &spot) == TCAM_RULE);
+            CHECK(words[0] == 77 && words[1] == 78 && words[2] == 79 && count == 80 && covered == 82 && spot == 0);
             clear();
             spot = 81;
         }
     }
+}
+
+/* ---- Rules that another covers ---- */
+
+/* [1/40 10, 2/30 1, 3/20 *, empty], all of different actions. */
+static void covered_rules(void)
+{
+    HOLD({0, 1, 40, "10", 1}, {1, 2, 30, "1", 2}, {2, 3, 20, "", 3});
+    COVERED_BY(1, 4, rule_of(9, 10, "11", 9), PUT(3));
+    COVERED_BY(1, 4, rule_of(9, 25, "11", 9), COPY(2, 3), PUT(2));
+    COVERED_BY(TCAM_NONE, 4, rule_of(9, 35, "11", 9), COPY(2, 3), COPY(1, 2), PUT(1));
+    COVERED_BY(1, 4, rule_of(9, 29, "1", 9), COPY(2, 3), PUT(2)); /* an equal match */
+    COVERED_BY(TCAM_NONE, 4, rule_of(9, 31, "1", 9), COPY(2, 3), COPY(1, 2), PUT(1));
+    COVERED_BY(2, 4, rule_of(9, 10, "01", 9), PUT(3));
+    COVERED_BY(0, 4, rule_of(9, 19, "10", 9), PUT(3)); /* the lowest of three */
+    COVERED_BY(2, 4, rule_of(9, 19, "", 9), PUT(3));
+    COVERED_BY(TCAM_NONE, 4, rule_of(9, 41, "101", 9), COPY(2, 3), COPY(1, 2), COPY(0, 1), PUT(0));
+
+    /* two rules that cover the new one only together */
+    HOLD({0, 1, 40, "10", 1}, {1, 2, 30, "11", 2});
+    COVERED_BY(TCAM_NONE, 3, rule_of(9, 10, "1", 9), PUT(2));
+
+    /* the slot is one of the table before the plan: here the new rule goes to it */
+    HOLD({1, 1, 40, "1", 1}, {2, 2, 10, "1", 2});
+    COVERED_BY(1, 3, rule_of(9, 20, "1", 9), COPY(1, 0), PUT(1));
+    COVERED_BY(1, 3, rule_of(9, 20, "11", 9), COPY(1, 0), PUT(1));
+}
+
+/* A rule that is sent again: one of its own rank does not cover it, and one of a higher rank may. */
+static void covered_replacements(void)
+{
+    HOLD({0, 1, 40, "10", 1}, {1, 2, 30, "1", 9}, {2, 3, 20, "", 9});
+    COVERED_BY(TCAM_NONE, 4, rule_of(9, 30, "1", 9), PUT(1));
+    COVERED_BY(TCAM_NONE, 3, rule_of(9, 20, "", 9), PUT(2));
+    HOLD({0, 1, 40, "1", 1}, {1, 2, 30, "0", 9}, {2, 3, 20, "11", 9});
+    COVERED_BY(0, 3, rule_of(9, 20, "11", 9), PUT(2));
+    COVERED_BY(TCAM_NONE, 3, rule_of(9, 30, "0", 9), PUT(1));
+}
+
+/* Each bit of the width by itself, in both rules, with another value, or in the mask of one of them alone. */
+static void covered_at_each_bit(void)
+{
+    for (uint32_t bit = 0; bit < 64 * width; bit++) {
+        const uint32_t word = bit / 64, other = (bit + 1) % (64 * width);
+        const uint64_t one = TOP >> bit % 64;
+        struct rule narrower = of_word(9, 10, word, one, one);
+        narrower.mask[other / 64] |= TOP >> other % 64;
+        clear();
+        put(0, of_word(1, 40, word, one, one));
+        COVERED_BY(0, 2, of_word(9, 10, word, one, one), PUT(1));
+        COVERED_BY(0, 2, narrower, PUT(1));
+        COVERED_BY(TCAM_NONE, 2, of_word(9, 10, word, 0, one), PUT(1));
+        COVERED_BY(TCAM_NONE, 2, of_word(9, 10, word, 0, 0), PUT(1));
+        COVERED_BY(TCAM_NONE, 2, of_word(9, 10, other / 64, 0, TOP >> other % 64), PUT(1));
+    }
+}
+
+/* Ranks are compared, and not priorities. */
+static void covered_by_rank(void)
+{
+    HOLD({0, 1, 65535, "", 1});
+    COVERED_BY(0, 2, for_key_zero(9, 7, 9), PUT(1));
+    edition = TCAM_EDITION_10;
+    COVERED_BY(0, 2, for_two_keys(9, 7, 64 * width - 1, 9), PUT(1));
+    COVERED_BY(TCAM_NONE, 2, for_key_zero(9, 7, 9), COPY(0, 1), PUT(0));
+    clear();
+    put(0, for_key_zero(1, 65536, 1));
+    COVERED_BY(TCAM_NONE, 2, for_key_zero(9, 7, 1), PUT(0));
+    edition = TCAM_EDITION_13;
+    COVERED_BY(0, 2, for_key_zero(9, 65535, 9), PUT(1));
+}
+
+/* In an uncounted table a rule of the same action covers too, and one may stand behind the rule that it covers. */
+static void covered_by_own_action(void)
+{
+    HOLD({0, 1, 40, "1", 7});
+    COVERED_BY(0, 2, rule_of(9, 10, "11", 7), PUT(1));
+    COVERED_BY(0, 2, rule_of(9, 10, "1", 7), PUT(1));
+    COVERED_BY(TCAM_NONE, 2, rule_of(9, 40, "11", 7), PUT(1));
+    COVERED_BY(TCAM_NONE, 2, rule_of(9, 50, "11", 7), PUT(1));
+    HOLD({0, 1, 20, "1", 7}, {1, 2, 30, "1", 7});
+    COVERED_BY(1, 3, rule_of(9, 20, "1", 7), PUT(0));
+    COVERED_BY(0, 3, rule_of(9, 10, "1", 7), PUT(2));
+
+    HOLD({1, 1, 40, "1", 7});
+    COVERED_BY(1, 2, rule_of(9, 10, "11", 7), PUT(0));
+    INSERTED(2, rule_of(9, 10, "11", 7), PUT(0));
+    look_up(__LINE__, 2, TOP | TOP >> 1, 0, 0, 9, 7); /* so that a key is told the covered one */
+}
+
+static void cover_cases(void)
+{
+    covered_rules();
+    covered_replacements();
+    covered_at_each_bit();
+    covered_by_rank();
+    under_every_flag(covered_rules);
+    under_every_flag(covered_replacements);
+    under_every_flag(covered_by_own_action);
 }
 
 /* 1,024 slots, one of them empty. */
@@ -1788,7 +1952,8 @@ static void long_tables_of_few_rules(void)
 #define CAUSES (TCAM_ROOM + 1)
 static struct {
     unsigned long refused[CAUSES], planned, of_count[TCAM_MAX_SLOTS + 1], whole, up, equal, choice_tie, hop_tie, on_dependant,
-        around_dependant, raised, below_raised, replaced, replaced_in_full, searched, deleted, not_deleted[CAUSES];
+        around_dependant, raised, below_raised, replaced, replaced_in_full, covered, replaced_covered, searched, deleted,
+        not_deleted[CAUSES];
     /* of uncounted tables: plans where a counted one declines with this number, shorter ones, and one of several equal replaced */
     unsigned long spared[CAUSES], shorter, one_of_several;
 } seen;
@@ -1845,9 +2010,11 @@ static void count_insert(const uint64_t *held, uint32_t slots, const struct rule
     if (replaces(held, slots, rule)) {
         seen.replaced++;
         seen.replaced_in_full += !has_empty_slot(held, slots);
+        seen.replaced_covered += told->covered != TCAM_NONE;
         return;
     }
     seen.planned++;
+    seen.covered += told->covered != TCAM_NONE;
     seen.of_count[told->count]++;
     seen.whole += told->count == slots && slots > 2;
     seen.up += way.up != 0;
@@ -1888,6 +2055,7 @@ static void made_insert(const struct lent *lent, uint32_t slots, const struct ru
     if (cells.now[COUNT] > plan.room)
         return;
     carry_out_insert(lent->original, slots, rule, plan.words, cells.now[COUNT], keys);
+    check_obscured(slots, rule, cells.now[COVERED], keys);
     if (slots <= CLASS_SLOTS && !replaces(lent->original, slots, rule)) {
         CHECK(least_in_class(lent->original, slots, rule) == cells.now[COUNT]);
         seen.searched++;
@@ -2263,6 +2431,9 @@ static void check_plans(unsigned long tables)
     CHECK(seen.below_raised > tables / 100);
     CHECK(seen.replaced > tables / 20);
     CHECK(seen.replaced_in_full > tables / 50);
+    CHECK(seen.covered > tables / 10);
+    CHECK(seen.planned - seen.covered > tables / 10);
+    CHECK(seen.replaced_covered > tables / 100);
     CHECK(seen.searched > tables / 5);
     CHECK(seen.deleted > tables / 4);
     CHECK(seen.spared[TCAM_ORDER] > tables / 20);
@@ -2306,7 +2477,7 @@ int main(int count, char **words)
         priorities_at_ends, mask_zero, choices, displaced_rules, rules_apart, rules_apart_in_words, wrong_lengths,
         long_lengths, unsound_records, ids_twice, disordered, unsound_rules, known_and_tied, sent_again,
         nearly_sent_again, crossed, uncounted_cases, different_actions, fault_sets, either_edition, tied_ranks,
-        masks_not_full, ranks_of_records, other_editions, priorities_given, long_chains, long_tables_apart,
+        masks_not_full, ranks_of_records, other_editions, priorities_given, cover_cases, long_chains, long_tables_apart,
         long_tables_of_few_rules, all_tables, random_tables, longer_tables,
     };
     tables_made = begin(count, words, 102000) / 2;

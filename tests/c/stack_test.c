@@ -25,8 +25,8 @@ static const struct limits {
     size_t write;       /* for each word of the plan */
     size_t save, load;
 } limits[] = {
-    {TCAM_WIDTH_128, 288, 128, 24640, 320, 30992, 10752, 96, 24704, 74112},
-    {TCAM_WIDTH_320, 288, 128, 24640, 320, 30992, 10752, 96, 24704, 123264},
+    {TCAM_WIDTH_128, 288, 128, 24640, 320, 31008, 10752, 96, 24704, 74112},
+    {TCAM_WIDTH_320, 288, 128, 24640, 320, 31008, 10752, 96, 24704, 123264},
 };
 static const struct limits *limit;
 
@@ -57,7 +57,7 @@ static tcam_progress progress;
 
 static unsigned char *stack;
 static uint64_t carried;
-static uint32_t result, first, slot, id, action, count, bytes_saved, spot;
+static uint32_t result, first, slot, id, action, count, covered, bytes_saved, spot;
 static unsigned char *top; /* the stack of the function that calls */
 
 /* Each runs on the painted stack. What it uses counts from its own frame, with the arguments that it pushes. */
@@ -78,7 +78,7 @@ ON_OWN_STACK run_slot_record(void)
 ON_OWN_STACK run_plan_insert(void)
 {
     top = __builtin_frame_address(0);
-    result = tcam_plan_insert(table, words, width, uncounted, rule, rule_words, edition, plan, room, &count, &spot);
+    result = tcam_plan_insert(table, words, width, uncounted, rule, rule_words, edition, plan, room, &count, &covered, &spot);
 }
 
 ON_OWN_STACK run_plan_delete(void)

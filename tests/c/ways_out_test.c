@@ -92,8 +92,10 @@ static uint32_t plan_insert(const uint64_t *table, size_t words, const uint64_t 
                             uint32_t *spot)
 {
     record_words given;
+    uint32_t covered;
     edition = give(given, rule);
-    return tcam_plan_insert(table, words, width, uncounted, given, TCAM_RECORD_WORDS(width), edition, plan, MOST, count, spot);
+    return tcam_plan_insert(table, words, width, uncounted, given, TCAM_RECORD_WORDS(width), edition, plan, MOST, count, &covered,
+                            spot);
 }
 
 /* Inserts, and gives the number of writes; 0 where the insert is declined, with this number. */

@@ -9,8 +9,9 @@ use reference::carry::{carry_out, Carried, Progress};
 use reference::given::Given;
 use reference::image::{load, save};
 use reference::lookup::{is_promised, lookup, slot_record, Found};
-use reference::plan::{plan_delete, plan_insert, replaced_slot};
+use reference::plan::{plan_delete, plan_insert, replaced_slot, Planned};
 use reference::table::{first_out_of_order, read_slots, record_words, Refusal, Rule, Slot, COUNTED};
+use support::calls::NONE;
 
 /// Tables of up to this many slots are tested for order after every write; larger ones now and then, and around the last write.
 const SLOTS_ALWAYS_TESTED: usize = 64;
@@ -40,8 +41,8 @@ pub fn check(library: &Guarded, input: &Input, tally: &mut Tally) -> Result<(), 
             tally.part(input, expected.result, read_slots(&input.table, input.width).map(|_| ()));
             same("slot_record", library.slot_record(input), expected)
         }
-        Call::PlanInsert => check_plan(library, input, tally).map(|_| ()),
-        Call::PlanDelete => check_plan(library, input, tally).map(|_| ()),
+        Call::PlanInsert => check_plan_insert(library, input, tally).map(|_| ()),
+        Call::PlanDelete => check_plan_delete(library, input, tally).map(|_| ()),
         Call::CarryOut => check_carry_out(library, &mut input.clone(), tally).map(|_| ()),
         Call::Save => check_save(library, input, tally),
         Call::Load => check_load(library, input, tally),
@@ -119,32 +120,47 @@ fn expected_slot_record(input: &Input) -> Seen {
     expected
 }
 
-/// An insert's or a delete's plan, as far as the call is the one or the other.
-fn check_plan(library: &Guarded, input: &Input, tally: &mut Tally) -> Result<Option<Vec<u32>>, Mismatch> {
-    let is_insert = matches!(input.call, Call::PlanInsert | Call::InsertInFull);
-    let call = if is_insert { Call::PlanInsert } else { Call::PlanDelete };
-    let name = |writes: &[u32]| if is_insert { plan_kind(input, writes) } else { "emptying" };
-    let answer = tally.by_flag(call, input, name, |uncounted| match call {
-        Call::PlanInsert => plan_insert(&input.table, input.width, uncounted, &input.rule, input.edition, input.room),
-        _ => plan_delete(&input.table, input.width, uncounted, input.id, input.room),
+/// The plan of an insert, and the slot of the rule that covers the new one.
+fn check_plan_insert(library: &Guarded, input: &Input, tally: &mut Tally) -> Result<Option<Vec<u32>>, Mismatch> {
+    let name = |planned: &Planned| plan_kind(input, &planned.writes);
+    let answer = tally.by_flag(Call::PlanInsert, input, name, |uncounted| {
+        plan_insert(&input.table, input.width, uncounted, &input.rule, input.edition, input.room)
     });
-    let mut expected = untouched(input, 2);
-    expected.beside = if is_insert { input.rule.clone() } else { Vec::new() };
+    let mut expected = untouched(input, 3);
+    expected.beside = input.rule.clone();
+    if let Ok(planned) = &answer {
+        expected.cells[1] = planned.covered.map_or(NONE, |slot| slot as u32);
+        tally.cover(input, planned);
+    }
+    let answer = answer.map(|planned| planned.writes);
+    expected = with_plan(expected, Call::PlanInsert, input, &answer, tally);
+    same("plan_insert", library.plan_insert(input), expected)?;
+    Ok(answer.ok())
+}
+
+fn check_plan_delete(library: &Guarded, input: &Input, tally: &mut Tally) -> Result<Option<Vec<u32>>, Mismatch> {
+    let planned = |uncounted: bool| plan_delete(&input.table, input.width, uncounted, input.id, input.room);
+    let answer = tally.by_flag(Call::PlanDelete, input, |_| "emptying", planned);
+    let expected = with_plan(untouched(input, 2), Call::PlanDelete, input, &answer, tally);
+    same("plan_delete", library.plan_delete(input), expected)?;
+    Ok(answer.ok())
+}
+
+/// What is seen of a plan, whose first cell is its count, or of its refusal; either is counted.
+fn with_plan(mut expected: Seen, call: Call, input: &Input, answer: &Result<Vec<u32>, Refusal>, tally: &mut Tally) -> Seen {
     expected.plan = initial_words(input.room);
-    match &answer {
+    match answer {
         Ok(writes) => {
             expected.cells[0] = writes.len() as u32;
             expected.plan[..writes.len()].copy_from_slice(writes);
             tally.plan(call, input, writes);
+            expected
         }
         Err(refusal) => {
-            expected = refused(expected, *refusal);
             tally.refusal(call, input, *refusal);
+            refused(expected, *refusal)
         }
     }
-    let seen = if is_insert { library.plan_insert(input) } else { library.plan_delete(input) };
-    same(if is_insert { "plan_insert" } else { "plan_delete" }, seen, expected)?;
-    Ok(answer.ok())
 }
 
 /// One write; table and progress of the input are advanced as the reference says.
@@ -261,6 +277,8 @@ fn rules_after(input: &Input, slots: &[Slot]) -> Vec<Rule> {
 /// Plans, then carries out write by write, and gives the last table. Before the last write each key has its old reply, after it its
 /// new one; in an uncounted table only the reply's action is the old one and the new one.
 fn check_change(library: &Guarded, input: &Input, tally: &mut Tally) -> Result<Option<Vec<u64>>, Mismatch> {
+    let is_delete = input.call == Call::DeleteInFull;
+    let check_plan = if is_delete { check_plan_delete } else { check_plan_insert };
     let Some(writes) = check_plan(library, input, tally)? else { return Ok(None) };
     let slots = read_slots(&input.table, input.width).expect("a planned table is sound");
     let new_rules = rules_after(input, &slots);

@@ -135,10 +135,11 @@ impl Guarded {
 
     pub fn plan_insert(&self, input: &Input) -> Seen {
         let contents = Contents { beside: &input.rule, plan: &initial_words(input.room), ..Contents::default() };
-        self.observe(input, contents, 2, |Buffers { table, beside: rule, plan, .. }, cells| unsafe {
+        self.observe(input, contents, 3, |Buffers { table, beside: rule, plan, .. }, cells| unsafe {
             let (width, flag, edition) = (input.width as u32, input.uncounted, input.edition);
-            let (count, spot) = (cells.cell(0), cells.cell(1));
-            u64::from(tcam_plan_insert(table.0, table.1, width, flag, rule.0, rule.1, edition, plan.0, plan.1, count, spot))
+            let (count, covered, spot) = (cells.cell(0), cells.cell(1), cells.cell(2));
+            let ((table, words), (rule, rule_words), (plan, room)) = (*table, *rule, *plan);
+            u64::from(tcam_plan_insert(table, words, width, flag, rule, rule_words, edition, plan, room, count, covered, spot))
         })
     }
 

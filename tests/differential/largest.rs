@@ -33,6 +33,8 @@ enum Edge {
     Tie,
     /// The new rule has value, mask and rank of that of the last slot; no slot is empty.
     Replaced,
+    /// Only the last slot's rule covers the new one, and its rank is higher.
+    Covered,
     /// Only the last slot's rule precedes the new one, and one that depends on the new one stands before it.
     Crossed,
     /// As `Order`, `Tie` and `Crossed`, but the two rules have one action and the table is uncounted.
@@ -71,6 +73,7 @@ const KINDS: &[(Call, Edge)] = &[
     (Call::PlanInsert, Edge::Known),
     (Call::PlanInsert, Edge::Tie),
     (Call::PlanInsert, Edge::Replaced),
+    (Call::PlanInsert, Edge::Covered),
     (Call::PlanInsert, Edge::Crossed),
     (Call::PlanInsert, Edge::PutIn),
     (Call::PlanInsert, Edge::OrderSpared),
@@ -199,7 +202,7 @@ const CODE_BITS: usize = 11;
 /// The plan of the input's rule, carried out up to one of its last three writes.
 fn carried_far(random: &mut Random, input: &mut Input, mut table: Vec<Slot>) {
     let plan = plan_insert(&input.table, input.width, input.is_uncounted(), &input.rule, input.edition, SLOTS_MOST);
-    input.plan = plan.expect("the rule has its place");
+    input.plan = plan.expect("the rule has its place").writes;
     let writes = input.plan.len();
     let done = random.between(writes - 3, writes - 1);
     for &write in &input.plan[..done] {
@@ -220,11 +223,12 @@ fn last_slot(random: &mut Random, mut input: Input, edge: Edge) -> Input {
     spoil(random, &mut table, edge, (input.width, other));
     match edge {
         Edge::Known => new.id = last.id,
+        Edge::Covered => new.rank -= 1,
         Edge::Tie | Edge::TieSpared => tie(random, &mut table, &mut new, (input.width, place)),
         Edge::Crossed | Edge::CrossedSpared => cross(random, &mut table, &mut new, (input.width, place)),
         _ => {}
     }
-    if edge.is_spared() {
+    if edge.is_spared() || matches!(edge, Edge::Covered) {
         // for the new rule; the slot of neither rule
         table[(other + 1) % LAST] = None;
     }

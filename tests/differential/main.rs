@@ -7,6 +7,7 @@ mod actions;
 mod alike;
 mod apart;
 mod compare;
+mod covered;
 mod exact;
 mod fence;
 mod guarded;

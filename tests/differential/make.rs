@@ -1,5 +1,5 @@
 // How inputs are made: sound tables of every fill and layout, damage to them, arbitrary words, plans and images.
-// Rules use few bit positions, so that overlaps, ties and crossings are frequent and plans long.
+// Rules use few bit positions, so that overlaps, ties and crossings are frequent and plans long, and one rule often covers another.
 // In larger tables they also stand apart, so that the maps of 160 slots and more tell most pairs.
 // Half of the inputs have values of two words, half of five; in some, words and width don't fit each other.
 // In half of the tables some rules are exact, with every mask bit set, or nearly so, among those that are not.
@@ -25,6 +25,8 @@ enum Style {
     Path,
     /// Prefixes of few values: nested or apart.
     Prefix,
+    /// Parts of one value over the places in use: of two rules one mostly covers the other, and many match alike.
+    Nested { value: usize },
     /// Each bit 0, 1 or uncared for.
     Mixed,
     /// Mask 0 or nearly: every pair overlaps.
@@ -165,13 +167,17 @@ fn style(random: &mut Random, slots: usize, width: usize) -> Style {
     if random.one_in(if slots > 12 { 2 } else { 8 }) {
         return Style::Apart { groups: random.pick(&GROUPS), place: group_place(random, width) };
     }
-    random.pick(&[Style::Path, Style::Path, Style::Prefix, Style::Mixed, Style::Mixed, Style::Wild, Style::Wide])
+    let nested = Style::Nested { value: random.below(1 << BITS_MOST) };
+    random.pick(&[Style::Path, Style::Path, Style::Prefix, nested, nested, Style::Mixed, Style::Mixed, Style::Wild, Style::Wide])
 }
+
+/// The most positions that a table uses.
+const BITS_MOST: usize = 7;
 
 /// Up to seven positions, often the ends of the words.
 fn bit_positions(random: &mut Random, width: usize) -> Vec<usize> {
     let mut bits: Vec<usize> = Vec::new();
-    let count = random.pick(&[1, 2, 3, 3, 4, 4, 5, 7]);
+    let count = random.pick(&[1, 2, 3, 3, 4, 4, 5, BITS_MOST]);
     while bits.len() < count {
         let in_word = if random.one_in(2) { random.pick(&[0, 1, 31, 32, 62, 63]) } else { random.below(64) };
         let bit = 64 * random.below(width) + in_word;
@@ -219,6 +225,7 @@ impl Maker<'_> {
                 let mask = self.spread((1 << length) - 1);
                 (self.some_bits() & mask, mask)
             }
+            Style::Nested { value } => self.part_of(value),
             Style::Mixed => {
                 let mask = self.some_bits();
                 (self.some_bits() & mask, mask)
@@ -239,6 +246,15 @@ impl Maker<'_> {
                 (group_number(group_place, group) & mask, mask)
             }
         }
+    }
+
+    /// The first places of a value, sometimes with some left out or with other bits.
+    fn part_of(&mut self, value: usize) -> Pattern {
+        let length = self.random.below(self.bits.len() + 1);
+        let others = if self.random.one_in(8) { self.some_bits() } else { Bits::NONE };
+        let left_out = if self.random.one_in(4) { self.some_bits() } else { Bits::NONE };
+        let mask = self.spread((1 << length) - 1) & !left_out;
+        ((self.spread(value) ^ others) & mask, mask)
     }
 
     /// A sound table and an insert or a delete, planned and carried out, with keys to be looked up between the writes. A delete's
@@ -621,8 +637,8 @@ impl Maker<'_> {
     fn plan_to_carry_out(&mut self, input: &mut Input, slots: usize) {
         if self.random.one_in(4) {
             let edition = self.random.pick(&[EDITION_10, EDITION_13]);
-            if let Ok(plan) = plan_insert(&input.table, self.width, input.is_uncounted(), &input.rule, edition, slots) {
-                input.plan = plan;
+            if let Ok(planned) = plan_insert(&input.table, self.width, input.is_uncounted(), &input.rule, edition, slots) {
+                input.plan = planned.writes;
             }
         }
         if self.again {

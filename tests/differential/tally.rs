@@ -5,6 +5,7 @@
 
 use crate::actions::FLAGS;
 use crate::alike::{alike, ANOTHER_MASK, ANOTHER_RANK, EQUAL};
+use crate::covered::{self, COVERED, UNCOVERED};
 use crate::exact::OTHER_EDITIONS;
 use crate::input::{Call, Input};
 use crate::largest::{LAST, LONG};
@@ -12,7 +13,7 @@ use reference::bits::{Bits, WIDTHS};
 use reference::carry::{fits, Carried};
 use reference::given::{Given, EDITION_10, EDITION_13};
 use reference::image::image_bytes;
-use reference::plan::{EMPTYING, PUT_IN};
+use reference::plan::{Planned, EMPTYING, PUT_IN};
 use reference::table::{
     read_slots, record_words, rule_of, Refusal, Rule, CROSSED, EDITION, EXACT_RANK, FULL, IMAGE, KNOWN, ORDER, RECORD, RULE,
     SHAPE, SHORT, SLOTS_MOST, TIE, TWICE, UNKNOWN, WRITE,
@@ -76,6 +77,7 @@ fn wanted() -> Vec<(Call, String)> {
     want(Call::Load, &["14 at 2, the other width's length"], &[TWICE, ORDER]);
     wanted.extend(wanted_of_editions());
     wanted.extend(wanted_of_replacements());
+    wanted.extend(wanted_of_covers());
     wanted.extend(wanted_of_uncounted());
     wanted.extend(wanted_of_large());
     wanted.extend(wanted_of_largest());
@@ -86,7 +88,7 @@ fn wanted() -> Vec<(Call, String)> {
 const HELD: [(Call, &[&str]); 7] = [
     (Call::Lookup, &["hit", "miss"]),
     (Call::SlotRecord, &["record", "empty part"]),
-    (Call::PlanInsert, &["one write", "down", "up", "replacement", "6", "8", "9", "10", "18"]),
+    (Call::PlanInsert, &["one write", "down", "up", "replacement", COVERED, UNCOVERED, "6", "8", "9", "10", "18"]),
     (Call::PlanDelete, &["emptying", "7"]),
     (Call::CarryOut, &["copied", "put in", "emptied", "finished"]),
     (Call::Save, &["saved"]),
@@ -106,7 +108,7 @@ fn wanted_of_editions() -> Vec<(Call, String)> {
     // action in an uncounted table
     want(Call::PlanInsert, &["one write, rank 65,536", "down, rank 65,536", "replacement, rank 65,536", "8, rank 65,536"]);
     for kind in ["one write", "down", "up", "replacement", "8"] {
-        want(Call::PlanInsert, &[&format!("{kind}, exact under 13"), &format!("{kind}, nearly exact")]);
+        want(Call::PlanInsert, &[&exact_under_13(kind), &nearly_exact(kind)]);
     }
     want(Call::PlanInsert, &["5, 65,536 exact", "5, another edition", "18, id present"]);
     want(Call::CarryOut, &["put in, rank 65,536", "put in, exact under 13", "put in, nearly exact", "5, 65,536 exact"]);
@@ -139,13 +141,27 @@ fn wanted_of_replacements() -> Vec<(Call, String)> {
     wanted
 }
 
+/// What every run must reach of rules that another covers and of rules that none does: in plans of each kind, in tables of many slots
+/// and of 1,024, and beside rules that a wrong comparison would name.
+fn wanted_of_covers() -> Vec<(Call, String)> {
+    let mut wanted: Vec<String> = covered::KINDS.map(str::to_string).to_vec();
+    for kind in [COVERED, UNCOVERED] {
+        wanted.extend([kind.to_string(), large(kind), exact_under_13(kind), nearly_exact(kind)]);
+        wanted.extend(["one write", "down", "up", "replacement"].map(|plan| with(plan, kind)));
+    }
+    // no rank is above 65,536
+    wanted.extend([last(COVERED), ranked_highest(UNCOVERED)]);
+    wanted.into_iter().map(|kind| (Call::PlanInsert, kind)).collect()
+}
+
 /// The key's reply has another id than that of the highest-ranked match; or another than one write before, within a plan.
 pub const OTHER_ID: &str = "another id of the action";
 pub const ID_CHANGES: &str = "the id changes in a plan";
 
 /// The answers to calls that are told of a table whether it is counted, which are counted apart too where it is not.
-const TOLD: [(Call, &[&str]); 4] = [
+const TOLD: [(Call, &[&str]); 5] = [
     (Call::PlanInsert, &["2", "3", "4", "5", "18", "6", "8", "9", "10", "11", "one write", "down", "up", "replacement"]),
+    (Call::PlanInsert, &[COVERED, UNCOVERED]),
     (Call::PlanDelete, &["2", "3", "4", "5", "7", "11", "emptying"]),
     (Call::Save, &["2", "3", "4", "11", "saved"]),
     (Call::Load, &["14 at 0", "14 at 2", "14 at an id", "14 at a slot", "14 at an offset", "14 at a body", "3", "4", "loaded"]),
@@ -264,7 +280,7 @@ fn held(kind: &str) -> String {
     format!("{kind}, 65,536 held")
 }
 
-/// The name of an answer to a rule that is like one of the table.
+/// The name of an answer to a rule that is like one of the table, or of a plan by whether a rule covers the new one.
 fn with(kind: &str, like: &str) -> String {
     format!("{kind}, {like}")
 }
@@ -277,6 +293,15 @@ fn full(kind: &str) -> String {
 /// The name of an answer where the rule that is given gets rank 65,536.
 fn ranked_highest(kind: &str) -> String {
     format!("{kind}, rank 65,536")
+}
+
+/// The name of an answer where the rule that is given is exact under 1.3, and where it is nearly so under 1.0.
+fn exact_under_13(kind: &str) -> String {
+    format!("{kind}, exact under 13")
+}
+
+fn nearly_exact(kind: &str) -> String {
+    format!("{kind}, nearly exact")
 }
 
 /// The name of a refusal for an edition that there is not.
@@ -405,17 +430,17 @@ impl Tally {
         &mut self,
         call: Call,
         input: &Input,
-        name: impl Fn(&[T]) -> &'static str,
-        answer: impl Fn(bool) -> Result<Vec<T>, Refusal>,
-    ) -> Result<Vec<T>, Refusal> {
+        name: impl Fn(&T) -> &'static str,
+        answer: impl Fn(bool) -> Result<T, Refusal>,
+    ) -> Result<T, Refusal> {
         let (told, other) = (answer(input.is_uncounted()), answer(!input.is_uncounted()));
         if told != other {
             let [kind, other_kind] = [&told, &other].map(|answer| match answer {
-                Ok(items) => name(items).to_string(),
+                Ok(accepted) => name(accepted).to_string(),
                 Err(refusal) => refusal.number.to_string(),
             });
             let apart = if input.is_uncounted() { not_counted(&kind, &other_kind) } else { not_uncounted(&kind, &other_kind) };
-            let is_last = |answer: &Result<Vec<T>, Refusal>| answer.as_ref().is_err_and(|refusal| refusal.spot == LAST as u64);
+            let is_last = |answer: &Result<T, Refusal>| answer.as_ref().is_err_and(|refusal| refusal.spot == LAST as u64);
             if self.slots == SLOTS_MOST && (is_last(&told) || is_last(&other)) {
                 self.add(call, last(&apart));
             }
@@ -452,6 +477,22 @@ impl Tally {
             self.add(call, longest(kind));
         } else if writes.len() >= LONG {
             self.add(call, long(kind));
+        }
+    }
+
+    /// Whether a planned insert tells that a rule covers the new one, and of which slot.
+    pub fn cover(&mut self, input: &Input, planned: &Planned) {
+        let (call, kind) = (Call::PlanInsert, if planned.covered.is_some() { COVERED } else { UNCOVERED });
+        match planned.covered {
+            Some(slot) => self.count_at(call, kind, slot),
+            None => self.count(call, kind),
+        }
+        self.add(call, with(plan_kind(input, &planned.writes), kind));
+        if let Some(apart) = given_apart(kind, input) {
+            self.add(call, apart);
+        }
+        for apart in covered::kinds(input, planned) {
+            self.add(call, apart.to_string());
         }
     }
 
@@ -610,8 +651,8 @@ fn given_apart(kind: &str, input: &Input) -> Option<String> {
     let is_exact = rule.mask == Bits::all(input.width);
     match input.edition {
         EDITION_10 if is_exact => Some(ranked_highest(kind)),
-        EDITION_13 if is_exact => Some(format!("{kind}, exact under 13")),
-        EDITION_10 if is_nearly_exact(rule.mask, input.width) => Some(format!("{kind}, nearly exact")),
+        EDITION_13 if is_exact => Some(exact_under_13(kind)),
+        EDITION_10 if is_nearly_exact(rule.mask, input.width) => Some(nearly_exact(kind)),
         _ => None,
     }
 }

@@ -1,12 +1,12 @@
-// What is checked of one table with new rules: the library's answer beside the reference's, the plan's length beside the search, and
-// what every key is answered at every write. Beside it what a run has counted.
+// What is checked of one table with new rules: the library's answer beside the reference's, the plan's length beside the search, what
+// every key is answered at every write, and the rule that covers the new one by its keys. Beside it what a run has counted.
 
 use crate::shortest::shortest_sequence;
 use crate::tables::{place_of, Both, New};
 use reference::bits::{Bits, WIDTHS};
 use reference::carry::{fits, Progress};
 use reference::lookup::is_promised;
-use reference::plan::{replaced_slot, write_word, PUT_IN};
+use reference::plan::{replaced_slot, write_word, Planned, PUT_IN};
 use reference::table::{check_ids_and_order, first_out_of_order, words_of, Rule, Slot};
 use std::collections::BTreeMap;
 
@@ -19,14 +19,16 @@ pub struct Counts {
     pub replacements: u64,
     pub replacements_in_full: u64,
     pub replacements_of_several: u64,
+    /// Inserts, of all that are planned, whose rule another covers.
+    pub covered: u64,
     /// Refused inserts by the refusal's number.
     pub refused: BTreeMap<u32, u64>,
 }
 
 impl Counts {
-    /// Tables, inserts that were compared with the search, and replacements.
-    pub fn sums(&self) -> (u64, u64, u64) {
-        (self.tables, self.planned.values().sum(), self.replacements)
+    /// Tables, inserts that were compared with the search, replacements, and of both those whose rule another covers.
+    pub fn sums(&self) -> (u64, u64, u64, u64) {
+        (self.tables, self.planned.values().sum(), self.replacements, self.covered)
     }
 
     pub fn print(&self, what: &str) {
@@ -36,6 +38,7 @@ impl Counts {
             "  inserts that replace an equal rule, each checked by itself: {}, of them {} in full tables, {} beside equal ones",
             self.replacements, self.replacements_in_full, self.replacements_of_several
         );
+        println!("  of both, rules that another covers, by all keys: {}", self.covered);
         println!("  inserts refused, by number: {:?}", self.refused);
     }
 }
@@ -66,13 +69,24 @@ pub fn check_table(tables: &Both<Vec<Slot>>, new_rules: &[New], uncounted: bool,
                 *counts.refused.entry(refusal.number).or_default() += 1;
                 Ok(())
             }
-            Ok(plan) => match replaced {
-                Some(slot) => asked.check_replacement(new, slot, &plan, counts),
-                None => asked.check_plan(new, &plan, counts),
-            },
+            Ok(planned) => {
+                let checked = match replaced {
+                    Some(slot) => asked.check_replacement(new, slot, &planned.writes, counts),
+                    None => asked.check_plan(new, &planned.writes, counts),
+                };
+                checked.and_then(|()| asked.check_cover(new, &planned, counts))
+            }
         };
         checked.unwrap_or_else(|what| asked.fail(new, &what));
     }
+}
+
+/// A write of a plan, which puts the rule in or copies one.
+fn make(slots: &mut [Slot], write: u32, rule: Rule) {
+    slots[write as usize % 65_536] = match write / 65_536 {
+        PUT_IN => Some(rule),
+        from => slots[from as usize],
+    };
 }
 
 /// Every key over the bits of the patterns.
@@ -148,12 +162,31 @@ impl Asked<'_> {
             if !fits(&slots, write, Some(&rule)) {
                 return Err(format!("write {done} of the plan {plan:x?} does not fit"));
             }
-            slots[write as usize % 65_536] = match write / 65_536 {
-                PUT_IN => Some(rule),
-                from => slots[from as usize],
-            };
+            make(&mut slots, write, rule);
         }
         check_ids_and_order(&slots, self.uncounted).map_err(|refusal| format!("{refusal:?} after the plan {plan:x?}"))
+    }
+
+    /// The slot that is told is the lowest of a higher-ranked rule that every key of the new one matches. In a counted table no key
+    /// is answered by the new rule then, whatever write of the plan is the last.
+    fn check_cover(&self, new: &New, planned: &Planned, counts: &mut Counts) -> Result<(), String> {
+        let rule = new.rules[self.at];
+        let covers = |other: &Rule| self.keys.iter().filter(|key| rule.matches(**key)).all(|key| other.matches(*key));
+        let obscures = |entry: &Slot| entry.is_some_and(|other| other.rank > rule.rank && covers(&other));
+        if planned.covered != self.slots.iter().position(obscures) {
+            return Err(format!("by all keys another slot than {:?} covers the new rule", planned.covered));
+        }
+        let Some(covering) = planned.covered.and_then(|slot| self.slots[slot]) else { return Ok(()) };
+        counts.covered += 1;
+        let mut slots = self.slots.to_vec();
+        for &write in &planned.writes {
+            make(&mut slots, write, rule);
+            let is_answered = |key: &Bits| slots.iter().flatten().find(|other| other.matches(*key)) == Some(&rule);
+            if !self.uncounted && slots.contains(&Some(covering)) && self.keys.iter().any(is_answered) {
+                return Err(format!("a key is answered by the new rule, which slot {:?} covers", planned.covered));
+            }
+        }
+        Ok(())
     }
 
     /// Whether every key has a reply that the rules promise, which is the lowest matching slot's.

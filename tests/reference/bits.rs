@@ -8,6 +8,9 @@ pub const WIDTHS: [usize; 2] = [2, 5];
 
 const WORDS_MOST: usize = 5;
 
+/// The places that there are at the larger width.
+pub const BITS_MOST: usize = 64 * WORDS_MOST;
+
 /// At a smaller width the further words are 0, so that no rule cares for their bits.
 #[derive(Clone, Copy, Debug, Default, PartialEq, Eq, Hash)]
 pub struct Bits([u64; WORDS_MOST]);
@@ -29,6 +32,10 @@ impl Bits {
         let mut bits = Bits::NONE;
         bits.0[place / 64] = 1 << (63 - place % 64);
         bits
+    }
+
+    pub fn is_set(&self, place: usize) -> bool {
+        self.0[place / 64] >> (63 - place % 64) & 1 == 1
     }
 
     /// All bits of a width.

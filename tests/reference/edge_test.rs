@@ -7,7 +7,7 @@ use crate::bits::{Bits, WIDTHS};
 use crate::carry::{carry_out, Carried, Progress};
 use crate::given::{EDITION_10, EDITION_13};
 use crate::lookup::{lookup, slot_record, Found};
-use crate::plan::{plan_delete, plan_insert, write_word, EMPTYING, PUT_IN};
+use crate::plan::{plan_delete, plan_insert, write_word, Planned, EMPTYING, PUT_IN};
 use crate::table::*;
 
 /// A pattern is of `0 1 *`, highest bit first, the rest uncared for.
@@ -25,6 +25,11 @@ pub fn refused<T>(number: u32, spot: u64) -> Result<T, Refusal> {
 
 pub fn put(to: usize) -> u32 {
     write_word(PUT_IN, to)
+}
+
+/// What is told of an insert of a rule that no higher one covers.
+pub fn uncovered(writes: Vec<u32>) -> Result<Planned, Refusal> {
+    Ok(Planned { writes, covered: None })
 }
 
 /// What is the same at each width.
@@ -50,6 +55,11 @@ pub fn of_each_kind<T: PartialEq + std::fmt::Debug>(answer: impl Fn(bool) -> T) 
     counted
 }
 
+/// What is told of an insert, with so many words for its plan.
+pub fn told(uncounted: bool, slots: &[Slot], new: &Rule, room: usize) -> Result<Planned, Refusal> {
+    at_each(|width, edition| plan_insert(&words_of(slots, width), width, uncounted, &new.record(width), edition, room))
+}
+
 /// The plan for `new`, carried out, with order tested after each write.
 fn plan_of(slots: &[Slot], new: &Rule) -> Result<Vec<u32>, Refusal> {
     of_each_kind(|uncounted| at_each(|width, edition| plan_at(width, uncounted, slots, new, edition).map(|(plan, _)| plan)))
@@ -64,7 +74,7 @@ pub fn plan_at(
     edition: u32,
 ) -> Result<(Vec<u32>, Vec<Slot>), Refusal> {
     let (mut words, record) = (words_of(slots, width), new.record(width));
-    let plan = plan_insert(&words, width, uncounted, &record, edition, slots.len())?;
+    let plan = plan_insert(&words, width, uncounted, &record, edition, slots.len())?.writes;
     let mut progress = Progress { done: 0, total: plan.len() as u32 };
     while carry_out(&mut words, width, &record, edition, &plan, &mut progress)? == Carried::Wrote {
         assert_eq!(first_out_of_order(&read_slots(&words, width).unwrap(), uncounted), None);
@@ -126,10 +136,7 @@ fn priorities_of_apart_rules_are_not_compared() {
 fn short_buffer() {
     let slots = [None, Some(rule(1, 30, "1")), Some(rule(2, 10, "1"))];
     let new = rule(3, 20, "1");
-    let planned = |uncounted: bool| {
-        at_each(|width, edition| plan_insert(&words_of(&slots, width), width, uncounted, &new.record(width), edition, 1))
-    };
-    assert_eq!(of_each_kind(planned), refused(SHORT, 2));
+    assert_eq!(of_each_kind(|uncounted| told(uncounted, &slots, &new, 1)), refused(SHORT, 2));
     let planned = |uncounted: bool| at_each_width(|width| plan_delete(&words_of(&slots, width), width, uncounted, 2, 0));
     assert_eq!(of_each_kind(planned), refused(SHORT, 1));
 }
@@ -150,7 +157,7 @@ fn slot_counts() {
         let record = rule(1, 1, "1").record(width);
         let planned =
             |words: usize| of_each_kind(|uncounted| plan_insert(&vec![0; words], width, uncounted, &record, EDITION_13, 1));
-        assert_eq!(planned(slot_words * 1024), Ok(vec![put(0)]));
+        assert_eq!(planned(slot_words * 1024), uncovered(vec![put(0)]));
         for count in [0, 1, slot_words - 1, slot_words + 1, slot_words * 1025] {
             assert_eq!(planned(count), refused(SHAPE, 0));
             assert_eq!(lookup(&vec![0; count], width, &vec![0; width]), refused(SHAPE, 0));

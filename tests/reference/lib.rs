@@ -3,6 +3,7 @@
 
 pub mod bits;
 pub mod carry;
+pub mod cover;
 pub mod given;
 pub mod image;
 pub mod lookup;
@@ -10,6 +11,8 @@ pub mod plan;
 pub mod script;
 pub mod table;
 
+#[cfg(test)]
+mod cover_test;
 #[cfg(test)]
 mod edge_test;
 #[cfg(test)]

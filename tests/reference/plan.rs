@@ -1,6 +1,7 @@
 // How a plan is found: A, B, down and up costs, the choice, the chain, and the plan's words.
 // The costs are written as the paper defines them, for one slot from those of the slots on its far side.
 
+use crate::cover::covering_slot;
 use crate::given::Given;
 use crate::table::{
     check_shape, check_words, read_sound_table, record_words, refuse, Refusal, Rule, Slot, CROSSED, FULL, KNOWN, RULE, SHORT,
@@ -145,7 +146,15 @@ fn writes_of_chain(chain: &[usize]) -> Vec<u32> {
     writes
 }
 
-/// Checks 1 to 11, 18 after 5, and the plan's words; the new rule is a record, `room` is the length of the lent plan buffer, in words.
+/// What an accepted insert tells: its plan, and "the lowest slot of a higher-priority rule that alone covers the new one in the table
+/// before the plan", or that there is none.
+#[derive(Clone, Debug, PartialEq, Eq)]
+pub struct Planned {
+    pub writes: Vec<u32>,
+    pub covered: Option<usize>,
+}
+
+/// Checks 1 to 11, 18 after 5, and what an insert that passes them tells; the new rule is a record, `room` is the length of the lent plan buffer, in words.
 pub fn plan_insert(
     words: &[u64],
     width: usize,
@@ -153,7 +162,7 @@ pub fn plan_insert(
     rule: &[u64],
     edition: u32,
     room: usize,
-) -> Result<Vec<u32>, Refusal> {
+) -> Result<Planned, Refusal> {
     check_shape(words.len(), width)?;
     check_words(rule, record_words(width))?;
     let slots = read_sound_table(words, width, uncounted)?;
@@ -162,7 +171,7 @@ pub fn plan_insert(
     if writes.len() > room {
         return refuse(SHORT, writes.len());
     }
-    Ok(writes)
+    Ok(Planned { writes, covered: covering_slot(&slots, &new) })
 }
 
 /// The slot of the rule that a new one replaces: the lowest that holds an equal one, in an uncounted table one of the same action. A

@@ -3,10 +3,10 @@
 
 use crate::bits::{Bits, WIDTHS};
 use crate::carry::Carried;
-use crate::edge_test::{at_each, carried, plan_at, put, refused, rule};
+use crate::edge_test::{at_each, carried, plan_at, put, refused, rule, told, uncovered};
 use crate::given::{EDITION_10, EDITION_13};
 use crate::lookup::{lookup, Found};
-use crate::plan::{plan_insert, write_word, EMPTYING};
+use crate::plan::{write_word, Planned, EMPTYING};
 use crate::table::*;
 
 /// [1/30 `11` a7, 2/20 `1` a8], which is full.
@@ -19,14 +19,14 @@ fn sent_again() -> Rule {
     Rule { action: 5, ..rule(9, 20, "1") }
 }
 
-fn planned(slots: &[Slot], new: &Rule, room: usize) -> Result<Vec<u32>, Refusal> {
-    at_each(|width, edition| plan_insert(&words_of(slots, width), width, COUNTED, &new.record(width), edition, room))
+fn planned(slots: &[Slot], new: &Rule, room: usize) -> Result<Planned, Refusal> {
+    told(COUNTED, slots, new, room)
 }
 
 #[test]
 fn a_rule_sent_again_replaces_the_one_present() {
-    assert_eq!(planned(&full_table(), &sent_again(), 2), Ok(vec![put(1)]));
-    assert_eq!(planned(&full_table(), &sent_again(), 1), Ok(vec![put(1)]));
+    assert_eq!(planned(&full_table(), &sent_again(), 2), uncovered(vec![put(1)]));
+    assert_eq!(planned(&full_table(), &sent_again(), 1), uncovered(vec![put(1)]));
     assert_eq!(planned(&full_table(), &sent_again(), 0), refused(SHORT, 1));
     let (slots, reply) = at_each(|width, edition| {
         let (_, slots) = plan_at(width, COUNTED, &full_table(), &sent_again(), edition).unwrap();
@@ -49,9 +49,9 @@ fn what_is_not_equal_is_declined_as_before() {
 
 #[test]
 fn an_empty_slot_is_equal_to_nothing() {
-    assert_eq!(planned(&[None, None], &rule(9, 0, ""), 2), Ok(vec![put(0)]));
+    assert_eq!(planned(&[None, None], &rule(9, 0, ""), 2), uncovered(vec![put(0)]));
     let present = Some(rule(1, 0, ""));
-    assert_eq!(planned(&[None, present], &rule(9, 0, ""), 2), Ok(vec![put(1)]));
+    assert_eq!(planned(&[None, present], &rule(9, 0, ""), 2), uncovered(vec![put(1)]));
     assert_eq!(carried(&[None, present], &[put(0)], &rule(9, 0, ""), 0, 1).0, Ok(Carried::Wrote));
 }
 

@@ -119,8 +119,8 @@ fn answer_to(command: Command, words: &mut Vec<u64>) -> Result<String, Refusal> 
         }
         Command::Insert(rule) => {
             let record = rule.record(WIDTH);
-            let plan = plan_insert(words, WIDTH, COUNTED, &record, EDITION_13, words.len() / record_words(WIDTH))?;
-            Ok(carried_out(words, &record, &plan))
+            let planned = plan_insert(words, WIDTH, COUNTED, &record, EDITION_13, words.len() / record_words(WIDTH))?;
+            Ok(carried_out(words, &record, &planned.writes))
         }
         Command::Delete { id } => {
             let plan = plan_delete(words, WIDTH, COUNTED, id, 1)?;

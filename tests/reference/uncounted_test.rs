@@ -3,7 +3,7 @@
 
 use crate::bits::Bits;
 use crate::carry::{carry_out, Carried, Progress};
-use crate::edge_test::{at_each, at_each_width, carried, plan_at, put, refused, rule};
+use crate::edge_test::{at_each, at_each_width, carried, plan_at, put, refused, rule, told};
 use crate::given::EDITION_13;
 use crate::image::{load, save};
 use crate::lookup::{is_promised, lookup, Found};
@@ -142,9 +142,7 @@ fn a_rule_sent_again_replaces_the_lowest_equal_one_of_its_action() {
     assert_eq!(after(UNCOUNTED, &full, &new), Ok((vec![put(1)], one_replaced)));
     assert_eq!(planned(UNCOUNTED, &full, &with_action(9, 20, "1", 8)), refused(TIE, 1));
     assert_eq!(planned(UNCOUNTED, &full, &with_action(2, 20, "1", 7)), refused(KNOWN, 2));
-    let no_room =
-        at_each(|width, edition| plan_insert(&words_of(&full, width), width, UNCOUNTED, &new.record(width), edition, 0));
-    assert_eq!(no_room, refused(SHORT, 1));
+    assert_eq!(told(UNCOUNTED, &full, &new, 0), refused(SHORT, 1));
 }
 
 /// Sent once more, the lowest equal one is the rule that replaced the first: the others stay.

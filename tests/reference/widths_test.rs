@@ -3,7 +3,7 @@
 
 use crate::bits::Bits;
 use crate::carry::{carry_out, Carried, Progress};
-use crate::edge_test::{plan_at, put, refused, rule};
+use crate::edge_test::{plan_at, put, refused, rule, uncovered};
 use crate::given::EDITION_13;
 use crate::image_test::save;
 use crate::lookup::{lookup, slot_record, Found};
@@ -29,7 +29,7 @@ fn new_rule() -> Rule {
 
 fn words_with_new_rule() -> Vec<u64> {
     let mut words = words_of(&slots(), 5);
-    let plan = plan_insert(&words, 5, COUNTED, &new_rule().record(5), EDITION_13, 3).unwrap();
+    let plan = plan_insert(&words, 5, COUNTED, &new_rule().record(5), EDITION_13, 3).unwrap().writes;
     let mut progress = Progress { done: 0, total: 2 };
     while carry_out(&mut words, 5, &new_rule().record(5), EDITION_13, &plan, &mut progress) == Ok(Carried::Wrote) {}
     words
@@ -53,7 +53,7 @@ fn rules_apart_by_the_last_bit_do_not_tie() {
     let apart = last_bit_rule(4, 25, false, 9).record(5);
     assert_eq!(plan_insert(&words, 5, COUNTED, &apart, EDITION_13, 3), refused(FULL, 0));
     let equal = last_bit_rule(4, 25, true, 9).record(5);
-    assert_eq!(plan_insert(&words, 5, COUNTED, &equal, EDITION_13, 3), Ok(vec![put(1)]));
+    assert_eq!(plan_insert(&words, 5, COUNTED, &equal, EDITION_13, 3), uncovered(vec![put(1)]));
     let mut overlapping = last_bit_rule(4, 25, true, 9);
     overlapping.mask |= Bits::at(0);
     assert_eq!(plan_insert(&words, 5, COUNTED, &overlapping.record(5), EDITION_13, 3), refused(TIE, 1));
@@ -67,7 +67,7 @@ fn the_same_words_at_the_other_width() {
     assert_eq!(plan_insert(&words, 2, COUNTED, &record, EDITION_13, 6), refused(RECORD, 0));
     assert_eq!(lookup(&words, 2, &[0, 0]), refused(RECORD, 0));
     assert_eq!(slot_record(&words, 2, 1), 0..0);
-    assert_eq!(plan_insert(&[0; 36], 2, COUNTED, &record, EDITION_13, 6), Ok(vec![put(0)]));
+    assert_eq!(plan_insert(&[0; 36], 2, COUNTED, &record, EDITION_13, 6), uncovered(vec![put(0)]));
     let two_words = words_of(&[Some(rule(1, 30, "11")), None], 2);
     assert_eq!(lookup(&two_words, 5, &[0; 5]), refused(RECORD, 0));
     // three slots of two words are no whole number of slots of five
@@ -137,7 +137,7 @@ fn carrying_out_asks_for_the_words_of_a_rule_in_every_write() {
 #[test]
 fn the_largest_table_of_five_words() {
     let record = rule(1, 1, "1").record(5);
-    assert_eq!(plan_insert(&[0; 12 * 1024], 5, COUNTED, &record, EDITION_13, 1), Ok(vec![put(0)]));
+    assert_eq!(plan_insert(&[0; 12 * 1024], 5, COUNTED, &record, EDITION_13, 1), uncovered(vec![put(0)]));
     assert_eq!(plan_insert(&[0; 12 * 1025], 5, COUNTED, &record, EDITION_13, 1), refused(SHAPE, 0));
     // 1,024 slots of five words are 2,048 of two
     assert_eq!(plan_insert(&[0; 12 * 1024], 2, COUNTED, &rule(1, 1, "1").record(2), EDITION_13, 1), refused(SHAPE, 0));

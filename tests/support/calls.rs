@@ -2,6 +2,7 @@
 // Beside them stand plain forms of the planning of inserts and of carrying out, for programs that need no guarded buffers.
 
 use reference::carry::Progress;
+use reference::plan::Planned;
 use reference::table::{record_words, Refusal};
 
 #[repr(C)]
@@ -22,7 +23,7 @@ extern "C" {
     pub fn tcam_plan_insert(
         table: *const u64, words: usize, width: u32, uncounted: u32,
         rule: *const u64, rule_words: usize, edition: u32,
-        plan: *mut u32, plan_words: usize, count: *mut u32, spot: *mut u32,
+        plan: *mut u32, plan_words: usize, count: *mut u32, covered: *mut u32, spot: *mut u32,
     ) -> u32;
     pub fn tcam_plan_delete(
         table: *const u64, words: usize, width: u32, uncounted: u32, id: u32,
@@ -43,22 +44,25 @@ extern "C" {
     ) -> u32;
 }
 
-/// The library's plan for the insert of a rule, given as a record under an edition, in a buffer of one word per slot.
-pub fn plan_insert(table: &[u64], width: usize, uncounted: bool, rule: &[u64], edition: u32) -> Result<Vec<u32>, Refusal> {
+/// The slot that says that there is none.
+pub const NONE: u32 = 65_535;
+
+/// What the library tells of the insert of a rule, given as a record under an edition; the plan's buffer has one word per slot.
+pub fn plan_insert(table: &[u64], width: usize, uncounted: bool, rule: &[u64], edition: u32) -> Result<Planned, Refusal> {
     let mut plan = vec![0; table.len() / record_words(width)];
-    let (mut count, mut spot) = (0, 0);
-    let (room, cells) = (plan.len(), (&mut count, &mut spot));
+    let (mut count, mut covered, mut spot) = (0, 0, 0);
+    let (room, cells) = (plan.len(), (&mut count, &mut covered, &mut spot));
     let number = unsafe {
         let (words, rule_words) = (table.len(), rule.len());
         let (table, rule, buffer) = (table.as_ptr(), rule.as_ptr(), plan.as_mut_ptr());
         let (width, flag) = (width as u32, u32::from(uncounted));
-        tcam_plan_insert(table, words, width, flag, rule, rule_words, edition, buffer, room, cells.0, cells.1)
+        tcam_plan_insert(table, words, width, flag, rule, rule_words, edition, buffer, room, cells.0, cells.1, cells.2)
     };
     if number != 0 {
         return Err(Refusal { number, spot: u64::from(spot) });
     }
     plan.truncate(count as usize);
-    Ok(plan)
+    Ok(Planned { writes: plan, covered: (covered != NONE).then_some(covered as usize) })
 }
 
 /// One write of a plan, made by the library: its result, and the progress as it is then.
