@@ -9,6 +9,9 @@ pub use reference::table::{
     UNKNOWN, WRITE,
 };
 
+/// What an answer has in place of a slot where there is none.
+pub const NO_SLOT: u32 = 65_535;
+
 /// A number and a spot.
 pub struct Refusal {
     pub number: u32,
@@ -68,6 +71,12 @@ pub fn key_of<const W: usize>(key: &[u64]) -> Result<&[u64; W], Refusal> {
     key.try_into().or_else(|_| refuse(SHAPE, 0))
 }
 
+/// A plan's words, and the slot of the rule that covers the new one, or that there is none.
+pub struct Planned {
+    pub count: u32,
+    pub covered: u32,
+}
+
 pub struct Hit {
     pub slot: u32,
     pub id: u32,
@@ -103,6 +112,21 @@ pub fn spread(answer: Result<u32, Refusal>, data: &mut u32, spot: &mut u32) -> u
     match answer {
         Ok(number) => {
             *data = number;
+            0
+        }
+        Err(refusal) => {
+            *spot = refusal.spot;
+            refusal.number
+        }
+    }
+}
+
+/// The answer to an insert, over its cells.
+pub fn spread_planned(answer: Result<Planned, Refusal>, count: &mut u32, covered: &mut u32, spot: &mut u32) -> u32 {
+    match answer {
+        Ok(planned) => {
+            *count = planned.count;
+            *covered = planned.covered;
             0
         }
         Err(refusal) => {
@@ -191,10 +215,12 @@ macro_rules! export_calls {
             plan: *mut u32,
             plan_words: usize,
             count: &mut u32,
+            covered: &mut u32,
             spot: &mut u32,
         ) -> u32 {
             let (table, rule, plan) = (lent(table, words), lent(rule, rule_words), lent_mut(plan, plan_words));
-            spread($crate::at_width!(width, plans::plan_insert(table, uncounted != 0, rule, edition, plan)), count, spot)
+            let answer = $crate::at_width!(width, plans::plan_insert(table, uncounted != 0, rule, edition, plan));
+            spread_planned(answer, count, covered, spot)
         }
 
         #[no_mangle]

@@ -1,4 +1,5 @@
-// What our calls took before a table could be uncounted: the counts of before.txt, beside which those of now are judged.
+// What our calls took before an insert told of a rule that covers the new one: the counts of before.txt, beside which those of now
+// are judged.
 // They are what `--record` printed at the landing before.
 
 use crate::cases::{PAIR_CALLS, SMALL_KINDS};
@@ -10,9 +11,9 @@ use reference::bits::WIDTHS;
 
 const COUNTS: &str = include_str!("before.txt");
 
-/// The tables that there were, all of them counted.
+/// The tables that there were: all but those that are made for the search of a rule that covers.
 pub fn kinds(width: usize) -> impl Iterator<Item = Kind> {
-    every_kind(width).filter(|kind| !kind.is_uncounted())
+    every_kind(width).filter(|kind| !kind.is_for_cover())
 }
 
 /// The numbers of slots at which a call on a table is counted.

@@ -22,7 +22,7 @@ pub enum Measured {
     IdsDrawn(Draw),
     /// A rule with id 0: checks 1 to 4.
     Order,
-    /// A plan buffer of no words: all but the chain and its words.
+    /// A plan buffer of no words: all but the chain, its words, and the search of a rule that covers.
     Short,
 }
 

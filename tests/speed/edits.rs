@@ -152,17 +152,30 @@ fn edit_rule(input: &mut Input, random: &mut Random) {
     }
 }
 
-/// Leaves a rule as it is, or gives it the next rank, or one mask bit less: the first is sent again, and the last ties.
+/// Leaves a rule as it is, or gives it the next rank, or one mask bit less, or the rank before: the first is sent again, the third ties,
+/// and the last is covered by the rule that it was, unless it has a mask bit less too.
 fn nearly(rule: &mut [u64], width: usize, random: &mut Random) {
-    let word = random.below(width);
-    match random.below(3) {
-        0 => rule[2 * width + 1] = (rule[2 * width + 1] + 1) & 0xffff_ffff,
-        1 => {
-            rule[width + word] &= rule[width + word].saturating_sub(1);
-            rule[word] &= rule[width + word];
+    let rank = 2 * width + 1;
+    match random.below(4) {
+        0 => rule[rank] = (rule[rank] + 1) & 0xffff_ffff,
+        1 => drop_bit(rule, width, random),
+        2 => {
+            rule[rank] = rule[rank].saturating_sub(1);
+            match random.below(3) {
+                0 => drop_bit(rule, width, random),
+                1 => rule[width + random.below(width)] |= 1 << random.below(64),
+                _ => {}
+            }
         }
         _ => {}
     }
+}
+
+/// The lowest mask bit of some word less, if it has one.
+fn drop_bit(rule: &mut [u64], width: usize, random: &mut Random) {
+    let word = random.below(width);
+    rule[width + word] &= rule[width + word].saturating_sub(1);
+    rule[word] &= rule[width + word];
 }
 
 fn edit_key(input: &mut Input, random: &mut Random) {

@@ -78,9 +78,9 @@ pub fn perform(version: &Version, input: &Input, lent: &mut Lent) -> u64 {
         match input.call {
             Call::Lookup => (version.lookup)(table, words, width, key, key_words, first, second, third, fourth),
             Call::SlotRecord => (version.slot_record)(table, words, width, input.slot, first),
-            Call::PlanInsert => {
-                (version.plan_insert)(table, words, width, flag, rule, rule_words, edition, plan, plan_words, first, second)
-            }
+            Call::PlanInsert => (version.plan_insert)(
+                table, words, width, flag, rule, rule_words, edition, plan, plan_words, first, second, third,
+            ),
             Call::PlanDelete => (version.plan_delete)(table, words, width, flag, input.id, plan, plan_words, first, second),
             Call::Save => (version.save)(table, words, width, flag, image, image_bytes, first, second),
             Call::Load => (version.load)(image, image_bytes, table, words, width, flag, first),
@@ -116,7 +116,8 @@ pub fn inputs_of(table: &RuleTable) -> Vec<Input> {
     let slot = occupied_slots(words, width).last().copied().unwrap_or(0);
     let last = &words[slot * record_words(width)..][..record_words(width)];
     let rule = table.new.record(width);
-    let plan = plan_insert(words, width, table.uncounted, &rule, table.edition, slots).unwrap_or_default();
+    let planned = plan_insert(words, width, table.uncounted, &rule, table.edition, slots);
+    let plan = planned.map(|planned| planned.writes).unwrap_or_default();
     let image = save(words, width, table.uncounted, image_bytes(width, slots)).expect("a sound table");
     let input = |call: Call| Input {
         call,

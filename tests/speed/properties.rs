@@ -1,4 +1,5 @@
-// What the tables of the comparison are made for, counted: rules, pairs that overlap, pairs that the first word tells apart, writes.
+// What the tables of the comparison are made for, counted: rules, pairs that overlap, pairs that the first word tells apart, writes, and
+// what is above the new rule.
 // The self-check holds each table to it; the instruction counts are printed with it.
 
 use crate::hostile::sample_step;
@@ -24,6 +25,9 @@ pub struct Properties {
     pub replaces: bool,
     /// Pairs of one action, of all.
     pub of_one_action: f64,
+    /// Rules of a higher rank that overlap the new one, and the slot of the lowest that covers it.
+    pub above: usize,
+    pub covered: Option<usize>,
 }
 
 pub fn properties(kind: Kind, (width, slots): Size) -> Properties {
@@ -31,9 +35,11 @@ pub fn properties(kind: Kind, (width, slots): Size) -> Properties {
     let entries = read_sound_table(&table.words, width, table.uncounted).expect("a sound table");
     let sampled_alike = are_sampled_alike(&entries);
     let rule = table.new.record(width);
-    let plan = plan_insert(&table.words, width, table.uncounted, &rule, table.edition, slots).unwrap_or_default();
+    let planned = plan_insert(&table.words, width, table.uncounted, &rule, table.edition, slots);
+    let (plan, covered) = planned.map(|planned| (planned.writes, planned.covered)).unwrap_or_default();
     let replaces = entries[slots - 1].is_some() && plan == [write_word(PUT_IN, slots - 1)];
     let rules: Vec<Rule> = entries.into_iter().flatten().collect();
+    let new = table.new.ranked(width, table.edition).expect("a sound rule");
     let mut counted = Properties {
         rules: rules.len(),
         pairs: rules.len() * (rules.len() - 1) / 2,
@@ -46,7 +52,14 @@ pub fn properties(kind: Kind, (width, slots): Size) -> Properties {
         writes: plan.len(),
         replaces,
         of_one_action: 0.0,
+        above: rules.iter().filter(|rule| rule.rank > new.rank && rule.overlaps(&new)).count(),
+        covered,
     };
+    count_pairs(&mut counted, &rules, width);
+    counted
+}
+
+fn count_pairs(counted: &mut Properties, rules: &[Rule], width: usize) {
     let mut of_one_action = 0;
     for (place, rule) in rules.iter().enumerate() {
         for earlier in &rules[..place] {
@@ -59,7 +72,6 @@ pub fn properties(kind: Kind, (width, slots): Size) -> Properties {
         }
     }
     counted.of_one_action = of_one_action as f64 / counted.pairs as f64;
-    counted
 }
 
 fn are_sampled_alike(entries: &[Slot]) -> bool {
@@ -67,18 +79,18 @@ fn are_sampled_alike(entries: &[Slot]) -> bool {
     sampled.windows(2).all(|pair| pair[0].value == pair[1].value && pair[0].mask == pair[1].mask)
 }
 
-/// Whether a table is what its kind says.
-pub fn hold(kind: Kind, (width, slots): Size) -> bool {
-    let counted = properties(kind, (width, slots));
+/// Whether the pairs of a table are what its kind says, and the order of its ranks.
+fn is_of_kind(kind: Kind, counted: &Properties, (width, slots): Size) -> bool {
     let share = |count: usize| count as f64 / counted.pairs as f64;
     let (overlapping, apart) = (share(counted.overlapping), share(counted.apart_by_word[0]));
     let all_apart_by = |word: usize| counted.apart_by_word[word] == counted.pairs;
-    let of_kind = match kind {
+    match kind {
         Kind::Sparse | Kind::HalfEmpty | Kind::SentAgain | Kind::FullSentAgain => {
             overlapping < 0.001 && apart > 0.99 && !counted.falling
         }
         Kind::Sorted => overlapping < 0.001 && apart > 0.99 && counted.falling,
-        Kind::Dense | Kind::DenseSentAgain => overlapping > 0.99 && counted.falling,
+        Kind::Dense | Kind::DenseSentAgain | Kind::CoveredLast => overlapping > 0.99 && counted.falling,
+        Kind::Overlapped => overlapping > 0.98 && counted.falling,
         Kind::DenseUncounted => {
             overlapping > 0.99 && counted.falling && counted.of_one_action > 0.45 && counted.of_one_action < 0.55
         }
@@ -94,7 +106,23 @@ pub fn hold(kind: Kind, (width, slots): Size) -> bool {
         Kind::MoreBits => overlapping > 0.4 && overlapping < 0.7 && counted.falling,
         Kind::Unsampled => overlapping < 0.02 && counted.sampled_alike && counted.falling,
         Kind::Exact => counted.overlapping == 0 && apart > 0.99 && counted.full_masks == counted.rules,
+    }
+}
+
+/// Whether what is above the new rule is what the kind says: no rule covers it but in two tables, in one of them the last, and in
+/// those that are made for it all overlap it.
+fn is_covered_so(kind: Kind, counted: &Properties, slots: usize) -> bool {
+    let of_cover = match kind {
+        Kind::CoveredLast => counted.covered == Some(slots - 2),
+        Kind::DenseSentAgain => true,
+        _ => counted.covered.is_none(),
     };
+    of_cover && (counted.above == counted.rules || !kind.is_for_cover())
+}
+
+/// Whether a table is what its kind says.
+pub fn hold(kind: Kind, (width, slots): Size) -> bool {
+    let counted = properties(kind, (width, slots));
     let rules = match kind {
         Kind::HalfEmpty => slots / 2,
         Kind::FullSentAgain => slots,
@@ -102,17 +130,19 @@ pub fn hold(kind: Kind, (width, slots): Size) -> bool {
     };
     let ranked_highest = if kind == Kind::Exact { rules } else { 0 };
     let of_masks = (counted.full_masks > 0) == kind.has_full_masks() && counted.ranked_highest == ranked_highest;
-    of_kind && of_masks && counted.rules == rules && counted.writes > 0 && counted.replaces == kind.is_sent_again()
+    let of_plan = counted.writes > 0 && counted.replaces == kind.is_sent_again() && is_covered_so(kind, &counted, slots);
+    is_of_kind(kind, &counted, (width, slots)) && of_masks && of_plan && counted.rules == rules
 }
 
 pub fn print((width, slots): Size) {
     println!("### The tables, {slots} slots\n");
-    println!("| Table | rules | pairs | of them overlapping | apart by the first word | writes of the plan |");
-    println!("|---|---|---|---|---|---|");
+    println!("| Table | rules | pairs | of them overlapping | apart by the first word | writes of the plan | covered by slot |");
+    println!("|---|---|---|---|---|---|---|");
     for kind in every_kind(width) {
         let counted = properties(kind, (width, slots));
+        let covered = counted.covered.map_or("none".to_string(), |slot| slot.to_string());
         println!(
-            "| {} | {} | {} | {} | {} | {} |",
+            "| {} | {} | {} | {} | {} | {} | {covered} |",
             kind.name(width),
             counted.rules,
             counted.pairs,

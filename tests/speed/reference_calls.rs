@@ -32,7 +32,7 @@ mod lookups {
 }
 
 mod plans {
-    use super::{copied, Refusal};
+    use super::{copied, narrow, Planned, Refusal, NO_SLOT};
 
     pub fn plan_insert<const W: usize>(
         table: &[u64],
@@ -40,8 +40,10 @@ mod plans {
         rule: &[u64],
         edition: u32,
         plan: &mut [u32],
-    ) -> Result<u32, Refusal> {
-        copied(reference::plan::plan_insert(table, W, uncounted, rule, edition, plan.len()), plan)
+    ) -> Result<Planned, Refusal> {
+        let planned = reference::plan::plan_insert(table, W, uncounted, rule, edition, plan.len()).map_err(narrow)?;
+        let covered = planned.covered.map_or(NO_SLOT, |slot| slot as u32);
+        Ok(Planned { count: copied(Ok(planned.writes), plan)?, covered })
     }
 
     pub fn plan_delete<const W: usize>(table: &[u64], uncounted: bool, id: u32, plan: &mut [u32]) -> Result<u32, Refusal> {

@@ -124,9 +124,9 @@ fn print_worst(found: &Found) {
     println!();
 }
 
-/// Ours beside what it was before a table could be uncounted, each call and table.
+/// Ours beside what it was before an insert told of a rule that covers the new one, each call and table.
 fn print_before(found: &Found) {
-    println!("### Beside what it was before tables could be uncounted: now / before, the worst of the sizes\n");
+    println!("### Beside what it was before inserts told of covering rules: now / before, the worst of the sizes\n");
     println!("Tables with full masks are not judged.\n");
     println!("| Table | full masks | {} |", CALLS.map(Call::name).join(" | "));
     println!("|---|---|{}", "---|".repeat(CALLS.len()));
@@ -177,10 +177,11 @@ fn print_ids(found: &Found) {
 /// The cost per part, by differences of calls that end early.
 fn print_parts(found: &Found) {
     println!("### Cost per part of a planned insert, {} slots: ours (ratio to safe Rust)\n", grouped(LARGEST as u64));
-    println!("| Table | checks 1, 2 | check 3 | check 4 | checks 5 to 11, windows, costs, choice | chain and words | whole |");
+    println!(
+        "| Table | checks 1, 2 | check 3 | check 4 | checks 5 to 11, windows, costs, choice | chain, words, cover | whole |"
+    );
     println!("|---|---|---|---|---|---|---|");
-    // a replacement has no chain: its one word takes what a buffer without a word takes
-    for kind in every_kind(found.width).filter(|kind| !kind.is_sent_again()) {
+    for kind in every_kind(found.width) {
         let of = |measured: Measured, version: usize| found.of(LARGEST, kind, measured, version);
         let ends = [Measured::Records, Measured::Ids, Measured::Order, Measured::Short, Measured::Whole(Call::PlanInsert)];
         let part =

@@ -1,6 +1,8 @@
 // The cross-check: all versions give equal results, buffers and cells on the tables of the comparison and on edited inputs.
-// It times nothing. It fails on a difference, on a table that is not accepted, and where some refusal is never reached.
+// It times nothing. It fails on a difference, on a table that is not accepted, and where some refusal is never reached, or no rule
+// that is covered, or none that isn't.
 
+use crate::answers::NO_SLOT;
 use crate::cases::PAIR_CALLS;
 use crate::edits::edit;
 use crate::inputs::{inputs_of, perform, Input, Lent};
@@ -36,6 +38,8 @@ struct Tally {
     different: usize,
     /// By width, call, whether the table is uncounted, and result.
     reached: BTreeSet<(usize, Call, bool, u64)>,
+    /// Of the accepted inserts, by width and whether the table is uncounted, whether some rule covers the new one.
+    covered: BTreeSet<(usize, bool, bool)>,
 }
 
 /// Whether all is as it should be.
@@ -131,6 +135,9 @@ fn compare(versions: &[Version], input: &Input, tally: &mut Tally) -> u64 {
     }
     let number = if input.call == Call::CarryOut { result & 0xffff_ffff } else { result };
     tally.reached.insert((input.width, input.call, input.uncounted != 0 && PAIR_CALLS.contains(&input.call), number));
+    if input.call == Call::PlanInsert && result == 0 {
+        tally.covered.insert((input.width, input.uncounted != 0, first.cells[1] != NO_SLOT));
+    }
     result
 }
 
@@ -170,6 +177,19 @@ impl Tally {
             self.different,
             self.reached.len()
         );
-        self.different == 0 && missing == 0
+        self.different == 0 && missing == 0 && self.are_covers_told()
+    }
+
+    fn are_covers_told(&self) -> bool {
+        let mut all = true;
+        for (width, uncounted) in WIDTHS.into_iter().flat_map(|width| [COUNTED, UNCOUNTED].map(|flag| (width, flag))) {
+            for covered in [false, true] {
+                if !self.covered.contains(&(width, uncounted, covered)) {
+                    println!("speed: no insert at width {width}, uncounted: {uncounted}, that is accepted, covered: {covered}");
+                    all = false;
+                }
+            }
+        }
+        all
     }
 }

@@ -53,9 +53,13 @@ pub enum Kind {
     FullSentAgain,
     /// As `Dense`, with two actions in turn and uncounted, so that half of the overlapping pairs are ordered.
     DenseUncounted,
+    /// As `Dense`, the new rule below all others; only the last of them covers it, and the slot after that one is empty.
+    CoveredLast,
+    /// The same, but none covers it: each cares for a bit of the last word, and the new rule for none.
+    Overlapped,
 }
 
-const KINDS: [Kind; 15] = [
+const KINDS: [Kind; 17] = [
     Kind::Sparse,
     Kind::Dense,
     Kind::DenseDown,
@@ -71,6 +75,8 @@ const KINDS: [Kind; 15] = [
     Kind::DenseSentAgain,
     Kind::FullSentAgain,
     Kind::DenseUncounted,
+    Kind::CoveredLast,
+    Kind::Overlapped,
 ];
 
 /// The kinds at a width, the hostile ones apart.
@@ -112,6 +118,8 @@ impl Kind {
             Kind::DenseSentAgain => "dense, a rule sent again",
             Kind::FullSentAgain => "full, a rule sent again",
             Kind::DenseUncounted => "dense, uncounted",
+            Kind::CoveredLast => "dense, covered by the last rule",
+            Kind::Overlapped => "dense, overlapped by every rule",
         }
     }
 
@@ -130,6 +138,11 @@ impl Kind {
         self == Kind::DenseUncounted
     }
 
+    /// Whether the table is made for the search of a rule that covers the new one: all of its rules are ranked above that.
+    pub fn is_for_cover(self) -> bool {
+        matches!(self, Kind::CoveredLast | Kind::Overlapped)
+    }
+
     /// Under 1.3 a new rule with every mask bit set, as some tables have one, gets its priority for its rank.
     fn edition(self) -> u32 {
         match self {
@@ -141,7 +154,7 @@ impl Kind {
     fn is_empty_at(self, slots: usize, slot: usize) -> bool {
         match self {
             Kind::HalfEmpty => slot % 2 == 1,
-            Kind::DenseDown => slot == slots - 1,
+            Kind::DenseDown | Kind::CoveredLast | Kind::Overlapped => slot == slots - 1,
             Kind::DenseUp => slot == 0,
             Kind::FullSentAgain => false,
             _ => slot == slots / 2,
@@ -240,9 +253,11 @@ fn any_rule(kind: Kind, (width, slots): Size, slot: usize, random: &mut Random) 
             (drawn(width, random), drawn(width, random), random.below(LEVELS) as u64)
         }
         Kind::Sorted => (drawn(width, random), drawn(width, random), falling(slot)),
-        Kind::Dense | Kind::DenseDown | Kind::DenseUp | Kind::DenseSentAgain | Kind::DenseUncounted => {
+        Kind::CoveredLast if slot + 2 == slots => (Bits::NONE, Bits::NONE, falling(slot)),
+        Kind::Dense | Kind::DenseDown | Kind::DenseUp | Kind::DenseSentAgain | Kind::DenseUncounted | Kind::CoveredLast => {
             (drawn(width, random), dense_mask(width, random), falling(slot))
         }
+        Kind::Overlapped => (drawn(width, random), from_last(width, random.below(DENSE_BITS)), falling(slot)),
         Kind::Prefixes => {
             let length = random.between(8, 32);
             (drawn(width, random), prefix(length), 100 * length as u64)
@@ -275,7 +290,7 @@ fn new_rule(kind: Kind, (width, slots): Size, random: &mut Random) -> Given {
         }
         Kind::Dense | Kind::DenseSentAgain | Kind::DenseUncounted => (Bits::NONE, Bits::NONE, falling(slots / 2) + 1),
         Kind::DenseDown => (Bits::NONE, Bits::NONE, falling(0) + 1),
-        Kind::DenseUp => (Bits::NONE, Bits::NONE, falling(slots) + 1),
+        Kind::DenseUp | Kind::CoveredLast | Kind::Overlapped => (Bits::NONE, Bits::NONE, falling(slots) + 1),
         Kind::Prefixes => (drawn(width, random), prefix(20), 2000),
         Kind::Undecided => (drawn(width, random), undecided_mask(), 30_001),
         Kind::SecondWord => (drawn(width, random), word_mask(1), 30_001),

@@ -37,7 +37,7 @@ impl Call {
 type Word = *const u64;
 type Cell = *mut u32;
 type Plan = *const u32;
-pub type PlanInsert = unsafe extern "C" fn(Word, usize, u32, u32, Word, usize, u32, Cell, usize, Cell, Cell) -> u32;
+pub type PlanInsert = unsafe extern "C" fn(Word, usize, u32, u32, Word, usize, u32, Cell, usize, Cell, Cell, Cell) -> u32;
 pub type PlanDelete = unsafe extern "C" fn(Word, usize, u32, u32, u32, Cell, usize, Cell, Cell) -> u32;
 pub type Lookup = unsafe extern "C" fn(Word, usize, u32, Word, usize, Cell, Cell, Cell, Cell) -> u32;
 pub type SlotRecord = unsafe extern "C" fn(Word, usize, u32, u32, Cell) -> u32;
@@ -67,7 +67,20 @@ impl Version {
 macro_rules! version {
     ($name:literal $prefix:literal: $insert:ident $delete:ident $lookup:ident $record:ident $carry:ident $save:ident $load:ident) => {{
         extern "C" {
-            fn $insert(_: Word, _: usize, _: u32, _: u32, _: Word, _: usize, _: u32, _: Cell, _: usize, _: Cell, _: Cell) -> u32;
+            fn $insert(
+                _: Word,
+                _: usize,
+                _: u32,
+                _: u32,
+                _: Word,
+                _: usize,
+                _: u32,
+                _: Cell,
+                _: usize,
+                _: Cell,
+                _: Cell,
+                _: Cell,
+            ) -> u32;
             fn $delete(_: Word, _: usize, _: u32, _: u32, _: u32, _: Cell, _: usize, _: Cell, _: Cell) -> u32;
             fn $lookup(_: Word, _: usize, _: u32, _: Word, _: usize, _: Cell, _: Cell, _: Cell, _: Cell) -> u32;
             fn $record(_: Word, _: usize, _: u32, _: u32, _: Cell) -> u32;

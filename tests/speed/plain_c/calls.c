@@ -12,7 +12,7 @@ enum { SHAPE = 1 };
                                     uint32_t *);                                                                               \
     uint32_t width_##width##_slot_record(const uint64_t *, size_t, uint32_t, uint32_t *);                                      \
     uint32_t width_##width##_plan_insert(const uint64_t *, size_t, uint32_t, const uint64_t *, size_t, uint32_t, uint32_t *,   \
-                                         size_t, uint32_t *, uint32_t *);                                                      \
+                                         size_t, uint32_t *, uint32_t *, uint32_t *);                                          \
     uint32_t width_##width##_plan_delete(const uint64_t *, size_t, uint32_t, uint32_t, uint32_t *, size_t, uint32_t *,         \
                                          uint32_t *);                                                                          \
     uint64_t width_##width##_carry_out(uint64_t *, size_t, const uint64_t *, size_t, uint32_t, const uint32_t *, size_t,       \
@@ -51,10 +51,11 @@ uint32_t c_slot_record(const uint64_t *table, size_t words, uint32_t width, uint
 }
 
 uint32_t c_plan_insert(const uint64_t *table, size_t words, uint32_t width, uint32_t uncounted, const uint64_t *rule,
-                       size_t rule_words, uint32_t edition, uint32_t *plan, size_t plan_words, uint32_t *count, uint32_t *spot)
+                       size_t rule_words, uint32_t edition, uint32_t *plan, size_t plan_words, uint32_t *count,
+                       uint32_t *covered, uint32_t *spot)
 {
     return AT_WIDTH(plan_insert, refuse_width(spot), table, words, uncounted, rule, rule_words, edition, plan, plan_words, count,
-                    spot);
+                    covered, spot);
 }
 
 uint32_t c_plan_delete(const uint64_t *table, size_t words, uint32_t width, uint32_t uncounted, uint32_t id, uint32_t *plan,

@@ -180,17 +180,11 @@ static check plan_beside(const uint64_t *table, size_t slots, bool uncounted, co
     return made;
 }
 
-static check plan_new(const uint64_t *table, size_t words, bool uncounted, const uint64_t *rule, size_t rule_words,
-                      uint32_t edition, uint32_t *plan, size_t plan_words, uint32_t *count)
+/* Checks 6 to 11 of a rule with its rank, and the words. */
+static check plan_ranked(const uint64_t *table, size_t slots, bool uncounted, const uint16_t *near, const uint64_t *new,
+                         uint32_t *plan, size_t plan_words, uint32_t *count)
 {
-    uint16_t near[NEAR_MOST];
-    uint64_t new[WORDS];
-    size_t slots = words / WORDS;
-    check made = rule_words == WORDS ? check_listed(table, words, uncounted, near) : fail(SHAPE, 0);
-    if (made.number == OK)
-        made = check_given(rule, edition, new);
-    if (made.number == OK)
-        made = check_known(table, slots, new);
+    check made = check_known(table, slots, new);
     if (made.number != OK)
         return made;
     size_t tie = tied_slot(table, slots, uncounted, new);
@@ -205,10 +199,36 @@ static check plan_new(const uint64_t *table, size_t words, bool uncounted, const
     return plan_beside(table, slots, uncounted, near, new, plan, plan_words, count);
 }
 
-uint32_t CALL(plan_insert)(const uint64_t *table, size_t words, uint32_t uncounted, const uint64_t *rule, size_t rule_words,
-                           uint32_t edition, uint32_t *plan, size_t plan_words, uint32_t *count, uint32_t *spot)
+/* The lowest slot with a rule of a higher rank that alone covers the new one, or none. */
+static uint32_t covering_slot(const uint64_t *table, size_t slots, const uint64_t *new)
 {
-    check made = plan_new(table, words, uncounted != 0, rule, rule_words, edition, plan, plan_words, count);
+    for (size_t slot = 0; slot < slots; slot++)
+        if (obscures(table + slot * WORDS, new))
+            return (uint32_t)slot;
+    return NO_SLOT;
+}
+
+static check plan_new(const uint64_t *table, size_t words, bool uncounted, const uint64_t *rule, size_t rule_words,
+                      uint32_t edition, uint32_t *plan, size_t plan_words, uint32_t *count, uint32_t *covered)
+{
+    uint16_t near[NEAR_MOST];
+    uint64_t new[WORDS];
+    size_t slots = words / WORDS;
+    check made = rule_words == WORDS ? check_listed(table, words, uncounted, near) : fail(SHAPE, 0);
+    if (made.number == OK)
+        made = check_given(rule, edition, new);
+    if (made.number == OK)
+        made = plan_ranked(table, slots, uncounted, near, new, plan, plan_words, count);
+    if (made.number == OK)
+        *covered = covering_slot(table, slots, new);
+    return made;
+}
+
+uint32_t CALL(plan_insert)(const uint64_t *table, size_t words, uint32_t uncounted, const uint64_t *rule, size_t rule_words,
+                           uint32_t edition, uint32_t *plan, size_t plan_words, uint32_t *count, uint32_t *covered,
+                           uint32_t *spot)
+{
+    check made = plan_new(table, words, uncounted != 0, rule, rule_words, edition, plan, plan_words, count, covered);
     if (made.number != OK)
         *spot = made.spot;
     return made.number;

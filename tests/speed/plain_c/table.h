@@ -17,7 +17,7 @@
    word is its priority. */
 enum { WORDS = 2 * WIDTH + 2, OWNER = 2 * WIDTH, RANK = 2 * WIDTH + 1 };
 
-enum { SLOTS_MOST = 1024, PRIORITY_MOST = 65535, EXACT_RANK = 65536, PUT_IN = 65535, EMPTYING = 65534 };
+enum { SLOTS_MOST = 1024, PRIORITY_MOST = 65535, EXACT_RANK = 65536, PUT_IN = 65535, EMPTYING = 65534, NO_SLOT = 65535 };
 
 enum { EDITION_10 = 10, EDITION_13 = 13 };
 
@@ -144,6 +144,22 @@ static inline bool tied(const uint64_t *first, const uint64_t *second, bool unco
 static inline bool precedes(const uint64_t *first, const uint64_t *second, bool uncounted)
 {
     return first[RANK] > second[RANK] && overlap(first, second) && distinct(first, second, uncounted);
+}
+
+/* Whether the first's mask has no bit outside the second's. */
+static inline bool mask_is_within(const uint64_t *first, const uint64_t *second)
+{
+    for (size_t word = WIDTH; word < 2 * WIDTH; word++)
+        if ((first[word] & ~second[word]) != 0)
+            return false;
+    return true;
+}
+
+/* Whether a record holds a rule of a higher rank that covers the new one: the two overlap, and it cares for no bit but those of
+   the new one. The masks are asked first: they tell most rules that overlap. An empty slot's rank is above none. */
+static inline bool obscures(const uint64_t *record, const uint64_t *new)
+{
+    return record[RANK] > new[RANK] && mask_is_within(record, new) && overlap(record, new);
 }
 
 /* Whether a record holds a rule of the new one's rank, value and mask; of most records the rank tells. */

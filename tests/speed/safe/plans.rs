@@ -1,10 +1,13 @@
 // Planning an insert or a delete: the checks of each in their order, then the words.
 // A and B are found once.
 
-use crate::answers::{refuse, Record, Refusal, CROSSED, EMPTYING, FULL, KNOWN, PUT_IN, RULE, SHORT, TIE, UNKNOWN};
+use crate::answers::{
+    refuse, Planned, Record, Refusal, CROSSED, EMPTYING, FULL, KNOWN, NO_SLOT, PUT_IN, RULE, SHORT, TIE, UNKNOWN,
+};
 use crate::checks::{check_listed, check_table, new_list};
+use crate::neighbour_lists::Near;
 use crate::planner::{choose, costs_along, write_plan};
-use crate::records::{id_of, is_equal, is_equal_in_action, precedes, ranked, tied};
+use crate::records::{id_of, is_equal, is_equal_in_action, obscures, precedes, ranked, tied};
 
 pub fn plan_insert<const W: usize>(
     table: &[u64],
@@ -12,21 +15,33 @@ pub fn plan_insert<const W: usize>(
     rule: &[u64],
     edition: u32,
     plan: &mut [u32],
-) -> Result<u32, Refusal> {
+) -> Result<Planned, Refusal> {
     let given = Record::<W>::one(rule)?;
     let mut near = new_list();
     let records = check_listed(table, uncounted, &mut near)?;
-    let slots = records.len();
     let new = ranked(given, edition)?;
-    if let Some(slot) = slot_of_id(records, id_of(&new)) {
+    let count = plan_ranked(records, uncounted, &near, &new, plan)?;
+    Ok(Planned { count, covered: covering_slot(records, &new) })
+}
+
+/// Checks 6 to 11 of a rule with its rank, and the words.
+fn plan_ranked<const W: usize>(
+    records: &[Record<W>],
+    uncounted: bool,
+    near: &[Near],
+    new: &Record<W>,
+    plan: &mut [u32],
+) -> Result<u32, Refusal> {
+    let slots = records.len();
+    if let Some(slot) = slot_of_id(records, id_of(new)) {
         return refuse(KNOWN, slot);
     }
-    if let Some(slot) = check_tie(records, uncounted, &new)? {
+    if let Some(slot) = check_tie(records, uncounted, new)? {
         return plan_one(PUT_IN, slot, plan);
     }
-    let (after, dependant) = check_new(records, uncounted, &new)?;
-    let down = costs_along(records, &near, false);
-    let up = costs_along(records, &near, true);
+    let (after, dependant) = check_new(records, uncounted, new)?;
+    let down = costs_along(records, near, false);
+    let up = costs_along(records, near, true);
     let choice = choose(&down, &up, slots, after, dependant);
     let count = choice.cost + 1;
     if plan.len() < count {
@@ -58,6 +73,11 @@ fn check_new<const W: usize>(records: &[Record<W>], uncounted: bool, new: &Recor
         return refuse(CROSSED, after - 1);
     }
     Ok((after, dependant))
+}
+
+/// The lowest slot with a rule of a higher rank that alone covers the new one, or none.
+fn covering_slot<const W: usize>(records: &[Record<W>], new: &Record<W>) -> u32 {
+    records.iter().position(|record| obscures(record, new)).map_or(NO_SLOT, |slot| slot as u32)
 }
 
 /// The slot of an id that is not 0, in a table whose records are empty or sound.

@@ -94,3 +94,14 @@ pub fn is_equal_in_action<const W: usize>(record: &Record<W>, new: &Record<W>) -
 pub fn precedes<const W: usize>(first: &Record<W>, second: &Record<W>, uncounted: bool) -> bool {
     first.rank > second.rank && overlap(first, second) && distinct(first, second, uncounted)
 }
+
+/// Whether the first's mask has no bit outside the second's.
+fn mask_is_within<const W: usize>(first: &Record<W>, second: &Record<W>) -> bool {
+    (0..W).all(|word| first.mask[word] & !second.mask[word] == 0)
+}
+
+/// Whether a record holds a rule of a higher rank that covers the new one: the two overlap, and it cares for no bit but those of the new
+/// one. The masks are asked first: they tell most rules that overlap. An empty slot's rank is above none.
+pub fn obscures<const W: usize>(record: &Record<W>, new: &Record<W>) -> bool {
+    record.rank > new.rank && mask_is_within(record, new) && overlap(record, new)
+}
