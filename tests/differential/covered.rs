@@ -2,7 +2,7 @@
 // Beside whether there is one: what the rules of the table are to the new one, where a wrong comparison would tell another slot.
 
 use crate::input::Input;
-use reference::cover::{compare, Comparison};
+use reference::cover::{compare, obscures, Comparison};
 use reference::given::Given;
 use reference::plan::Planned;
 use reference::table::{read_slots, Rule, Slot};
@@ -39,11 +39,10 @@ pub fn kinds(input: &Input, planned: &Planned) -> Vec<&'static str> {
 
 fn of_covered(input: &Input, slots: &[Slot], slot: usize, new: &Rule, planned: &Planned) -> Vec<(&'static str, bool)> {
     let rule = slots[slot].expect("a slot that is told has a rule");
-    let covers_too = |other: &Rule| other.rank > new.rank && compare(other, new) == Comparison::FirstCovers;
     vec![
         (EQUAL_MATCH, rule.value == new.value && rule.mask == new.mask),
         (OWN_ACTION, input.is_uncounted() && rule.action == new.action),
-        (SEVERAL, slots[slot + 1..].iter().flatten().any(covers_too)),
+        (SEVERAL, slots[slot + 1..].iter().flatten().any(|other| obscures(other, new))),
         (SLOT_WRITTEN, planned.writes.iter().any(|write| *write as usize % 65_536 == slot)),
     ]
 }

@@ -41,8 +41,12 @@ pub fn compare(first: &Rule, second: &Rule) -> Comparison {
     }
 }
 
-/// "The lowest slot of a higher-priority rule that alone covers the new one", by rank.
+/// "A higher-priority rule that alone covers the new one", by rank.
+pub fn obscures(rule: &Rule, new: &Rule) -> bool {
+    rule.rank > new.rank && compare(rule, new) == Comparison::FirstCovers
+}
+
+/// "The lowest slot" of such a rule.
 pub fn covering_slot(slots: &[Slot], new: &Rule) -> Option<usize> {
-    let obscures = |rule: &Rule| rule.rank > new.rank && compare(rule, new) == Comparison::FirstCovers;
-    slots.iter().position(|entry| entry.as_ref().is_some_and(obscures))
+    slots.iter().position(|entry| entry.as_ref().is_some_and(|rule| obscures(rule, new)))
 }

@@ -27,7 +27,7 @@ use Rattle.records.specs.declared.Check.{Check}
 use Rattle.records.specs.declared.Check.the-variants.{Pass, Fail}
 use Rattle.neighbours.specs.Neighbours.{checkKnown, checkTie, checkFull, checkCrossed, afterA, slotB, replacedSlot, replaces, newChecks, placeChecks}
 use Rattle.neighbours.specs.Neighbours.{ruleWords, ruleChecks, insertChecks}
-use Rattle.neighbours.specs.NeighboursLaws.{room-at, crossed-yes, crossed-no, replaced-equal, replaced-lowest, replaced-none, none-replaced, untied-none}
+use Rattle.neighbours.specs.NeighboursLaws.{room-at, crossed-yes, crossed-no, replaced-equal, replaced-lowest, replaced-none, none-replaced, untied-none, insert-passes}
 use Rattle.insert_plans.specs.Insertable.{CrossedAt, Insertable, InsertableGiven, Replacing, ReplacingGiven, Uncrossed}
 
 -- a rule has its record's words
@@ -152,18 +152,16 @@ module _ (w : ℕ) (u : Bool) (t : List ℕ) (given : Given) where
   rows : (insertChecks w u t given ≡ Pass)
       ↔ ((tableChecks w u t ≡ Pass) × (checkGiven w given ≡ Pass) × (checkKnown w t new ≡ Pass)
       × (cond (replaces w u t new) Pass rest ≡ Pass) × (placeChecks w u t new ≡ Pass))
-  unfolding insertChecks ruleChecks newChecks
+  unfolding ruleChecks newChecks
   rows =
-      let a = or-else-pass (tableChecks w u t) (orElse (ruleChecks w u t given) (placeChecks w u t new)) in
-      let b = or-else-pass (ruleChecks w u t given) (placeChecks w u t new) in
+      let a = insert-passes w u t given in
       let c = or-else-pass (checkGiven w given) (newChecks w u t new) in
       let d = or-else-pass (checkKnown w t new) (cond (replaces w u t new) Pass rest) in (
         λ e. let p = a .0 e in
-            let q = b .0 (p .1) in
-            let r = c .0 (q .0) in
+            let r = c .0 (p .1) in
             let s = d .0 (r .1) in
-            (p .0, r .0, s .0, s .1, q .1),
-        λ p. a .1 (p .0, b .1 (c .1 (p .1, d .1 (p .2, p .3)), p .4)),
+            (p .0, r .0, s .0, s .1, p .2),
+        λ p. a .1 (p .0, c .1 (p .1, d .1 (p .2, p .3)), p .4),
       )
 
   known : (checkKnown w t new ≡ Pass) ↔ IdNew w t rule

@@ -40,6 +40,7 @@ use Rattle.planner.specs.ChoiceLaws.{choice-words-length}
 use Rattle.planner.specs.AgreeLaws.{plan-law, numbers-law}
 use Rattle.neighbours.specs.Neighbours.{afterA, slotB, checkCrossed, replaces, newChecks, placeChecks, ruleWords, ruleChecks, insertChecks}
 use Rattle.neighbours.specs.Neighbours.{foundCheck, FoundIn, coveringSlot}
+use Rattle.neighbours.specs.NeighboursLaws.{insert-passes}
 use Rattle.neighbours.specs.declared.NewRule.{NewRule}
 use Rattle.neighbours.specs.declared.NewRule.the-variants.{Adds, Replaces, Declined}
 use Rattle.windows.specs.Windows.{endAt}
@@ -286,13 +287,11 @@ pub lent-covered : (w : ℕ) (u : Bool) (e : ℕ) (t lent new plan : List ℕ) �
     → (x ≡ Pass → new ≡ rankedRecord w e lent)
     → withCover (bufferAnswer (orElse x (placeChecks w u t (slotWords w new 0))) (length (recordPlan w u t (slotWords w new 0))) (length plan)) (coveringSlot w t (slotWords w new 0))
     ≡ insertReply w u t (lentRule w e lent) (length plan)
-unfolding insertChecks
 lent-covered w u e t lent new plan checks size x f same =
     ap (λ (told : Told). withCover told (coveringSlot w t (slotWords w new 0))) (lent-found w u e t lent new plan checks size x f same .0)
     ∙ cover-asked (insertAnswer w u t given (length plan)) _ _ (λ zero.
     let passes = buffer-passed (insertChecks w u t given) (length (plannedWords w u t (ranked w given))) (length plan) zero in
-    let own = or-else-pass (tableChecks w u t) (orElse (ruleChecks w u t given) (placeChecks w u t (ruleWords w (ranked w given)))) .0 passes .1 in
-    let good = or-else-pass (ruleChecks w u t given) (placeChecks w u t (ruleWords w (ranked w given))) .0 own .0 in
+    let good = insert-passes w u t given .0 passes .1 in
     lent-cover w u e t lent new checks size good (same (f ∙ good)))
   where
     given : Given

@@ -15,11 +15,12 @@ use Rattle.records.specs.Laws.{or-else-pass, lowest-pass, same-id-law}
 use Rattle.records.specs.EntriesLaws.{refuted}
 use Rattle.records.specs.EqualLaws.{replaceable-law, equal-tied}
 use Rattle.records.specs.ObscuredLaws.{obscures-law}
-use Rattle.records.specs.Checks.{orElse}
+use Rattle.records.specs.Checks.{orElse, tableChecks}
+use Rattle.records.specs.Editions.{Given, ranked}
 use Rattle.records.specs.declared.Cause.the-variants.{Known, Tie, Full, Crossed}
 use Rattle.records.specs.declared.Check.{Check}
 use Rattle.records.specs.declared.Check.the-variants.{Pass, Fail}
-use Rattle.neighbours.specs.Neighbours.{checkKnown, checkTie, checkFull, afterA, slotB, crossedBy, replacedSlot, replaces, coveringSlot, CoveredAt, Uncovered, newChecks}
+use Rattle.neighbours.specs.Neighbours.{checkKnown, checkTie, checkFull, afterA, slotB, crossedBy, replacedSlot, replaces, coveringSlot, CoveredAt, Uncovered, newChecks, placeChecks, ruleWords, ruleChecks, insertChecks}
 
 -- a loop over the slots ends in one of two ways
 pub room-at : (w : ℕ) (t : List ℕ) (i : ℕ) → i < slots w t → empty w (slotWords w t i) ≡ true → Pass ≡ checkFull w t
@@ -119,6 +120,17 @@ new-adds w u t new counted e f g =
     untied-none w u t new (lowest-pass Known (λ (i : ℕ). sameId w (slotWords w t i) new) (slots w t) .0 g)
     (lowest-pass Tie (λ (i : ℕ). tied w u (slotWords w t i) new) (slots w t) .0 (or-else-pass (checkTie w u t new) (checkFull w t) .0 (sym e ∙ f) .0))
     (λ named. absurd (true≢false (sym named ∙ counted)))
+
+-- the checks of an insert pass exactly when those of the table, of the rule and of its place do
+pub insert-passes : (w : ℕ) (u : Bool) (t : List ℕ) (given : Given)
+    → (insertChecks w u t given ≡ Pass)
+    ↔ ((tableChecks w u t ≡ Pass) × (ruleChecks w u t given ≡ Pass) × (placeChecks w u t (ruleWords w (ranked w given)) ≡ Pass))
+unfolding insertChecks
+insert-passes w u t given =
+    let place = placeChecks w u t (ruleWords w (ranked w given)) in
+    let table = or-else-pass (tableChecks w u t) (orElse (ruleChecks w u t given) place) in
+    let own = or-else-pass (ruleChecks w u t given) place in
+    (λ e. let p = table .0 e in let q = own .0 (p .1) in (p .0, q .0, q .1), λ p. table .1 (p .0, own .1 (p .1, p .2)))
 
 -- the slot that is told exactly where it is the lowest that covers the new rule, and 65,535 exactly where none does
 pub covered-at : (w : ℕ) (t : List ℕ) (new : Words) → slots w t ≤ 65535 → (c : ℕ) → ((c < slots w t) × (coveringSlot w t new ≡ c)) ↔ CoveredAt w t new c

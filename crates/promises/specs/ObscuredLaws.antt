@@ -4,36 +4,37 @@ use mathlib.Core.Bool.{true, false, Bool, true≢false}
 use mathlib.Core.Logic.{_↔_, _⊎_, ⊎-elim}
 use mathlib.Core.Logic._⊎_.{inl, inr}
 use mathlib.Core.List.{List}
-use Prim.Native.Nat.{ℕ, _*_, _+_, _≤_, _<_}
+use Prim.Native.Nat.{ℕ, _≤_, _<_}
 use native.Mathlib.Decide.{decLt}
 use native.Mathlib.Omega.{arith}
 use lib.ListN.{length}
-use Rattle.ternary.specs.Bit.{bit}
-use Rattle.ternary.specs.Pattern.{Words, Matches}
+use Rattle.ternary.specs.Pattern.{Words}
+use Rattle.ternary.specs.PatternLaws.{matches-law}
 use Rattle.ternary.specs.Comparison.{ComparedKeys}
 use Rattle.ternary.specs.ComparisonLaws.{comparison-law, comparison-keys, overlaps-compared, covers-matches}
 use Rattle.ternary.specs.declared.Comparison.{Comparison}
 use Rattle.ternary.specs.declared.Comparison.the-variants.{Apart, Overlapping, FirstCovers, SecondCovers}
-use Rattle.records.specs.Record.{word, recordWords, slotWords, value, mask, ident, rank, occupied, recordOf}
-use Rattle.records.specs.Order.{slots, slotComparison, Obscures}
-use Rattle.records.specs.Checks.{Told, checkTwice, checkOrder, tableChecks, orElse}
+use Rattle.records.specs.Record.{word, slotWords, value, mask, ident, rank, occupied, recordOf}
+use Rattle.records.specs.Order.{slots, slotComparison, Obscures, InOrder}
+use Rattle.records.specs.Checks.{Told, checkTwice, checkOrder, tableChecks}
 use Rattle.records.specs.Laws.{or-else-pass, sound-law, slot-checks-law, table-checks-law, twice-law, order-law, same-id-law, slot-matches-law}
 use Rattle.records.specs.Widths.{checkRule}
 use Rattle.records.specs.Editions.{lentRule, ranked, checkGiven}
 use Rattle.records.specs.EditionsLaws.{given-law, ranked-action}
 use Rattle.records.specs.Entries.{entryAt, SameRecord}
-use Rattle.records.specs.EntriesLaws.{entry-at, entry-same, listed-same, occupied-cong, ident-cong, shaped-slots}
-use Rattle.records.specs.RulesLaws.{record-value, record-mask, record-rank, record-ident, rule-action}
+use Rattle.records.specs.EntriesLaws.{listed-same, occupied-cong, ident-cong, shaped-slots}
+use Rattle.records.specs.RulesLaws.{record-rank, record-ident, rule-action}
 use Rattle.records.specs.ObscuredLaws.{obscures-same, obscured-matches, obscured-after}
 use Rattle.records.specs.declared.Rule.{Rule}
 use Rattle.records.specs.declared.Check.the-variants.{Pass}
 use Rattle.buffers.specs.BuffersLaws.{buffer-passed}
-use Rattle.neighbours.specs.Neighbours.{coveringSlot, CoveredAt, Uncovered, ruleWords, newChecks, ruleChecks, placeChecks, insertChecks}
-use Rattle.neighbours.specs.NeighboursLaws.{covered-at, covered-none, covered-either}
+use Rattle.neighbours.specs.Neighbours.{coveringSlot, CoveredAt, Uncovered, ruleWords, newChecks, ruleChecks, insertChecks}
+use Rattle.neighbours.specs.NeighboursLaws.{insert-passes, covered-at, covered-none, covered-either}
 use Rattle.insert_plans.specs.Inserts.{plannedWords, insertCall, insertCallReply}
 use Rattle.insert_plans.specs.InsertsLaws.{call-reply-dropped}
 use Rattle.insert_plans.specs.InsertableLaws.{rule-words}
 use Rattle.histories.specs.RuleSet.{Member}
+use Rattle.histories.specs.HoldingLaws.{record-matches}
 use Rattle.lookups.specs.Lookup.{lookupCall, FirstAt}
 use Rattle.marshalling.specs.Cells.{dataCell}
 use Rattle.marshalling.specs.CellsLaws.{cover-cell}
@@ -46,7 +47,7 @@ use Rattle.promises.specs.FirstDemandLaws.{cell-kept, counted-answer}
 use Rattle.promises.specs.SecondDemand.{KeyMatches, KeyReplied}
 use Rattle.promises.specs.ThirdDemand.{Stands}
 use Rattle.promises.specs.Replacements.{sentRule, sentWords}
-use Rattle.promises.specs.Obscured.{AllCompared, Obscured}
+use Rattle.promises.specs.Obscured.{KeyOf, AllCompared, Obscured}
 
 -- the comparison
 pub comparing : (w : ℕ) → AllCompared w
@@ -71,19 +72,31 @@ sent-id : (w e : ℕ) (rule : List ℕ) → sentRule w e rule .id ≡ lentRule w
 unfolding ranked
 sent-id w e rule = refl
 
+-- in a counted table in order a rule that another one in it obscures is no key's first match
+obscured-unmet : (w : ℕ) (v : List ℕ) → InOrder w false v → (x y : ℕ) → x < slots w v → occupied w (slotWords w v y) ≡ true
+    → (ident w (slotWords w v x) ≡ ident w (slotWords w v y) → ⊥) → Obscures w (slotWords w v x) (slotWords w v y) → (key : Words) → FirstAt w v key y → ⊥
+obscured-unmet w v order x y inside holds apart o key first =
+    true≢false (sym (obscured-matches w key (slotWords w v x) (slotWords w v y) o (first .1)) ∙ first .2 x (obscured-after w v order x y inside (first .0) holds apart o))
+
+-- a rule's keys are those of its record
+keys-of-record : (w : ℕ) (key : List ℕ) (r : Rule) → KeyMatches w key r ↔ KeyOf w (word key) (word (recordOf w r))
+keys-of-record w key r =
+    let rule = matches-law w (word key) (word (r .value)) (word (r .mask)) in
+    let words = matches-law w (word key) (value (word (recordOf w r))) (mask w (word (recordOf w r))) in
+    let same = record-matches w (word key) r in
+    (λ m. words .0 (same ∙ rule .1 m), λ m. rule .0 (sym same ∙ words .1 m))
+
 -- what an insert that returned 0 tells of its table and its rule, and the number in its cell
 module _ (w : ℕ) (u : Bool) (e : ℕ) (t rule plan after : List ℕ) (count count′ spot spot′ covered covered′ : ℕ)
     (left : InsertLeft w u e t rule 0 plan after count count′ spot spot′) (cell : CoverLeft w u e t rule (length plan) covered covered′) where
   checked : (tableChecks w u t ≡ Pass) × (checkGiven w (lentRule w e rule) ≡ Pass)
-  unfolding insertChecks ruleChecks
+  unfolding ruleChecks
   checked =
       let given = lentRule w e rule in
-      let new = ruleWords w (ranked w given) in
       let told = counted-answer (checkRule w (length rule)) (insertChecks w u t given) _ _ _ after count count′ spot spot′ (left .left) in
       let passes = buffer-passed (insertChecks w u t given) (length (plannedWords w u t (ranked w given))) (length plan) (ap (λ (x : Told). x .number) told) in
-      let own = or-else-pass (tableChecks w u t) (orElse (ruleChecks w u t given) (placeChecks w u t new)) .0 passes in
-      let good = or-else-pass (ruleChecks w u t given) (placeChecks w u t new) .0 (own .1) .0 in
-      (own .0, or-else-pass (checkGiven w given) (newChecks w u t new) .0 good .0)
+      let own = insert-passes w u t given .0 passes in
+      (own .0, or-else-pass (checkGiven w given) (newChecks w u t (ruleWords w (ranked w given))) .0 (own .1) .0)
 
   -- the table's slots are few
   few : slots w t ≤ 1024
@@ -114,29 +127,20 @@ module _ (w : ℕ) (u : Bool) (e : ℕ) (t rule plan after : List ℕ) (count co
 
   -- the record of the slot that was told, as a rule's, obscures the new one's
   module _ (inside : covered′ < slots w t) (cover : Rule) (is : recordOf w cover ≡ entryAt w t covered′) where
-    same : (j : ℕ) → j < recordWords w → word (recordOf w cover) j ≡ slotWords w t covered′ j
-    same j h = ap (λ (l : List ℕ). word l j) (is ∙ sym (entry-at w t covered′ inside)) ∙ entry-same w t covered′ inside j h
+    rule-pair : Obscures w (word (recordOf w cover)) (sentWords w e rule)
+    rule-pair =
+        obscures-same w (λ j h. sym (ap (λ (l : List ℕ). word l j) is ∙ listed-same w (slotWords w t covered′) j h)) (λ j h. refl) (obscuring inside)
 
     -- each key of the new rule matches it
-    cover-matches : (key : List ℕ) → Matches w (word key) (value (sentWords w e rule)) (mask w (sentWords w e rule)) → KeyMatches w key cover
-    cover-matches key m j h i cared =
-        let matched = covers-matches w (word key) (value slot) (mask w slot) (value new) (mask w new) (obscuring inside .covering) m in
-        let masks : word (cover .mask) j ≡ mask w slot j = sym (record-mask w cover j h) ∙ same (w + j) (omega arith) in
-        let values : value slot j ≡ word (cover .value) j = sym (same j (omega arith)) ∙ record-value w cover j h in
-        matched j h i (ap (λ (x : ℕ). bit x i) (sym masks) ∙ cared) ∙ ap (λ (x : ℕ). bit x i) values
-      where
-        slot : Words
-        slot = slotWords w t covered′
-
-        new : Words
-        new = sentWords w e rule
+    cover-matches : (key : List ℕ) → KeyOf w (word key) (sentWords w e rule) → KeyMatches w key cover
+    cover-matches key m =
+        let own = word (recordOf w cover) in
+        let new = sentWords w e rule in
+        keys-of-record w key cover .1 (covers-matches w (word key) (value own) (mask w own) (value new) (mask w new) (rule-pair .covering) m)
 
     -- and its rank is the higher one
     cover-higher : sentRule w e rule .priority < cover .priority
-    cover-higher =
-        let own = record-rank w cover in
-        let there = same (2 * w + 1) (omega arith) in
-        omega (arith, record-rank w (sentRule w e rule), own, there, obscuring inside .higher)
+    cover-higher = omega (arith, record-rank w (sentRule w e rule), record-rank w cover, rule-pair .higher)
 
     never-replied : (rules : List Rule) → Member cover rules
         → ((other : Rule) → Member other rules → other .id ≡ sentRule w e rule .id → recordOf w other ≡ recordOf w (sentRule w e rule))
@@ -148,16 +152,10 @@ module _ (w : ℕ) (u : Bool) (e : ℕ) (t rule plan after : List ℕ) (count co
         let highest = found .1 in
         let one = only r (highest .0) (sym (found .2) ∙ e′) in
         pick r (sym (record-rank w r) ∙ (ap (λ (l : List ℕ). rank w (word l)) one ∙ record-rank w (sentRule w e rule)))
-        (highest .2 cover member (cover-matches key (moved r one (highest .1)))))
+        (highest .2 cover member (cover-matches key (subst (λ (l : List ℕ). KeyOf w (word key) (word l)) one (keys-of-record w key r .0 (highest .1))))))
         (λ missed. named (sym e′ ∙ missed .1))
         (reply .1)
       where
-        moved : (r : Rule) → recordOf w r ≡ recordOf w (sentRule w e rule) → KeyMatches w key r
-            → Matches w (word key) (value (sentWords w e rule)) (mask w (sentWords w e rule))
-        moved r one m =
-            subst (λ (l : List ℕ). Matches w (word key) (value (word l)) (mask w (word l))) one
-            (λ j h i cared. m j h i (ap (λ (x : ℕ). bit x i) (sym (record-mask w r j h)) ∙ cared) ∙ ap (λ (x : ℕ). bit x i) (sym (record-value w r j h)))
-
         pick : (r : Rule) → r .priority ≡ sentRule w e rule .priority → (recordOf w cover ≡ recordOf w r) ⊎ (cover .priority < r .priority) → ⊥
         pick r level (inl one) =
             let ranks = sym (record-rank w cover) ∙ (ap (λ (l : List ℕ). rank w (word l)) one ∙ record-rank w r) in
@@ -204,11 +202,6 @@ module _ (w : ℕ) (u : Bool) (e : ℕ) (t rule plan after : List ℕ) (count co
         let one = one-slot x y (cover .1 .1) (new .1 .1) (pair .holds) holds alike in
         omega (arith, pair .higher, ap (λ (i : ℕ). rank w (at i)) one)
 
-    unmet : (key : Words) → FirstAt w v key y → ⊥
-    unmet key first-at =
-        let before = obscured-after w v (order-law w false v .0 (checks .1)) x y (cover .1 .1) (new .1 .1) holds apart pair in
-        true≢false (sym (obscured-matches w key (at x) (at y) pair (first-at .1)) ∙ first-at .2 x before)
-
     own-id : ident w (at y) ≡ sentRule w e rule .id
     own-id =
         sym (ident-cong w second)
@@ -223,7 +216,7 @@ module _ (w : ℕ) (u : Bool) (e : ℕ) (t rule plan after : List ℕ) (count co
         let at-s = hit .first in
         let alike : ident w (at s) ≡ ident w (at y) = sym (hit .named) ∙ (sym (looked .named) ∙ (is ∙ sym own-id)) in
         let one = one-slot s y (at-s .0) (new .1 .1) (slot-matches-law w (word key) (at s) .0 (at-s .1) .0) holds alike in
-        unmet (word key) (subst (FirstAt w v (word key)) one at-s))
+        obscured-unmet w v (order-law w false v .0 (checks .1)) x y (cover .1 .1) holds apart pair (word key) (subst (FirstAt w v (word key)) one at-s))
         (λ miss. named (sym is ∙ (looked .named ∙ miss .id-zero)))
         (lookup-cells w v key slot id action (sym (looked .number)))
 
@@ -233,8 +226,7 @@ obscured w u = record {
   kept = λ e t rule result plan after count count′ spot spot′ covered covered′ left cell refused.
       cell ∙ cell-kept (insertCallReply w u e t rule (length plan)) 1 covered (λ z. refused (left .left .number ∙ z));
   unaffected = call-reply-dropped w u;
-  unmet = λ v order x y inside holds apart o key first.
-      true≢false (sym (obscured-matches w key (slotWords w v x) (slotWords w v y) o (first .1)) ∙ first .2 x (obscured-after w v order x y inside (first .0) holds apart o));
+  unmet = obscured-unmet w;
   stands = λ e t rule plan after count count′ spot spot′ covered covered′ left cell inside v sound cover new.
       never-looked-up w u e t rule plan after count count′ spot spot′ covered covered′ left cell inside v sound cover new;
   never = λ e t rule plan after count count′ spot spot′ covered covered′ left cell inside v rules replied cover member is only key size result slot slot′ id id′ action action′ place place′ looked named.
