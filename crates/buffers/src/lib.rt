@@ -30,6 +30,19 @@ pub enum InsertAnswer {
     Refused(Cause, u32),
 }
 
+// What a plan tells that was made with a neighbour list: the same, and whether the list was worked out afresh.
+pub struct ListedInfo {
+    pub count: u32,
+    pub covered: u32,
+    pub refreshed: bool,
+}
+
+// What the planning of an insert with a neighbour list answers.
+pub enum ListedAnswer {
+    Planned(ListedInfo),
+    Refused(Cause, u32),
+}
+
 // The answer of an insert without that slot.
 pub fn without_cover(answer: InsertAnswer) -> PlanAnswer
     ensures { λ r. ⌜ planTold r ≡ withoutCover (insertAnswerTold answer) ⌝ }

@@ -10,7 +10,7 @@ use lib.Dec.{eqb, ltb, leb}
 use lib.ListN.{length, getD, set}
 use lib.Seq.{getD-set-same, getD-set-other}
 use native.Mathlib.Omega.{arith}
-use borrow.Author.Tests.{eq-eqb, ne-eqb, leb-true, ltb-true}
+use borrow.Author.Tests.{eqb-true, eqb-false, eq-eqb, ne-eqb, leb-true, ltb-true}
 use Rattle.search.specs.SearchLaws.{decided, all-cong, and-left, and-right}
 use Rattle.layout.specs.Write.{Write, copy, put, clear}
 use Rattle.plan_words.specs.PlanWords.{writeOf, SlotsBelow}
@@ -35,7 +35,7 @@ use Rattle.carrying.specs.declared.StepAnswer.{StepAnswer}
 use Rattle.carrying.specs.declared.StepAnswer.the-variants.{Wrote, Finished, Refused}
 use Rattle.carrying.specs.Carrying.{stepTold, progressChecks, putChecks, overEqual, fitsCarried, writeChecks, stepAnswer, stepWrites, stepTable, stepDone}
 use Rattle.carrying.specs.Carrying.{stepCall, stepCallTable, stepCallDone}
-use Rattle.carrying.specs.Steps.{StepEnds}
+use Rattle.carrying.specs.Steps.{StepEnds, Writes, Tells}
 
 -- a slot is free where it is empty, or where its id stands elsewhere
 pub free-empty : (w : ℕ) (t : List ℕ) (j : ℕ) → empty w (slotWords w t j) ≡ true → true ≡ freeAt w t j
@@ -239,6 +239,47 @@ accepted-progress w t plan given done total values e = pick (progressChecks w t 
     pick (Fail cause spot) f =
         let told : refusal cause spot ≡ success values = step-declined w t plan given done total f refl .0 ∙ e in
         absurd (true≢false (ap (λ (t : Told). eqb (t .number) 0) (sym told) ∙ cause-not-zero cause))
+
+-- an answer tells whether the step writes, and what its checks have then shown: of an answer that tells the same as the step's
+pub answer-tells : (w : ℕ) (t plan : List ℕ) (given : Given) (done total : ℕ) {a b : StepAnswer} → a ≡ b → stepTold a ≡ stepAnswer w t plan given done total
+    → Tells w t plan given done total b
+unfolding stepWrites
+answer-tells w t plan given done total {a} {b} e f =
+    let end = ends (progressChecks w t (length plan) done total) refl in
+    subst (Tells w t plan given done total) (step-told-once (end .0) b (end .1 ∙ (sym f ∙ ap stepTold e))) (end .2)
+  where
+    End : Type 0
+    End = (x : StepAnswer) × (stepTold x ≡ stepAnswer w t plan given done total) × Tells w t plan given done total x
+
+    next : progressChecks w t (length plan) done total ≡ Pass → done ≢ total
+        → (y : Check) → y ≡ writeChecks w t given (getD plan done 0) done → End
+    next p d Pass h =
+        let r = step-wrote w t plan given done total (sym p) refl d h refl in
+        let fit = checked-write w t given (getD plan done 0) done (sym h) in
+        let inside = progress-within w t (length plan) done total p in
+        (
+          Wrote (record { done = done + 1 }),
+          r .0,
+          record {
+            progress = p;
+            more = omega (arith, inside .0, d);
+            within = inside .1;
+            sound = fit .0;
+            fits = fit .1;
+            writes = rw (p, ne-eqb done total d, ← h);
+            made = r .1;
+          },
+        )
+    next p d (Fail cause spot) h =
+        let r = step-unfit w t plan given done total (sym p) refl d h refl in (Refused cause spot, r .0, r .1)
+
+    passing : progressChecks w t (length plan) done total ≡ Pass → (eqb done total ≡ true) ⊎ (eqb done total ≡ false) → End
+    passing p (inl d) = let r = step-finished w t plan given done total (sym p) refl (eqb-true done total d) in (Finished, r .0, r .1)
+    passing p (inr d) = next p (eqb-false done total d) (writeChecks w t given (getD plan done 0) done) refl
+
+    ends : (x : Check) → x ≡ progressChecks w t (length plan) done total → End
+    ends Pass h = passing (sym h) (decided (eqb done total))
+    ends (Fail cause spot) h = let r = step-declined w t plan given done total h refl in (Refused cause spot, r .0, r .1)
 
 -- a step that does not write answers the same again, and leaves the state as it is
 pub step-still : (w : ℕ) (t plan : List ℕ) (given : Given) (done total : ℕ) → stepWrites w t plan given done total ≡ false

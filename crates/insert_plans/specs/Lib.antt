@@ -18,3 +18,4 @@ pub mod Replacements
 pub mod ReplacementsLaws
 pub mod Tables
 pub mod TablesLaws
+pub mod ListedInserts

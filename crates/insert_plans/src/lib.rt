@@ -2,10 +2,14 @@
 // The table is never changed, and a call that declines leaves the plan buffer as it was.
 use buffers::InsertAnswer;
 use buffers::InsertInfo;
+use buffers::ListedAnswer;
+use buffers::ListedInfo;
 use buffers::PlanAnswer;
 use buffers::PlanInfo;
 use buffers::answer_word;
 use costs::fill_costs;
+use neighbour_lists::lent::check_list;
+use neighbour_lists::lent::store_list;
 use neighbours::NewRule;
 use neighbours::checks::after_a;
 use neighbours::checks::check_crossed;
@@ -36,6 +40,7 @@ use windows::fill_ends;
 ghost use mathlib.Core.Path.{_≡_};
 ghost use mathlib.Core.Bool.{false, cond};
 ghost use Prim.Native.Nat.{_+_, _-_, _*_, _≤_, _<_};
+ghost use lib.Dec.{eqb};
 ghost use lib.ListN.{length};
 ghost use Rattle.records.specs.Record.{mostSlots, recordWords, slotWords};
 ghost use Rattle.records.specs.Order.{slots as slotsOf};
@@ -44,8 +49,8 @@ ghost use Rattle.records.specs.Editions.{lentRule, under13, ranked};
 ghost use Rattle.records.specs.Checks.{orElse, checkRecords, tableChecks};
 ghost use Rattle.records.specs.Inserts.{planWords};
 ghost use Rattle.records.specs.declared.Check.the-variants.{Pass};
-ghost use Rattle.buffers.specs.Buffers.{planTold, insertAnswerTold, withCover, withoutCover, bufferAnswer, bufferAfter};
-ghost use Rattle.neighbour_lists.specs.Lists.{Listed};
+ghost use Rattle.buffers.specs.Buffers.{planTold, insertAnswerTold, listedAnswerTold, withRefreshed, withCover, withoutCover, bufferAnswer, bufferAfter};
+ghost use Rattle.neighbour_lists.specs.Lists.{Listed, listNumbers, listOf, staleList};
 ghost use Rattle.costs.specs.Costs.{costOf};
 ghost use Rattle.planner.specs.Emit.{Stays};
 ghost use Rattle.planner.specs.Choice.{choiceOf, choiceWords};
@@ -53,6 +58,7 @@ ghost use Rattle.neighbours.specs.Neighbours.{checkCrossed, replaces, coveringS
 ghost use Rattle.insert_plans.specs.Joined.{Costed};
 ghost use Rattle.insert_plans.specs.Insertable.{InsertableGiven, InsertableCall};
 ghost use Rattle.insert_plans.specs.Demand3.{Demand3};
+ghost use Rattle.insert_plans.specs.ListedInserts.{listedInsertReply, listedInsertPlan, listedInsertList};
 ghost use Rattle.insert_plans.specs.Inserts.{choiceBetween, recordChoice, replacementWords, recordPlan, insertReply, insertPlan, insertCallReply, insertCallPlan};
 
 // The costs of all positions along one direction, with the ends of their windows.
@@ -297,7 +303,28 @@ fn plan_listed(
     plan_covered(table, near, &ranked[0..words], found, plan, mode)
 }
 
-// The plan of an insert at a width that there is, its rule lent as a record.
+// The plan of an insert at a width that there is, its rule lent as a record. Where there is a plan, the table's neighbour list is in the front of the lent one.
+fn insert_near(
+    table: &[u64],
+    rule: &[u64],
+    edition: u32,
+    near: &mut [u16],
+    plan: &mut [u32],
+    mode: Mode,
+) -> InsertAnswer
+    requires { ⌜ (Width (mode .width)) × (length (now rule) ≡ recordWords (mode .width)) × (2 * mostSlots ≤ length (now near)) ⌝ }
+    ensures { λ r. ⌜ insertAnswerTold r ≡ insertReply (mode .width) (mode .uncounted) (now (table .entry)) (lentRule (mode .width) edition (now (rule .entry))) (length (now (plan .entry))) ⌝ }
+    ensures { λ _. ⌜ now (plan .exit) ≡ insertPlan (mode .width) (mode .uncounted) (now (table .entry)) (lentRule (mode .width) edition (now (rule .entry))) (now (plan .entry)) ⌝ }
+    ensures { λ r. ⌜ (insertAnswerTold r .number ≡ 0 → (tableChecks (mode .width) (mode .uncounted) (now (table .entry)) ≡ Pass) × Listed (mode .width) (mode .uncounted) (now (table .entry)) (now (near .exit))) ⌝ }
+{
+    let check = check_listed(table, near, mode);
+    if let Check::Fail(cause, spot) = check {
+        return InsertAnswer::Refused(cause, spot);
+    }
+    plan_listed(table, near, rule, edition, plan, mode)
+}
+
+// The same, with a list of its own.
 fn insert_at(
     table: &[u64],
     rule: &[u64],
@@ -310,11 +337,7 @@ fn insert_at(
     ensures { λ _. ⌜ now (plan .exit) ≡ insertPlan (mode .width) (mode .uncounted) (now (table .entry)) (lentRule (mode .width) edition (now (rule .entry))) (now (plan .entry)) ⌝ }
 {
     let mut near = [0u16; LIST_NUMBERS];
-    let check = check_listed(table, &mut near, mode);
-    if let Check::Fail(cause, spot) = check {
-        return InsertAnswer::Refused(cause, spot);
-    }
-    plan_listed(table, &near, rule, edition, plan, mode)
+    insert_near(table, rule, edition, &mut near, plan, mode)
 }
 
 // The shortest plan of an insert, or a refusal that leaves the buffer as it was.
@@ -335,6 +358,57 @@ pub fn plan_insert(
         return InsertAnswer::Refused(cause, spot);
     }
     insert_at(table, rule, edition, plan, mode)
+}
+
+// The plan, with a list of the table's length lent: on success it is made the table's.
+fn insert_listed_at(
+    table: &[u64],
+    rule: &[u64],
+    edition: u32,
+    list: &mut [u16],
+    plan: &mut [u32],
+    mode: Mode,
+) -> ListedAnswer
+    requires { ⌜ (Width (mode .width)) × (length (now rule) ≡ recordWords (mode .width)) × (length (now list) ≡ listNumbers (mode .width) (now table)) ⌝ }
+    ensures { λ r. ⌜ listedAnswerTold r ≡ withRefreshed (insertReply (mode .width) (mode .uncounted) (now (table .entry)) (lentRule (mode .width) edition (now (rule .entry))) (length (now (plan .entry))))
+        (staleList (mode .width) (mode .uncounted) (now (table .entry)) (now (list .entry))) ⌝ }
+    ensures { λ _. ⌜ now (plan .exit) ≡ insertPlan (mode .width) (mode .uncounted) (now (table .entry)) (lentRule (mode .width) edition (now (rule .entry))) (now (plan .entry)) ⌝ }
+    ensures { λ _. ⌜ now (list .exit) ≡ cond (eqb (insertReply (mode .width) (mode .uncounted) (now (table .entry)) (lentRule (mode .width) edition (now (rule .entry))) (length (now (plan .entry))) .number) 0)
+        (listOf (mode .width) (mode .uncounted) (now (table .entry))) (now (list .entry)) ⌝ }
+{
+    let mut near = [0u16; LIST_NUMBERS];
+    match insert_near(table, rule, edition, &mut near, plan, mode) {
+        InsertAnswer::Planned(info) => ListedAnswer::Planned(ListedInfo {
+            count: info.count,
+            covered: info.covered,
+            refreshed: store_list(&near, list),
+        }),
+        InsertAnswer::Refused(cause, spot) => ListedAnswer::Refused(cause, spot),
+    }
+}
+
+// The shortest plan of an insert with a neighbour list lent, or a refusal that leaves buffer and list as they were.
+pub fn plan_insert_listed(
+    table: &[u64],
+    rule: &[u64],
+    edition: u32,
+    list: &mut [u16],
+    plan: &mut [u32],
+    mode: Mode,
+) -> ListedAnswer
+    ensures { λ r. ⌜ listedAnswerTold r ≡ listedInsertReply (mode .width) (mode .uncounted) edition (now (table .entry)) (now (rule .entry)) (now (list .entry)) (length (now (plan .entry))) ⌝ }
+    ensures { λ _. ⌜ now (plan .exit) ≡ listedInsertPlan (mode .width) (mode .uncounted) edition (now (table .entry)) (now (rule .entry)) (length (now (list .entry))) (now (plan .entry)) ⌝ }
+    ensures { λ _. ⌜ now (list .exit) ≡ listedInsertList (mode .width) (mode .uncounted) edition (now (table .entry)) (now (rule .entry)) (now (list .entry)) (length (now (plan .entry))) ⌝ }
+{
+    let lent = check_rule(mode.width, rule.len());
+    if let Check::Fail(cause, spot) = lent {
+        return ListedAnswer::Refused(cause, spot);
+    }
+    let numbers = check_list(table, list.len(), mode.width);
+    if let Check::Fail(cause, spot) = numbers {
+        return ListedAnswer::Refused(cause, spot);
+    }
+    insert_listed_at(table, rule, edition, list, plan, mode)
 }
 
 // The same of document 01's rule struct, at two words, under 1.3.

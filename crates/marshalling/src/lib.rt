@@ -1,9 +1,15 @@
 // What crosses between the C interface and the calls: a planning call's answer as its number and lent cells.
 // A step takes its progress as two numbers, and its answer crosses as one: the cause's number in the lower half, the spot in the upper.
 use buffers::InsertAnswer;
+use buffers::InsertInfo;
+use buffers::ListedAnswer;
 use buffers::PlanAnswer;
 use buffers::PlanInfo;
 use carrying::StepAnswer;
+use carrying::StepInfo;
+use listed_steps::ListedStepAnswer;
+use listed_steps::step_listed;
+use records::Mode;
 use records::cause_number;
 use steps::step::step;
 ghost use mathlib.Core.Path.{_≡_};
@@ -55,10 +61,55 @@ pub fn spread_insert(
     }
 }
 
+// The same of an insert's with a neighbour list, with the cell for whether the list was worked out afresh: 1 or 0.
+pub fn spread_listed(
+    answer: ListedAnswer,
+    count: &mut u32,
+    covered: &mut u32,
+    refreshed: &mut u32,
+    spot: &mut u32,
+) -> u32
+{
+    match answer {
+        ListedAnswer::Planned(info) => {
+            *refreshed = info.refreshed as u32;
+            spread_insert(
+                InsertAnswer::Planned(InsertInfo {
+                    count: info.count,
+                    covered: info.covered,
+                }),
+                count,
+                covered,
+                spot,
+            )
+        }
+        ListedAnswer::Refused(cause, at) => {
+            spread_insert(InsertAnswer::Refused(cause, at), count, covered, spot)
+        }
+    }
+}
+
 // The writes done after a step, and its answer as one number.
 pub struct Carried {
     pub done: u32,
     pub result: u64,
+}
+
+// A step's answer, as it crosses.
+fn carried(answer: StepAnswer, done: u32) -> Carried
+{
+    let end = 4294967295;
+    match answer {
+        StepAnswer::Wrote(info) => Carried {
+            done: info.done,
+            result: 0,
+        },
+        StepAnswer::Finished => Carried { done, result: end },
+        StepAnswer::Refused(cause, spot) => Carried {
+            done,
+            result: cause_number(cause) as u64 + spot as u64 * 4294967296,
+        },
+    }
 }
 
 // One step, on the progress as numbers.
@@ -74,16 +125,36 @@ pub fn carry(
     ensures { λ r. ⌜ (r ≡ carriedStep width edition (now (table .entry)) (now (plan .entry)) (now (rule .entry)) done total)
         × (now (table .exit) ≡ stepCallTable width edition (now (table .entry)) (now (plan .entry)) (now (rule .entry)) done total) ⌝ }
 {
-    let end = 4294967295;
-    match step(table, plan, rule, edition, done, total, width as usize) {
-        StepAnswer::Wrote(info) => Carried {
-            done: info.done,
-            result: 0,
-        },
-        StepAnswer::Finished => Carried { done, result: end },
-        StepAnswer::Refused(cause, spot) => Carried {
-            done,
-            result: cause_number(cause) as u64 + spot as u64 * 4294967296,
-        },
+    carried(
+        step(table, plan, rule, edition, done, total, width as usize),
+        done,
+    )
+}
+
+// One step with a neighbour list.
+pub fn carry_listed(
+    table: &mut [u64],
+    width: u32,
+    uncounted: u32,
+    rule: &[u64],
+    edition: u32,
+    list: &mut [u16],
+    plan: &[u32],
+    done: u32,
+    total: u32,
+    refreshed: &mut u32,
+) -> Carried
+{
+    let mode = Mode {
+        width: width as usize,
+        uncounted: uncounted != 0,
+    };
+    match step_listed(table, plan, rule, edition, list, done, total, mode) {
+        ListedStepAnswer::Wrote(info) => {
+            *refreshed = info.refreshed as u32;
+            carried(StepAnswer::Wrote(StepInfo { done: info.done }), done)
+        }
+        ListedStepAnswer::Finished => carried(StepAnswer::Finished, done),
+        ListedStepAnswer::Refused(cause, spot) => carried(StepAnswer::Refused(cause, spot), done),
     }
 }

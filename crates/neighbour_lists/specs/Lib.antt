@@ -9,4 +9,5 @@ pub mod PairLaws
 pub mod RowLaws
 pub mod MarksLaws
 pub mod ListsLaws
+pub mod LentLaws
 pub mod PassLaws

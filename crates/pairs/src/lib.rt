@@ -47,6 +47,17 @@ fn word_overlaps(
     )
 }
 
+// Whether the first two words, which every width has, do not tell two slots' patterns apart.
+pub fn may_overlap(table: &[u64], slot: usize, others: &[u64], other: usize, width: usize) -> bool
+    requires { ⌜ (Width width) × (slot < slots width (now table)) × (other < slots width (now others)) ⌝ }
+    ensures { λ r. ⌜ r ≡ (overlapAt width (slotWords width (now (table .entry)) slot) (slotWords width (now (others .entry)) other) 0 && overlapAt width (slotWords width (now (table .entry)) slot) (slotWords width (now (others .entry)) other) 1) ⌝ }
+{
+    if !word_overlaps(table, slot, others, other, 0, width) {
+        return false;
+    }
+    word_overlaps(table, slot, others, other, 1, width)
+}
+
 // Whether a slot's mask has no bit in one word that another's has not.
 fn mask_within(
     table: &[u64],

@@ -8,7 +8,7 @@ use Prim.Native.Nat.{ℕ, zero, suc, _+_, _*_, _/_, _%_, _≤_, _<_}
 use native.Mathlib.Nat.{add-zero}
 use native.Mathlib.Omega.{arith}
 use lib.Arith.{digits-div}
-use lib.Dec.{eqb, leb}
+use lib.Dec.{eqb, ltb, leb}
 use lib.ListN.{length, getD, getD-replicate, length-map}
 use borrow.Author.Tests.{eqb-true, eq-eqb}
 use Rattle.search.specs.SearchLaws.{all-cong, decided}
@@ -19,7 +19,7 @@ use Rattle.layout.specs.Held.{Unique}
 use Rattle.layout.specs.HeldLaws.{unique-earlier}
 use Rattle.records.specs.Record.{word, listed, recordWords, slotWords, value, mask, ident, action, rank, empty, occupied, rankFits, sound, soundParts}
 use Rattle.records.specs.Record.{slotMatches, recordOf}
-use Rattle.records.specs.Order.{slots, overlapping, sameId, distinct, compared, misordered, InOrder}
+use Rattle.records.specs.Order.{slots, overlapping, sameId, distinct, compared, precedes, misordered, InOrder}
 use Rattle.records.specs.Checks.{checkShape, checkTwice, checkOrder}
 use Rattle.records.specs.Laws.{shape-law, empty-law, ident-occupied, twice-law, same-id-law, misordered-law, ordered-law, order-law}
 use Rattle.records.specs.declared.Check.the-variants.{Pass}
@@ -87,6 +87,10 @@ module _ (w : ℕ) (u : Bool) {x x′ y y′ : Words} (left : SameRecord w x x�
   pub misordered-cong : misordered w u x y ≡ misordered w u x′ y′
   unfolding misordered
   misordered-cong = ap₂ _&&_ (ap₂ _&&_ (overlapping-cong w left right) (ap₂ leb (rank-cong w left) (rank-cong w right))) compared-cong
+
+  pub precedes-cong : precedes w u x y ≡ precedes w u x′ y′
+  unfolding precedes
+  precedes-cong = ap₂ _&&_ (ap₂ _&&_ (overlapping-cong w left right) (ap₂ ltb (rank-cong w right) (rank-cong w left))) compared-cong
 
 -- records of the same words are sound alike
 pub sound-same : (w : ℕ) (x y : Words) → SameRecord w x y → sound w x ≡ sound w y

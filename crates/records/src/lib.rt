@@ -36,8 +36,10 @@ pub const MOST_PRIORITY: u64 = 65535;
 
 pub const EXACT_RANK: u64 = 65536;
 
-// What an answer has in place of a slot where there is none.
+// What an answer has in place of a slot where there is none, and what a neighbour list has.
 pub const NO_SLOT: u32 = 65535;
+
+pub const NO_NUMBER: u16 = 65535;
 
 // How a call reads its tables: how many words a value has, and whether the table is one without counters, in which only rules of different actions are ordered.
 pub struct Mode {
@@ -136,7 +138,7 @@ pub fn check_width(width: usize) -> Check
 }
 
 // 1 for another number of words than is needed.
-fn check_words(words: usize, needed: usize) -> Check
+pub fn check_words(words: usize, needed: usize) -> Check
     ensures { λ r. ⌜ r ≡ checkWords words needed ⌝ }
 {
     if words == needed {

@@ -258,6 +258,21 @@ unfolding afterLast
 after-last-cong zero h = refl
 after-last-cong (suc n) h = rw (h n (omega arith), after-last-cong n (λ j l. h j (omega arith)))
 
+-- read from the other end of n indices, the search for the last one below s is a search for the first
+pub least-mirrored : (p q : ℕ → Bool) (n s : ℕ) → s ≤ n → ((k : ℕ) → k < s → q (n - suc k) ≡ p k) → least q s (n - s) ≡ n - afterLast p s
+least-mirrored p q n s few same =
+    let law = after-last-law p s in
+    let high = law .high in
+    least-unique (least-law q s (n - s)) (record {
+      low = omega arith;
+      high = omega arith;
+      before = λ j l r. seen j (omega arith) ∙ law .after (n - suc j) (omega arith) (omega arith);
+      hit = λ r. seen (n - afterLast p s) (omega arith) ∙ law .hit (n - suc (n - afterLast p s)) (omega arith);
+    })
+  where
+    seen : (j : ℕ) → (n - s ≤ j) × (j < n) → q j ≡ p (n - suc j)
+    seen j h = let e : j ≡ n - suc (n - suc j) = omega arith in ap q e ∙ same (n - suc j) (omega arith)
+
 pub none-from-start : (p : ℕ → Bool) (from n : ℕ) → from ≤ n → NoneFrom p from n from
 none-from-start p from n h = (omega arith, h, λ k l r. absurd (omega arith))
 

@@ -72,6 +72,34 @@ fn check_write(
     Check::Fail(Cause::Write, done)
 }
 
+// What a step answers, of a width that there is and a rule lent as a record: its checks, before the write is made.
+pub fn next_step(
+    table: &[u64],
+    plan: &[u32],
+    rule: &[u64],
+    edition: u32,
+    done: u32,
+    total: u32,
+    width: usize,
+) -> StepAnswer
+    requires { ⌜ (Width width) × (length (now rule) ≡ recordWords width) ⌝ }
+    ensures { λ r. ⌜ stepTold r ≡ stepAnswer width (now (table .entry)) (now (plan .entry)) (lentRule width edition (now (rule .entry))) done total ⌝ }
+{
+    let progress = check_progress(table, plan, done, total, width);
+    if let Check::Fail(cause, spot) = progress {
+        return StepAnswer::Refused(cause, spot);
+    }
+    if done == total {
+        return StepAnswer::Finished;
+    }
+    let word = plan[done as usize];
+    let fitting = check_write(table, rule, edition, word, done, width);
+    if let Check::Fail(cause, spot) = fitting {
+        return StepAnswer::Refused(cause, spot);
+    }
+    StepAnswer::Wrote(StepInfo { done: done + 1 })
+}
+
 // The next write of a plan at a width that there is, its rule lent as a record.
 fn step_at(
     table: &mut [u64],
@@ -86,20 +114,14 @@ fn step_at(
     ensures { λ r. ⌜ stepTold r ≡ stepAnswer width (now (table .entry)) (now (plan .entry)) (lentRule width edition (now (rule .entry))) done total ⌝ }
     ensures { λ _. ⌜ now (table .exit) ≡ stepTable width (now (table .entry)) (now (plan .entry)) (lentRule width edition (now (rule .entry))) done total ⌝ }
 {
-    let progress = check_progress(table, plan, done, total, width);
-    if let Check::Fail(cause, spot) = progress {
-        return StepAnswer::Refused(cause, spot);
+    match next_step(table, plan, rule, edition, done, total, width) {
+        StepAnswer::Wrote(info) => {
+            make_write(table, rule, edition, plan[done as usize], width);
+            StepAnswer::Wrote(info)
+        }
+        StepAnswer::Finished => StepAnswer::Finished,
+        StepAnswer::Refused(cause, spot) => StepAnswer::Refused(cause, spot),
     }
-    if done == total {
-        return StepAnswer::Finished;
-    }
-    let word = plan[done as usize];
-    let fitting = check_write(table, rule, edition, word, done, width);
-    if let Check::Fail(cause, spot) = fitting {
-        return StepAnswer::Refused(cause, spot);
-    }
-    make_write(table, rule, edition, word, width);
-    StepAnswer::Wrote(StepInfo { done: done + 1 })
 }
 
 // The next write of a plan, or "finished", or a refusal that leaves the table as it was.

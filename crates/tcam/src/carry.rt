@@ -2,6 +2,7 @@
 // The checks and the write are the step's; its answer crosses as one number: the cause's in the lower half, the spot in the upper.
 ghost use Rattle.tcam.specs.Carried.{CarryLeft};
 use marshalling::carry;
+use marshalling::carry_listed;
 
 // How far a plan is carried out: writes done, writes in all.
 #[repr(C)]
@@ -25,6 +26,29 @@ pub extern "C" fn tcam_carry_out(
     let done = progress.done;
     let total = progress.total;
     let carried = carry(table, width, rule, edition, plan, done, total);
+    progress.done = carried.done;
+    carried.result
+}
+
+// The same with a neighbour list lent, which a write leaves as that of the table after it; `refreshed` tells whether it was not that of the table before.
+#[no_mangle]
+pub extern "C" fn tcam_carry_out_listed(
+    table: &mut [u64],
+    width: u32,
+    uncounted: u32,
+    rule: &[u64],
+    edition: u32,
+    list: &mut [u16],
+    plan: &[u32],
+    progress: &mut Progress,
+    refreshed: &mut u32,
+) -> u64
+{
+    let done = progress.done;
+    let total = progress.total;
+    let carried = carry_listed(
+        table, width, uncounted, rule, edition, list, plan, done, total, refreshed,
+    );
     progress.done = carried.done;
     carried.result
 }

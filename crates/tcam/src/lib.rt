@@ -10,11 +10,13 @@ ghost use Rattle.marshalling.specs.Cells.{flagOf};
 ghost use Rattle.tcam.specs.Cells.{LookupLeft, InsertLeft, CoverLeft, DeleteLeft};
 use delete_plans::plan_delete;
 use insert_plans::plan_insert;
+use insert_plans::plan_insert_listed;
 use lookups::LookupAnswer;
 use lookups::lookup::lookup;
 use lookups::lookup::slot_record;
 use marshalling::spread;
 use marshalling::spread_insert;
+use marshalling::spread_listed;
 use records::Mode;
 use records::cause_number;
 
@@ -89,6 +91,30 @@ pub extern "C" fn tcam_plan_insert(
     };
     let answer = plan_insert(table, rule, edition, plan, mode);
     spread_insert(answer, count, covered, spot)
+}
+
+// The same with a neighbour list lent, which is that of the table after a success; `refreshed` tells whether it was not before.
+#[no_mangle]
+pub extern "C" fn tcam_plan_insert_listed(
+    table: &[u64],
+    width: u32,
+    uncounted: u32,
+    rule: &[u64],
+    edition: u32,
+    list: &mut [u16],
+    plan: &mut [u32],
+    count: &mut u32,
+    covered: &mut u32,
+    refreshed: &mut u32,
+    spot: &mut u32,
+) -> u32
+{
+    let mode = Mode {
+        width: width as usize,
+        uncounted: uncounted != 0,
+    };
+    let answer = plan_insert_listed(table, rule, edition, list, plan, mode);
+    spread_listed(answer, count, covered, refreshed, spot)
 }
 
 // The plan of a delete, into the lent buffer: its count, or a refusal.
