@@ -12,6 +12,23 @@ use records::Mode;
 use records::check_rule;
 use steps::step::next_step;
 use writes::make_write;
+ghost use mathlib.Core.Path.{_≡_};
+ghost use mathlib.Core.Bool.{true, cond};
+ghost use mathlib.Core.List.{[], _∷_};
+ghost use Prim.Native.Nat.{_+_, _≤_};
+ghost use lib.ListN.{length, getD};
+ghost use Rattle.plan_words.specs.PlanWords.{writeOf};
+ghost use Rattle.records.specs.Record.{mostSlots, recordWords};
+ghost use Rattle.records.specs.Order.{slots};
+ghost use Rattle.records.specs.Widths.{Width};
+ghost use Rattle.records.specs.Editions.{lentRule, ranked};
+ghost use Rattle.records.specs.Checks.{success, checkRecords};
+ghost use Rattle.records.specs.Writes.{applyWord};
+ghost use Rattle.records.specs.declared.Check.the-variants.{Pass};
+ghost use Rattle.buffers.specs.Buffers.{flagNumber};
+ghost use Rattle.neighbour_lists.specs.Lists.{Listed, listNumbers, listOf, staleList};
+ghost use Rattle.carrying.specs.Carrying.{putChecks, fitsCarried, stepAnswer, stepWrites, stepTable};
+ghost use Rattle.listed_steps.specs.ListedSteps.{listedStepTold, writtenSlot, listedStepReply, listedStepTable, listedStepList};
 
 // What a step that wrote tells: how many writes are done now, and whether the list was worked out afresh before the write.
 pub struct ListedStepInfo {
@@ -28,6 +45,7 @@ pub enum ListedStepAnswer {
 
 // The slot that a plan word writes to.
 fn written_slot(word: u32) -> usize
+    ensures { λ r. ⌜ r ≡ writtenSlot (writeOf word) ⌝ }
 {
     match write_of(word) {
         PlanWrite::Copy(_, to) => to as usize,
@@ -46,6 +64,10 @@ pub fn write_listed(
     word: u32,
     mode: Mode,
 )
+    requires { ⌜ (Width (mode .width)) × (length (now rule) ≡ recordWords (mode .width)) × (fitsCarried (mode .width) (now table) (ranked (mode .width) (lentRule (mode .width) edition (now rule))) (writeOf word) ≡ true) × (putChecks (mode .width) (lentRule (mode .width) edition (now rule)) (writeOf word) ≡ Pass) ⌝ }
+    requires { ⌜ (slots (mode .width) (now table) ≤ mostSlots) × (checkRecords (mode .width) (now table) ≡ Pass) × (listNumbers (mode .width) (now table) ≤ length (now list)) × Listed (mode .width) (mode .uncounted) (now table) (now list) ⌝ }
+    ensures { λ _. ⌜ now (table .exit) ≡ applyWord (mode .width) (now (table .entry)) (ranked (mode .width) (lentRule (mode .width) edition (now (rule .entry)))) word ⌝ }
+    ensures { λ _. ⌜ Listed (mode .width) (mode .uncounted) (now (table .exit)) (now (list .exit)) ⌝ }
 {
     make_write(table, rule, edition, word, mode.width);
     update_list(table, list, written_slot(word), mode);
@@ -63,6 +85,13 @@ fn step_listed_at(
     total: u32,
     mode: Mode,
 ) -> ListedStepAnswer
+    requires { ⌜ (Width (mode .width)) × (length (now rule) ≡ recordWords (mode .width)) × (length (now list) ≡ listNumbers (mode .width) (now table)) ⌝ }
+    ensures { λ r. ⌜ listedStepTold r ≡ cond (stepWrites (mode .width) (now (table .entry)) (now (plan .entry)) (lentRule (mode .width) edition (now (rule .entry))) done total)
+        (success ((done + 1) ∷ flagNumber (staleList (mode .width) (mode .uncounted) (now (table .entry)) (now (list .entry))) ∷ []))
+        (stepAnswer (mode .width) (now (table .entry)) (now (plan .entry)) (lentRule (mode .width) edition (now (rule .entry))) done total) ⌝ }
+    ensures { λ _. ⌜ now (table .exit) ≡ stepTable (mode .width) (now (table .entry)) (now (plan .entry)) (lentRule (mode .width) edition (now (rule .entry))) done total ⌝ }
+    ensures { λ _. ⌜ now (list .exit) ≡ cond (stepWrites (mode .width) (now (table .entry)) (now (plan .entry)) (lentRule (mode .width) edition (now (rule .entry))) done total)
+        (listOf (mode .width) (mode .uncounted) (stepTable (mode .width) (now (table .entry)) (now (plan .entry)) (lentRule (mode .width) edition (now (rule .entry))) done total)) (now (list .entry)) ⌝ }
 {
     match next_step(table, plan, rule, edition, done, total, mode.width) {
         StepAnswer::Wrote(info) => {
@@ -89,6 +118,9 @@ pub fn step_listed(
     total: u32,
     mode: Mode,
 ) -> ListedStepAnswer
+    ensures { λ r. ⌜ listedStepTold r ≡ listedStepReply (mode .width) (mode .uncounted) edition (now (table .entry)) (now (plan .entry)) (now (rule .entry)) (now (list .entry)) done total ⌝ }
+    ensures { λ _. ⌜ now (table .exit) ≡ listedStepTable (mode .width) edition (now (table .entry)) (now (plan .entry)) (now (rule .entry)) (length (now (list .entry))) done total ⌝ }
+    ensures { λ _. ⌜ now (list .exit) ≡ listedStepList (mode .width) (mode .uncounted) edition (now (table .entry)) (now (plan .entry)) (now (rule .entry)) (now (list .entry)) done total ⌝ }
 {
     let lent = check_rule(mode.width, rule.len());
     if let Check::Fail(cause, spot) = lent {

@@ -8,6 +8,8 @@ use lib.Dec.{eqb}
 use lib.ListN.{length, getD}
 use Rattle.records.specs.Checks.{Told}
 use Rattle.carrying.specs.Carrying.{stepCall, stepCallDone}
+use Rattle.carrying.specs.StepsLaws.{doneTold}
+use Rattle.listed_steps.specs.ListedSteps.{listedStep, listedStepDone}
 use Rattle.carrying.specs.declared.StepAnswer.{StepAnswer}
 use Rattle.carrying.specs.declared.StepAnswer.the-variants.{Wrote, Finished, Refused}
 use Rattle.marshalling.specs.declared.Carried.{Carried}
@@ -24,6 +26,21 @@ carriedStep w e t plan rule done total = record {
   done = stepCallDone w e t plan rule done total;
   result = carryResult (stepCall w e t plan rule done total);
 }
+
+-- the writes done after any answer, and the number that tells it
+abbrev pub carriedTold : Told → ℕ → Carried
+carriedTold told before = record { done = doneTold told before; result = carryResult told }
+
+-- a step with a neighbour list lent: the same of its answer, in which 1 by the list's length comes first
+abbrev pub listedCarriedStep : ℕ → ℕ → List ℕ → List ℕ → List ℕ → ℕ → ℕ → ℕ → Carried
+listedCarriedStep w e t plan rule numbers done total = record {
+  done = listedStepDone w e t plan rule numbers done total;
+  result = carryResult (listedStep w e t plan rule numbers done total);
+}
+
+-- the cell for whether the list was worked out afresh, the second value of an answer that wrote
+abbrev pub refreshedCell : Told → ℕ → ℕ
+refreshedCell told before = cond (eqb (told .number) 0) (getD (told .values) 1 before) before
 
 -- a spot is a number of 32 bits
 abbrev pub SpotFits : StepAnswer → Type 0

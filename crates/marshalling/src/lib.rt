@@ -13,10 +13,12 @@ use records::Mode;
 use records::cause_number;
 use steps::step::step;
 ghost use mathlib.Core.Path.{_≡_};
+ghost use lib.ListN.{length};
 ghost use Rattle.buffers.specs.Buffers.{planTold, insertAnswerTold};
-ghost use Rattle.carrying.specs.Carrying.{stepCallTable};
-ghost use Rattle.marshalling.specs.Cells.{dataCell, spotCell};
-ghost use Rattle.marshalling.specs.Carried.{carriedStep};
+ghost use Rattle.carrying.specs.Carrying.{stepTold, stepCallTable};
+ghost use Rattle.listed_steps.specs.ListedSteps.{listedStepTable, listedStepList, listedStepCell};
+ghost use Rattle.marshalling.specs.Cells.{dataCell, spotCell, flagOf};
+ghost use Rattle.marshalling.specs.Carried.{carriedStep, carriedTold, listedCarriedStep};
 
 // A planning call's answer, spread over its number and the lent cells.
 pub fn spread(answer: PlanAnswer, count: &mut u32, spot: &mut u32) -> u32
@@ -97,6 +99,7 @@ pub struct Carried {
 
 // A step's answer, as it crosses.
 fn carried(answer: StepAnswer, done: u32) -> Carried
+    ensures { λ r. ⌜ r ≡ carriedTold (stepTold answer) done ⌝ }
 {
     let end = 4294967295;
     match answer {
@@ -144,6 +147,10 @@ pub fn carry_listed(
     total: u32,
     refreshed: &mut u32,
 ) -> Carried
+    ensures { λ r. ⌜ (r ≡ listedCarriedStep width edition (now (table .entry)) (now (plan .entry)) (now (rule .entry)) (length (now (list .entry))) done total)
+        × (now (table .exit) ≡ listedStepTable width edition (now (table .entry)) (now (plan .entry)) (now (rule .entry)) (length (now (list .entry))) done total)
+        × (now (list .exit) ≡ listedStepList width (flagOf uncounted) edition (now (table .entry)) (now (plan .entry)) (now (rule .entry)) (now (list .entry)) done total)
+        × (now (refreshed .exit) ≡ listedStepCell width (flagOf uncounted) edition (now (table .entry)) (now (plan .entry)) (now (rule .entry)) (now (list .entry)) done total (now (refreshed .entry))) ⌝ }
 {
     let mode = Mode {
         width: width as usize,

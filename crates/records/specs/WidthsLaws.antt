@@ -1,6 +1,6 @@
 -- Laws on widths: what the check of a width means, how a call ends behind such a check, and the slots of a table at one.
 use mathlib.Core.Path.{_≡_, refl, sym, ap, _∙_, fun-ext}
-use mathlib.Core.Bool.{true, _||_}
+use mathlib.Core.Bool.{Bool, true, false, cond, _||_}
 use mathlib.Core.Logic.{_↔_, ⊎-elim}
 use mathlib.Core.Logic._⊎_.{inl, inr}
 use mathlib.Core.List.{List}
@@ -46,7 +46,7 @@ pub width-law : (w : ℕ) → (checkWidth w ≡ Pass) ↔ Width w
 unfolding checkWidth
 width-law w = (λ e. known-law w .0 (pass-law Shape 0 (known w) .0 e), λ h. pass-law Shape 0 (known w) .1 (known-law w .1 h))
 
-words-law : (words needed : ℕ) → (checkWords words needed ≡ Pass) ↔ (words ≡ needed)
+pub words-law : (words needed : ℕ) → (checkWords words needed ≡ Pass) ↔ (words ≡ needed)
 unfolding checkWords
 words-law words needed = (
   λ e. eqb-true words needed (pass-law Shape 0 (eqb words needed) .0 e),
@@ -66,6 +66,22 @@ key-law w words = lent-law w words w
 pub rule-law : (w words : ℕ) → (checkRule w words ≡ Pass) ↔ (Width w × (words ≡ recordWords w))
 unfolding checkRule
 rule-law w words = lent-law w words (recordWords w)
+
+-- checks that fail with 1 alike may be made in either order
+pub shape-turn : (w lent words needed : ℕ) (answer : Told)
+    → unless (checkRule w lent) (unless (checkWords words needed) answer) ≡ unless (checkWords words needed) (unless (checkRule w lent) answer)
+unfolding checkRule checkWidth checkWords
+shape-turn w lent words needed answer = by (known w) (eqb lent (recordWords w)) (eqb words needed)
+  where
+    shape : Bool → Check
+    shape b = cond b Pass (Fail Shape 0)
+
+    by : (a b c : Bool) → unless (orElse (shape a) (shape b)) (unless (shape c) answer) ≡ unless (shape c) (unless (orElse (shape a) (shape b)) answer)
+    by true true c = refl
+    by true false true = refl
+    by true false false = refl
+    by false b true = refl
+    by false b false = refl
 
 -- a table has no more slots than words: so the number of a slot fits where the number of words does
 pub slots-fit : (w : ℕ) (t : List ℕ) → slots w t ≤ length t
