@@ -18,7 +18,8 @@ use Rattle.buffers.specs.declared.PlanAnswer.{PlanAnswer}
 use Rattle.buffers.specs.declared.PlanAnswer.the-variants.{Planned, Refused}
 use Rattle.buffers.specs.declared.InsertAnswer.{InsertAnswer}
 use Rattle.buffers.specs.declared.InsertAnswer.the-variants.{Planned as Inserted, Refused as Declined}
-use Rattle.buffers.specs.Buffers.{planTold, insertAnswerTold, withCover, withoutCover, bufferAfter, bufferAnswer, checkRoom}
+use Rattle.buffers.specs.declared.InsertInfo.{InsertInfo}
+use Rattle.buffers.specs.Buffers.{planTold, insertAnswerTold, flagNumber, withRefreshed, withCover, withoutCover, bufferAfter, bufferAnswer, checkRoom}
 
 -- an answer's number and values lose nothing
 pub plan-told-once : (a b : PlanAnswer) → planTold a ≡ planTold b → a ≡ b
@@ -56,6 +57,22 @@ cover-dropped checks needed room covered = pick (orElse checks (checkRoom needed
     pick : (x : Check) → withoutCover (withCover (unless x (success (needed ∷ []))) covered) ≡ unless x (success (needed ∷ []))
     pick Pass = refl
     pick (Fail cause spot) = rw (cause-not-zero cause)
+
+-- what a list adds to an insert's answer: a success tells whether it was worked out afresh, a refusal is as it was
+pub refreshed-refused : (cause : Cause) (spot : ℕ) (flag : Bool) {told : Told} → refusal cause spot ≡ told → refusal cause spot ≡ withRefreshed told flag
+refreshed-refused cause spot flag e = sym (rw (cause-not-zero cause)) ∙ ap (λ (t : Told). withRefreshed t flag) e
+
+pub refreshed-planned : {a : InsertAnswer} {info : InsertInfo} {flag stale : Bool} {told : Told} → a ≡ Inserted info → insertAnswerTold a ≡ told → flag ≡ stale
+    → success (info .count ∷ info .covered ∷ flagNumber flag ∷ []) ≡ withRefreshed told stale
+refreshed-planned {info = info} {stale = stale} e f g =
+    ap (withRefreshed (insertAnswerTold (Inserted info))) g ∙ ap (λ (t : Told). withRefreshed t stale) (sym (ap insertAnswerTold e) ∙ f)
+
+pub refreshed-dropped : (told : Told) (covered : ℕ) (flag : Bool) → withoutCover (withRefreshed (withCover told covered) flag) ≡ withoutCover (withCover told covered)
+refreshed-dropped told covered flag = pick (eqb (told .number) 0) refl
+  where
+    pick : (b : Bool) → eqb (told .number) 0 ≡ b → withoutCover (withRefreshed (withCover told covered) flag) ≡ withoutCover (withCover told covered)
+    pick true e = rw e
+    pick false e = rw e
 
 -- such a call ends in one of three ways
 pub buffer-refused : {x checks : Check} {cause : Cause} {spot : ℕ} (contents buffer : List ℕ) → x ≡ checks → x ≡ Fail cause spot

@@ -35,7 +35,7 @@ use Rattle.carrying.specs.declared.StepAnswer.{StepAnswer}
 use Rattle.carrying.specs.declared.StepAnswer.the-variants.{Wrote, Finished, Refused}
 use Rattle.carrying.specs.Carrying.{stepTold, progressChecks, putChecks, overEqual, fitsCarried, writeChecks, stepAnswer, stepWrites, stepTable, stepDone}
 use Rattle.carrying.specs.Carrying.{stepCall, stepCallTable, stepCallDone}
-use Rattle.carrying.specs.Steps.{StepEnds, Writes, Tells}
+use Rattle.carrying.specs.Steps.{StepEnds, Tells}
 
 -- a slot is free where it is empty, or where its id stands elsewhere
 pub free-empty : (w : ℕ) (t : List ℕ) (j : ℕ) → empty w (slotWords w t j) ≡ true → true ≡ freeAt w t j
@@ -256,8 +256,7 @@ answer-tells w t plan given done total {a} {b} e f =
     next p d Pass h =
         let r = step-wrote w t plan given done total (sym p) refl d h refl in
         let fit = checked-write w t given (getD plan done 0) done (sym h) in
-        let inside = progress-within w t (length plan) done total p in
-        (
+        let inside = progress-within w t (length plan) done total p in (
           Wrote (record { done = done + 1 }),
           r .0,
           record {

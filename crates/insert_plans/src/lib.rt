@@ -399,6 +399,8 @@ pub fn plan_insert_listed(
     ensures { λ r. ⌜ listedAnswerTold r ≡ listedInsertReply (mode .width) (mode .uncounted) edition (now (table .entry)) (now (rule .entry)) (now (list .entry)) (length (now (plan .entry))) ⌝ }
     ensures { λ _. ⌜ now (plan .exit) ≡ listedInsertPlan (mode .width) (mode .uncounted) edition (now (table .entry)) (now (rule .entry)) (length (now (list .entry))) (now (plan .entry)) ⌝ }
     ensures { λ _. ⌜ now (list .exit) ≡ listedInsertList (mode .width) (mode .uncounted) edition (now (table .entry)) (now (rule .entry)) (now (list .entry)) (length (now (plan .entry))) ⌝ }
+    ensures shortest { λ r. ⌜ (length (now (list .entry)) ≡ listNumbers (mode .width) (now (table .entry)) → InsertableCall (mode .width) (mode .uncounted) edition (now (table .entry)) (now (rule .entry))
+        → Demand3 (mode .width) (mode .uncounted) (now (table .entry)) (ranked (mode .width) (lentRule (mode .width) edition (now (rule .entry)))) (withoutCover (listedAnswerTold r)) (now (plan .entry)) (now (plan .exit))) ⌝ }
 {
     let lent = check_rule(mode.width, rule.len());
     if let Check::Fail(cause, spot) = lent {

@@ -6,10 +6,11 @@ use lib.Dec.{eqb}
 use lib.ListN.{getD}
 use mathlib.Core.List.{List}
 use borrow.Author.Tests.{eq-eqb}
+use mir.Val.{boolByte}
 use Rattle.records.specs.Checks.{Told, causeNumber, success, refusal}
 use Rattle.records.specs.Laws.{cause-not-zero}
 use Rattle.records.specs.declared.Cause.{Cause}
-use Rattle.buffers.specs.Buffers.{withCover}
+use Rattle.buffers.specs.Buffers.{flagNumber, withRefreshed, withCover}
 use Rattle.marshalling.specs.Cells.{dataCell, spotCell}
 
 -- equal answers leave equal cells
@@ -53,3 +54,23 @@ cover-cells told covered before spot = pick (eqb (told .number) 0) refl
 -- that number is in the cell for a second value
 pub cover-cell : (told : Told) (covered before : ℕ) → told .number ≡ 0 → dataCell (withCover told covered) 1 before ≡ covered
 cover-cell told covered before e = rw (eq-eqb (told .number) 0 e)
+
+-- what a success tells of a list moves neither the cells for its first two values nor that for a refusal's spot; it is in the cell for a third
+pub refreshed-cells : (told : Told) (flag : Bool) (count covered spot : ℕ)
+    → (dataCell (withRefreshed told flag) 0 count ≡ dataCell told 0 count) × (dataCell (withRefreshed told flag) 1 covered ≡ dataCell told 1 covered)
+    × (spotCell (withRefreshed told flag) spot ≡ spotCell told spot)
+refreshed-cells told flag count covered spot = pick (eqb (told .number) 0) refl
+  where
+    pick : (b : Bool) → eqb (told .number) 0 ≡ b
+        → (dataCell (withRefreshed told flag) 0 count ≡ dataCell told 0 count) × (dataCell (withRefreshed told flag) 1 covered ≡ dataCell told 1 covered)
+        × (spotCell (withRefreshed told flag) spot ≡ spotCell told spot)
+    pick true e = (rw e, rw e, rw e)
+    pick false e = (rw e, rw e, rw e)
+
+pub refreshed-cell : (told : Told) (flag : Bool) (before : ℕ) → told .number ≡ 0 → dataCell (withRefreshed told flag) 2 before ≡ flagNumber flag
+refreshed-cell told flag before e = rw (eq-eqb (told .number) 0 e)
+
+-- a flag that is told crosses as its number: the byte that it is converted from
+pub flag-byte : (flag : Bool) → boolByte flag ≡ flagNumber flag
+flag-byte true = refl
+flag-byte false = refl

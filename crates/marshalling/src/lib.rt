@@ -14,7 +14,7 @@ use records::cause_number;
 use steps::step::step;
 ghost use mathlib.Core.Path.{_≡_};
 ghost use lib.ListN.{length};
-ghost use Rattle.buffers.specs.Buffers.{planTold, insertAnswerTold};
+ghost use Rattle.buffers.specs.Buffers.{planTold, insertAnswerTold, listedAnswerTold};
 ghost use Rattle.carrying.specs.Carrying.{stepTold, stepCallTable};
 ghost use Rattle.listed_steps.specs.ListedSteps.{listedStepTable, listedStepList, listedStepCell};
 ghost use Rattle.marshalling.specs.Cells.{dataCell, spotCell, flagOf};
@@ -71,6 +71,11 @@ pub fn spread_listed(
     refreshed: &mut u32,
     spot: &mut u32,
 ) -> u32
+    ensures { λ r. ⌜ r ≡ listedAnswerTold answer .number ⌝ }
+    ensures { λ _. ⌜ now (count .exit) ≡ dataCell (listedAnswerTold answer) 0 (now (count .entry)) ⌝ }
+    ensures { λ _. ⌜ now (covered .exit) ≡ dataCell (listedAnswerTold answer) 1 (now (covered .entry)) ⌝ }
+    ensures { λ _. ⌜ now (refreshed .exit) ≡ dataCell (listedAnswerTold answer) 2 (now (refreshed .entry)) ⌝ }
+    ensures { λ _. ⌜ now (spot .exit) ≡ spotCell (listedAnswerTold answer) (now (spot .entry)) ⌝ }
 {
     match answer {
         ListedAnswer::Planned(info) => {

@@ -9,7 +9,7 @@ use native.Mathlib.Nat.{zero-add, zero-mul, div-self, div-le-self}
 use native.Mathlib.Omega.{arith}
 use lib.Dec.{eqb}
 use lib.ListN.{length}
-use borrow.Author.Tests.{eqb-true, eq-eqb}
+use borrow.Author.Tests.{eqb-true, eq-eqb, ne-eqb}
 use Rattle.records.specs.Record.{word, recordWords, slotWords}
 use Rattle.records.specs.Order.{slots}
 use Rattle.records.specs.Checks.{Told, refusal, unless, orElse}
@@ -52,6 +52,10 @@ words-law words needed = (
   λ e. eqb-true words needed (pass-law Shape 0 (eqb words needed) .0 e),
   λ h. pass-law Shape 0 (eqb words needed) .1 (eq-eqb words needed h),
 )
+
+pub words-refused : (words needed : ℕ) → (words ≡ needed → ⊥) → checkWords words needed ≡ Fail Shape 0
+unfolding checkWords
+words-refused words needed other = rw (ne-eqb words needed other)
 
 lent-law : (w words needed : ℕ) → (orElse (checkWidth w) (checkWords words needed) ≡ Pass) ↔ (Width w × (words ≡ needed))
 lent-law w words needed = (

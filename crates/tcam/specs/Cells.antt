@@ -9,8 +9,10 @@ use Rattle.records.specs.Record.{word, slotWords, ident, action}
 use Rattle.records.specs.Checks.{Told}
 use Rattle.records.specs.Editions.{lentRule, ranked}
 use Rattle.lookups.specs.Lookup.{lookupCall, FirstAt, NoMatch}
+use Rattle.neighbour_lists.specs.Lists.{listNumbers}
 use Rattle.delete_plans.specs.Deletes.{deleteCall, deleteCallPlan}
 use Rattle.insert_plans.specs.Inserts.{insertCall, insertCallPlan, insertCallReply}
+use Rattle.insert_plans.specs.ListedInserts.{listedInsertReply, listedInsertPlan, listedInsertList}
 use Rattle.insert_plans.specs.Insertable.{InsertableCall}
 use Rattle.insert_plans.specs.Demand3.{Demand3}
 use Rattle.marshalling.specs.Cells.{dataCell, spotCell}
@@ -52,6 +54,27 @@ pub record InsertLeft (w : ℕ) (u : Bool) (e : ℕ) (t rule : List ℕ) (result
 -- and in the cell for the slot of the rule that covers the new one (document 02, 2026-05), the second value of a success
 abbrev pub CoverLeft : ℕ → Bool → ℕ → List ℕ → List ℕ → ℕ → ℕ → ℕ → Type 0
 CoverLeft w u e t rule room covered covered′ = covered′ ≡ dataCell (insertCallReply w u e t rule room) 1 covered
+
+-- an insert with a neighbour list lent (document 02, 2026-10): the cell for whether the list was worked out afresh too, and the list; demand 3 with a list of the
+-- table's length
+pub record ListedInsertLeft (w : ℕ) (u : Bool) (e : ℕ) (t rule list list′ : List ℕ) (result : ℕ) (plan after : List ℕ)
+    (count count′ covered covered′ refreshed refreshed′ spot spot′ : ℕ) : Type 0 where
+  pub left : PlanLeft (listedInsertReply w u e t rule list (length plan)) (listedInsertPlan w u e t rule (length list) plan) result after count count′ spot spot′
+  pub covered-told : covered′ ≡ dataCell (listedInsertReply w u e t rule list (length plan)) 1 covered
+  pub refreshed-told : refreshed′ ≡ dataCell (listedInsertReply w u e t rule list (length plan)) 2 refreshed
+  pub listed : list′ ≡ listedInsertList w u e t rule list (length plan)
+  pub shortest : length list ≡ listNumbers w t → InsertableCall w u e t rule
+      → Demand3 w u t (ranked w (lentRule w e rule)) (insertCall w u e t rule (length plan)) plan after
+
+-- what it leaves where it declines the list: its result and the spot, and all else as it was
+pub record ListDeclined (list list′ : List ℕ) (result : ℕ) (plan after : List ℕ) (count count′ covered covered′ refreshed refreshed′ spot′ : ℕ) : Type 0 where
+  pub number : result ≡ 1
+  pub spotted : spot′ ≡ 0
+  pub planned : after ≡ plan
+  pub kept : list′ ≡ list
+  pub counted : count′ ≡ count
+  pub covered-kept : covered′ ≡ covered
+  pub refreshed-kept : refreshed′ ≡ refreshed
 
 -- a delete
 abbrev pub DeleteLeft : ℕ → Bool → List ℕ → ℕ → ℕ → List ℕ → List ℕ → ℕ → ℕ → ℕ → ℕ → Type 0

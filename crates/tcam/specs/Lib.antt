@@ -4,5 +4,7 @@ pub mod Cells
 pub mod CellsLaws
 pub mod Carried
 pub mod CarriedLaws
+pub mod ListedCarried
+pub mod ListedCarriedLaws
 pub mod Images
 pub mod ImagesLaws

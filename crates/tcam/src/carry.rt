@@ -1,6 +1,8 @@
 // Carrying a plan out from C: the progress record is lent to the call and advanced by one write.
 // The checks and the write are the step's; its answer crosses as one number: the cause's in the lower half, the spot in the upper.
+ghost use Rattle.marshalling.specs.Cells.{flagOf};
 ghost use Rattle.tcam.specs.Carried.{CarryLeft};
+ghost use Rattle.tcam.specs.ListedCarried.{ListedCarryLeft};
 use marshalling::carry;
 use marshalling::carry_listed;
 
@@ -43,6 +45,7 @@ pub extern "C" fn tcam_carry_out_listed(
     progress: &mut Progress,
     refreshed: &mut u32,
 ) -> u64
+    ensures { λ r. ⌜ ListedCarryLeft width (flagOf uncounted) edition (now (table .entry)) (now (plan .entry)) (now (rule .entry)) (now (list .entry)) (now (progress .entry)) (now (refreshed .entry)) r (now (table .exit)) (now (list .exit)) (now (progress .exit)) (now (refreshed .exit)) ⌝ }
 {
     let done = progress.done;
     let total = progress.total;

@@ -7,7 +7,7 @@ ghost use mathlib.Core.Path.{_≡_};
 ghost use lib.ListN.{length};
 ghost use Rattle.lookups.specs.Lookup.{partStartCall, partLengthCall};
 ghost use Rattle.marshalling.specs.Cells.{flagOf};
-ghost use Rattle.tcam.specs.Cells.{LookupLeft, InsertLeft, CoverLeft, DeleteLeft};
+ghost use Rattle.tcam.specs.Cells.{LookupLeft, InsertLeft, CoverLeft, ListedInsertLeft, DeleteLeft};
 use delete_plans::plan_delete;
 use insert_plans::plan_insert;
 use insert_plans::plan_insert_listed;
@@ -108,6 +108,7 @@ pub extern "C" fn tcam_plan_insert_listed(
     refreshed: &mut u32,
     spot: &mut u32,
 ) -> u32
+    ensures { λ r. ⌜ ListedInsertLeft width (flagOf uncounted) edition (now (table .entry)) (now (rule .entry)) (now (list .entry)) (now (list .exit)) r (now (plan .entry)) (now (plan .exit)) (now (count .entry)) (now (count .exit)) (now (covered .entry)) (now (covered .exit)) (now (refreshed .entry)) (now (refreshed .exit)) (now (spot .entry)) (now (spot .exit)) ⌝ }
 {
     let mode = Mode {
         width: width as usize,
