@@ -24,15 +24,6 @@ pub none-from-more : (p : ℕ → Bool) (from n i : ℕ) → NoneFrom p from n i
 none-from-more p from n i inv h f =
     (omega (arith, inv .0), omega arith, λ k l r. below-suc (λ (j : ℕ). from ≤ j → p j ≡ false) i (λ j b a. inv .2 j a b) (λ a. f) k (omega arith) l)
 
--- .. and further on, past one at which the test fails and more that were skipped
-pub none-joined : (p : ℕ → Bool) (from n i j : ℕ) → NoneFrom p from n i → p i ≡ false → NoneFrom p (i + 1) n j → NoneFrom p from n j
-none-joined p from n i j inv f more = (omega (arith, inv .0, more .0), more .1, λ k l r. at k l r (decLt k i) (decLt i k))
-  where
-    at : (k : ℕ) → from ≤ k → k < j → Dec (k < i) → Dec (i < k) → p k ≡ false
-    at k l r (yes a) d = inv .2 k l a
-    at k l r (no a) (yes b) = more .2 k (omega arith) r
-    at k l r (no a) (no b) = (let e : k ≡ i = omega arith in ap p e ∙ f)
-
 -- how a search along positions ends: at a position where the test holds, or past the last one
 pub found-here : (n : ℕ) (up : Bool) (p : ℕ → Bool) (from i : ℕ) → NoneFrom p from n i → i < n → p i ≡ true → slotAt n up i ≡ foundFrom n up p from
 unfolding foundFrom

@@ -37,12 +37,9 @@ boundedAt w u t up i q = boundedBy w u t up i (slotAt (slots w t) up q)
 abbrev pub nearestFrom : ℕ → Bool → List ℕ → Bool → ℕ → ℕ → ℕ
 nearestFrom w u t up i from = foundFrom (slots w t) up (boundedAt w u t up i) from
 
--- the first two words do not tell the patterns of two slots apart; of the slot at a position and slot i
+-- the first two words do not tell the patterns of two slots apart
 abbrev pub mayOverlap : ℕ → List ℕ → ℕ → ℕ → Bool
 mayOverlap w t i j = overlapAt w (slotWords w t i) (slotWords w t j) 0 && overlapAt w (slotWords w t i) (slotWords w t j) 1
-
-abbrev pub mayOverlapAt : ℕ → List ℕ → Bool → ℕ → ℕ → Bool
-mayOverlapAt w t up i q = mayOverlap w t (slotAt (slots w t) up q) i
 
 -- a number is none, a slot's, or that of one further on
 unfoldable pub reachesSlot : Bool → ℕ → ℕ → Bool

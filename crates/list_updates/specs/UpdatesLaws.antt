@@ -25,7 +25,7 @@ use Rattle.records.specs.Entries.{SameRecord}
 use Rattle.records.specs.EntriesLaws.{refuted, precedes-cong}
 use Rattle.neighbour_lists.specs.Lists.{precedesSlot, Listed}
 use Rattle.neighbour_lists.specs.PairLaws.{pair-apart, pair-falling, pattern-apart, precedes-empty}
-use Rattle.list_updates.specs.Updates.{boundedBy, boundedAt, numberAlong, placeAlong, foundFrom, nearestFrom, mayOverlap, mayOverlapAt, reachesSlot, asksNumber, asksAt}
+use Rattle.list_updates.specs.Updates.{boundedBy, boundedAt, numberAlong, placeAlong, foundFrom, nearestFrom, mayOverlap, reachesSlot, asksNumber, asksAt}
 use Rattle.list_updates.specs.Updates.{BeforeWrite, ListedAlong, ListedBefore, AlongBefore, NumberBefore}
 use Rattle.list_updates.specs.SearchesLaws.{first-stays, first-here, first-after, first-past, number-found}
 
@@ -60,12 +60,6 @@ module _ (w : ℕ) (t : List ℕ) (wide : 2 ≤ w) (i j : ℕ) (apart : mayOverl
   unfolding boundedBy
   apart-unbounded u true = (pattern-apart w u _ _ turned-apart .1, pattern-apart w u _ _ patterns-apart .1)
   apart-unbounded u false = (pattern-apart w u _ _ patterns-apart .1, pattern-apart w u _ _ turned-apart .1)
-
--- positions that a search skips by the first two words
-pub skipped-unbounded : (w : ℕ) (u : Bool) (t : List ℕ) (up : Bool) (i from r : ℕ) → 2 ≤ w → NoneFrom (mayOverlapAt w t up i) from (slots w t) r
-    → NoneFrom (boundedAt w u t up i) from (slots w t) r
-skipped-unbounded w u t up i from r wide none =
-    (none .0, none .1, λ k l h. apart-unbounded w t wide (slotAt (slots w t) up k) i (none .2 k l h) u up .1)
 
 -- an empty slot bounds none, and none bounds it
 pub empty-unbounded : (w : ℕ) (u : Bool) (t : List ℕ) (up : Bool) (i j : ℕ) → empty w (slotWords w t j) ≡ true

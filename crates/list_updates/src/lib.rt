@@ -20,7 +20,7 @@ ghost use Rattle.records.specs.Checks.{checkRecords};
 ghost use Rattle.records.specs.Widths.{Width};
 ghost use Rattle.records.specs.declared.Check.the-variants.{Pass};
 ghost use Rattle.neighbour_lists.specs.Lists.{precedesSlot, Listed};
-ghost use Rattle.list_updates.specs.Updates.{boundedBy, numberAlong, placeAlong, nearestFrom, mayOverlapAt, reachesSlot, asksNumber, asksAt, ListedAlong, ListedBefore, AlongBefore, NumberBefore};
+ghost use Rattle.list_updates.specs.Updates.{boundedBy, numberAlong, placeAlong, nearestFrom, reachesSlot, asksNumber, asksAt, ListedAlong, ListedBefore, AlongBefore, NumberBefore};
 
 // Whether the rule in one slot precedes that in another. `precedes_pair` says the same; it stays the searches' for A and B alone, into which the compiler copies it.
 fn rule_precedes(table: &[u64], slot: usize, other: usize, mode: Mode) -> bool
@@ -44,20 +44,15 @@ fn bounded_by(table: &[u64], slot: usize, other: usize, up: bool, mode: Mode) ->
     rule_precedes(table, slot, other, mode)
 }
 
-// Skips positions whose patterns the first two words tell apart from a slot's. A loop without the exact test: most searches end in it.
-fn skip_apart(table: &[u64], slot: usize, from: usize, up: bool, width: usize) -> usize
-    requires { ⌜ (Width width) × (slot < slots width (now table)) × (from ≤ slots width (now table)) ⌝ }
-    ensures { λ r. ⌜ NoneFrom (mayOverlapAt width (now (table .entry)) up slot) from (slots width (now (table .entry))) r ⌝ }
+// The same, by the first two words where they tell the patterns apart: most searches end in this test.
+fn bounded_at(table: &[u64], slot: usize, other: usize, up: bool, mode: Mode) -> bool
+    requires { ⌜ (Width (mode .width)) × (slot < slots (mode .width) (now table)) × (other < slots (mode .width) (now table)) × (checkRecords (mode .width) (now table) ≡ Pass) ⌝ }
+    ensures { λ r. ⌜ r ≡ boundedBy (mode .width) (mode .uncounted) (now (table .entry)) up slot other ⌝ }
 {
-    let slots = slot_count(table, width);
-    let mut position = from;
-    while position < slots {
-        if may_overlap(table, slot_at(slots, up, position), table, slot, width) {
-            return position;
-        }
-        position += 1;
+    if !may_overlap(table, other, table, slot, mode.width) {
+        return false;
     }
-    slots
+    bounded_by(table, slot, other, up, mode)
 }
 
 // The nearest slot from a position on whose rule bounds a slot's, or none.
@@ -66,13 +61,13 @@ fn search_along(table: &[u64], slot: usize, from: usize, up: bool, mode: Mode) -
     ensures { λ r. ⌜ r ≡ nearestFrom (mode .width) (mode .uncounted) (now (table .entry)) up slot from ⌝ }
 {
     let slots = slot_count(table, mode.width);
-    let mut position = skip_apart(table, slot, from, up, mode.width);
+    let mut position = from;
     while position < slots {
         let other = slot_at(slots, up, position);
-        if bounded_by(table, slot, other, up, mode) {
+        if bounded_at(table, slot, other, up, mode) {
             return other as u16;
         }
-        position = skip_apart(table, slot, position + 1, up, mode.width);
+        position += 1;
     }
     NO_NUMBER
 }

@@ -103,7 +103,7 @@ pub struct Carried {
 }
 
 // A step's answer, as it crosses.
-fn carried(answer: StepAnswer, done: u32) -> Carried
+fn carry_answer(answer: StepAnswer, done: u32) -> Carried
     ensures { λ r. ⌜ r ≡ carriedTold (stepTold answer) done ⌝ }
 {
     let end = 4294967295;
@@ -133,7 +133,7 @@ pub fn carry(
     ensures { λ r. ⌜ (r ≡ carriedStep width edition (now (table .entry)) (now (plan .entry)) (now (rule .entry)) done total)
         × (now (table .exit) ≡ stepCallTable width edition (now (table .entry)) (now (plan .entry)) (now (rule .entry)) done total) ⌝ }
 {
-    carried(
+    carry_answer(
         step(table, plan, rule, edition, done, total, width as usize),
         done,
     )
@@ -164,9 +164,9 @@ pub fn carry_listed(
     match step_listed(table, plan, rule, edition, list, done, total, mode) {
         ListedStepAnswer::Wrote(info) => {
             *refreshed = info.refreshed as u32;
-            carried(StepAnswer::Wrote(StepInfo { done: info.done }), done)
+            carry_answer(StepAnswer::Wrote(StepInfo { done: info.done }), done)
         }
-        ListedStepAnswer::Finished => carried(StepAnswer::Finished, done),
-        ListedStepAnswer::Refused(cause, spot) => carried(StepAnswer::Refused(cause, spot), done),
+        ListedStepAnswer::Finished => carry_answer(StepAnswer::Finished, done),
+        ListedStepAnswer::Refused(cause, spot) => carry_answer(StepAnswer::Refused(cause, spot), done),
     }
 }

@@ -115,12 +115,12 @@ fn step_at(
     ensures { λ _. ⌜ now (table .exit) ≡ stepTable width (now (table .entry)) (now (plan .entry)) (lentRule width edition (now (rule .entry))) done total ⌝ }
 {
     match next_step(table, plan, rule, edition, done, total, width) {
+        StepAnswer::Refused(cause, spot) => StepAnswer::Refused(cause, spot),
+        StepAnswer::Finished => StepAnswer::Finished,
         StepAnswer::Wrote(info) => {
             make_write(table, rule, edition, plan[done as usize], width);
             StepAnswer::Wrote(info)
         }
-        StepAnswer::Finished => StepAnswer::Finished,
-        StepAnswer::Refused(cause, spot) => StepAnswer::Refused(cause, spot),
     }
 }
 

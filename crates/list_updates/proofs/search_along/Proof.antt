@@ -1,17 +1,17 @@
 -- `list_updates::search_along` meets its contract.
--- No slot before the loop's position bounds the slot; those skipped are told apart by their first two words.
+-- No slot before the loop's position bounds the slot.
 use mathlib.Core.Path.{_≡_, sym, ap, _∙_}
-use Prim.Native.Nat.{ℕ, _-_, _<_}
+use Prim.Native.Nat.{ℕ, _-_}
 use native.Mathlib.Omega.{arith}
 use denote.Ref.{now}
 use borrow.Author.Needs.{needs}
 use Rattle.search.specs.Search.{NoneFrom}
+use Rattle.search.specs.SearchLaws.{none-from-start}
 use Rattle.positions.specs.Positions.{slotAt}
 use Rattle.positions.specs.PositionsLaws.{slot-below}
 use Rattle.records.specs.Order.{slots as slotsOf}
 use Rattle.list_updates.specs.Updates.{boundedBy, boundedAt}
-use Rattle.list_updates.specs.SearchesLaws.{none-joined, found-here, found-none}
-use Rattle.list_updates.specs.UpdatesLaws.{skipped-unbounded}
+use Rattle.list_updates.specs.SearchesLaws.{none-from-more, found-here, found-none}
 use Rattle.list_updates.proofs.search_along.Statement.{statement}
 use Rattle.list_updates.proofs.search_along.Tie as tie
 
@@ -25,21 +25,15 @@ abbrev μ-loop : tie.MeasureT-loop
 slot-count-requires : tie.Need-slot-count-requires Inv-loop μ-loop
 slot-count-requires c κs = search needs
 
-skip-apart-requires : tie.Need-skip-apart-requires Inv-loop μ-loop
-skip-apart-requires c κs = search needs
-
 loop-holds : tie.Need-loop-holds Inv-loop μ-loop
-loop-holds c =
-    let s = c .before .before .before in
-    let a = s .args in
-    (c .before .slot-count .ensures, skipped-unbounded (a .mode .width) (a .mode .uncounted) (now (a .table)) (a .up) (a .slot) _ _ (s .pre .0 .0) (c .skip-apart .ensures))
+loop-holds c = (c .slot-count .ensures, none-from-start _ _ _ (c .before .before .pre .3))
 
 slot-at-requires : tie.Need-slot-at-requires Inv-loop μ-loop
 slot-at-requires c κs = search needs
 
-bounded-by-requires : tie.Need-bounded-by-requires Inv-loop μ-loop
-bounded-by-requires c κs =
-    let s = c .before .before .before .before .before .before in
+bounded-at-requires : tie.Need-bounded-at-requires Inv-loop μ-loop
+bounded-at-requires c κs =
+    let s = c .before .before .before .before .before in
     let a = s .args in
     let inv = c .before .before .loop .inv in
     let at = c .slot-at .ensures ∙ ap (λ (n : ℕ). slotAt n (a .up) (c .before .before .loop .position)) (inv .0) in
@@ -47,7 +41,7 @@ bounded-by-requires c κs =
 
 cast-result : tie.Need-cast-result Inv-loop μ-loop
 cast-result c =
-    let s = c .before .before .before .before .before .before .before .before in
+    let s = c .before .before .before .before .before .before .before in
     let a = s .args in
     let inv = c .before .before .before .before .loop .inv in
     let at = c .before .before .slot-at .ensures ∙ ap (λ (n : ℕ). slotAt n (a .up) (c .before .before .before .before .loop .position)) (inv .0) in
@@ -55,36 +49,31 @@ cast-result c =
 
 returns : tie.Need-returns Inv-loop μ-loop
 returns c =
-    let a = c .before .before .before .before .before .before .before .before .args in
+    let a = c .before .before .before .before .before .before .before .args in
     let inv = c .before .before .before .before .loop .inv in
     let at = c .before .before .slot-at .ensures ∙ ap (λ (n : ℕ). slotAt n (a .up) (c .before .before .before .before .loop .position)) (inv .0) in
     at ∙ found-here _ (a .up) (boundedAt (a .mode .width) (a .mode .uncounted) (now (a .table)) (a .up) (a .slot)) _ _ (inv .1) (omega (arith, inv .0))
-    (ap (boundedBy (a .mode .width) (a .mode .uncounted) (now (a .table)) (a .up) (a .slot)) (sym at) ∙ (sym (c .before .bounded-by .ensures) ∙ c .if1 .taken))
+    (ap (boundedBy (a .mode .width) (a .mode .uncounted) (now (a .table)) (a .up) (a .slot)) (sym at) ∙ (sym (c .before .bounded-at .ensures) ∙ c .if1 .taken))
 
-add-skip-apart : tie.Need-add-skip-apart Inv-loop μ-loop
-add-skip-apart c = omega arith
-
-skip-apart-requires-2 : tie.Need-skip-apart-requires-2 Inv-loop μ-loop
-skip-apart-requires-2 c κs = let s = c .before .before .before .before .before .before .before .before in (s .pre .0, s .pre .2, omega (arith, c .before .before .before .before .loop .inv .0))
+add-position : tie.Need-add-position Inv-loop μ-loop
+add-position c = omega arith
 
 loop-less : tie.Need-loop-less Inv-loop μ-loop
-loop-less c = omega (arith, c .skip-apart2 .ensures .0)
+loop-less c = omega arith
 
 loop-again : tie.Need-loop-again Inv-loop μ-loop
 loop-again c =
-    let s = c .before .before .before .before .before .before .before .before .before in
-    let a = s .args in
-    let inv = c .before .before .before .before .before .loop .inv in
-    let at = c .before .before .before .slot-at .ensures ∙ ap (λ (n : ℕ). slotAt n (a .up) (c .before .before .before .before .before .loop .position)) (inv .0) in (
+    let a = c .before .before .before .before .before .before .before .args in
+    let inv = c .before .before .before .before .loop .inv in
+    let at = c .before .before .slot-at .ensures ∙ ap (λ (n : ℕ). slotAt n (a .up) (c .before .before .before .before .loop .position)) (inv .0) in (
       inv .0,
-      none-joined (boundedAt (a .mode .width) (a .mode .uncounted) (now (a .table)) (a .up) (a .slot)) _ _ _ _ (inv .1)
-      (ap (boundedBy (a .mode .width) (a .mode .uncounted) (now (a .table)) (a .up) (a .slot)) (sym at) ∙ (sym (c .before .before .bounded-by .ensures) ∙ c .before .if1 .left))
-      (skipped-unbounded (a .mode .width) (a .mode .uncounted) (now (a .table)) (a .up) (a .slot) _ _ (s .pre .0 .0) (c .skip-apart2 .ensures)),
+      none-from-more (boundedAt (a .mode .width) (a .mode .uncounted) (now (a .table)) (a .up) (a .slot)) _ _ _ (inv .1) (omega (arith, inv .0))
+      (ap (boundedBy (a .mode .width) (a .mode .uncounted) (now (a .table)) (a .up) (a .slot)) (sym at) ∙ (sym (c .before .bounded-at .ensures) ∙ c .if1 .left)),
     )
 
 returns-2 : tie.Need-returns-2 Inv-loop μ-loop
 returns-2 c =
-    let a = c .before .before .before .before .before .args in
+    let a = c .before .before .before .before .args in
     let inv = c .before .loop .inv in
     found-none _ (a .up) (boundedAt (a .mode .width) (a .mode .uncounted) (now (a .table)) (a .up) (a .slot)) _ _ (inv .1) (omega (arith, inv .0))
 
@@ -95,14 +84,12 @@ search-along-spec =
     Inv-loop
     μ-loop
     slot-count-requires
-    skip-apart-requires
     loop-holds
     slot-at-requires
-    bounded-by-requires
+    bounded-at-requires
     cast-result
     returns
-    add-skip-apart
-    skip-apart-requires-2
+    add-position
     loop-less
     loop-again
     returns-2)
