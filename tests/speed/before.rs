@@ -1,5 +1,4 @@
-// What our calls took before an insert told of a rule that covers the new one: the counts of before.txt, beside which those of now
-// are judged.
+// What our calls took before neighbour lists could be lent: the counts of before.txt, beside which those of now are judged.
 // They are what `--record` printed at the landing before.
 
 use crate::cases::{PAIR_CALLS, SMALL_KINDS};
@@ -10,11 +9,6 @@ use crate::{SIZES, SMALL_SIZES};
 use reference::bits::WIDTHS;
 
 const COUNTS: &str = include_str!("before.txt");
-
-/// The tables that there were: all but those that are made for the search of a rule that covers.
-pub fn kinds(width: usize) -> impl Iterator<Item = Kind> {
-    every_kind(width).filter(|kind| !kind.is_for_cover())
-}
 
 /// The numbers of slots at which a call on a table is counted.
 pub fn sizes(kind: Kind, call: Call) -> impl Iterator<Item = usize> {
@@ -35,7 +29,7 @@ pub fn count(width: usize, slots: usize, kind: Kind, call: Call) -> f64 {
 /// Ends the program, before anything is counted, where before.txt lacks a count that another will be divided by.
 pub fn need_all() {
     for (width, call) in WIDTHS.into_iter().flat_map(|width| CALLS.map(|call| (width, call))) {
-        for (kind, slots) in kinds(width).flat_map(|kind| sizes(kind, call).map(move |slots| (kind, slots))) {
+        for (kind, slots) in every_kind(width).flat_map(|kind| sizes(kind, call).map(move |slots| (kind, slots))) {
             if found(width, slots, kind, call).is_none() {
                 let start = line_start(width, kind, call);
                 eprintln!("speed: tests/speed/before.txt has no count for {start}{slots} slots: --record prints such a file");

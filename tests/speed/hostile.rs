@@ -1,7 +1,8 @@
-// The patterns of the tables made to be hostile to the pass over the pairs, and their new rules.
-// What costs the pass time: pairs that the maps don't tell apart, and blocks whose lowest priority says nothing.
+// The patterns of the tables made to be hostile to the pass over the pairs, or to the update of a neighbour list, and their new rules.
+// What costs the pass time: pairs that the maps don't tell apart, and blocks whose lowest priority says nothing. What costs the update
+// time: slots that lose their only neighbour, since each searches all others.
 
-use crate::tables::{dense_mask, drawn, falling, from_last, Kind, Size};
+use crate::tables::{dense_mask, drawn, falling, from_last, word_mask, Kind, Size};
 use reference::bits::Bits;
 use support::random::Random;
 
@@ -45,8 +46,19 @@ pub fn pattern(kind: Kind, (width, slots): Size, slot: usize, random: &mut Rando
         Kind::OneHot => (Bits::at(slot % CHAINS * width / 2), Bits::all(width), falling(slot)),
         Kind::TwoBits => (drawn(width, random), some_bits(2, width, random), falling(slot)),
         Kind::MoreBits => (drawn(width, random), some_bits(more_bits(width), width, random), falling(slot)),
+        _ if kind.is_of_one_neighbour() && slot == slots / 2 => (Bits::NONE, Bits::NONE, falling(slot)),
+        _ if kind.is_of_one_neighbour() => (drawn(width, random), other_mask(kind, width), falling(slot)),
         _ if slot % sample_step(slots) == 0 => (alike(width), Bits::all(width), falling(slot)),
         _ => (drawn(width, random), drawn(width, random), falling(slot)),
+    }
+}
+
+/// The mask of the rules that have one neighbour.
+fn other_mask(kind: Kind, width: usize) -> Bits {
+    match kind {
+        Kind::OneNeighbour => word_mask(0),
+        Kind::OneNeighbourLast => word_mask(width - 1),
+        _ => Bits::NONE,
     }
 }
 
@@ -75,6 +87,7 @@ pub fn new_pattern(kind: Kind, (width, slots): Size, random: &mut Random) -> Pat
     match kind {
         Kind::TwoGroups | Kind::LowInBlocks => (group(), group(), here),
         Kind::TwoBits | Kind::MoreBits => (Bits::NONE, Bits::NONE, here),
+        _ if kind.is_of_one_neighbour() => (drawn(width, random), other_mask(kind, width), falling(slots)),
         _ => (drawn(width, random), Bits::all(width), here),
     }
 }

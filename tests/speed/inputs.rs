@@ -2,6 +2,7 @@
 // An input has a field for everything that some call takes; each call reads its own.
 
 use crate::answers::Progress;
+use crate::listed;
 use crate::tables::RuleTable;
 use crate::versions::{Call, Version, CALLS};
 use reference::image::{image_bytes, save};
@@ -30,6 +31,8 @@ pub struct Input {
     pub done: u32,
     pub total: u32,
     pub image: Vec<u8>,
+    /// A neighbour list, where a planned insert or a write is lent one.
+    pub list: Option<Vec<u16>>,
 }
 
 /// The buffers and cells of a call. What a call may not write keeps the marks it starts with.
@@ -38,6 +41,7 @@ pub struct Lent {
     pub table: Vec<u64>,
     pub plan: Vec<u32>,
     pub image: Vec<u8>,
+    pub list: Vec<u16>,
     pub cells: [u32; 4],
     pub done: u32,
     pub total: u32,
@@ -56,7 +60,8 @@ impl Lent {
             _ => (input.plan.clone(), input.image.clone()),
         };
         let table = if input.call == Call::Load { vec![TABLE_MARK; input.table.len()] } else { input.table.clone() };
-        Lent { table, plan, image, cells: [CELL_MARK; 4], done: input.done, total: input.total }
+        let list = input.list.clone().unwrap_or_default();
+        Lent { table, plan, image, list, cells: [CELL_MARK; 4], done: input.done, total: input.total }
     }
 
     /// Takes back what a step changed.
@@ -66,8 +71,11 @@ impl Lent {
     }
 }
 
-/// Makes the call of a version and gives its result.
+/// Makes the call of a version and gives its result; with a list the call is ours.
 pub fn perform(version: &Version, input: &Input, lent: &mut Lent) -> u64 {
+    if input.list.is_some() {
+        return listed::perform(input, lent);
+    }
     let (table, words, width, flag) = (lent.table.as_mut_ptr(), lent.table.len(), input.given, input.uncounted);
     let (plan, plan_words) = (lent.plan.as_mut_ptr(), lent.plan.len());
     let (image, image_bytes) = (lent.image.as_mut_ptr(), lent.image.len());
@@ -135,6 +143,7 @@ pub fn inputs_of(table: &RuleTable) -> Vec<Input> {
         done: 0,
         total: plan.len() as u32,
         image: image.clone(),
+        list: None,
     };
     CALLS.into_iter().map(input).collect()
 }

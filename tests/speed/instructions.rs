@@ -2,10 +2,14 @@
 // Counting is on only inside the calls; the counts repeat to the digit.
 
 use crate::cases::{for_each_case, Case, Measured};
+use crate::listed::SYMBOLS;
 use crate::versions::{versions, Call, CALLS, OURS};
 use std::collections::BTreeMap;
 use std::path::Path;
 use std::process::{Command, Stdio};
+
+/// The function that updates a list in one direction.
+const UPDATE: &str = "list_updates::update_along";
 
 pub type Counts = BTreeMap<Case, u64>;
 /// Our own functions that stay apart within a planned insert, by what each spends itself.
@@ -35,7 +39,11 @@ fn run_callgrind(folder: &Path) -> Result<(), String> {
             command.arg(format!("--toggle-collect={}", version.symbol(call)));
         }
     }
-    command.arg("--dump-before=made_call").arg(program).arg("--calls").stdout(Stdio::null()).stderr(Stdio::piped());
+    for symbol in SYMBOLS {
+        command.arg(format!("--toggle-collect={symbol}"));
+    }
+    command.args(["--zero-before=begin_call", "--dump-before=made_call"]);
+    command.arg(program).arg("--calls").stdout(Stdio::null()).stderr(Stdio::piped());
     let output = command.output().map_err(|error| format!("valgrind: {error}"))?;
     if !output.status.success() {
         return Err(format!("valgrind: {}", String::from_utf8_lossy(&output.stderr)));
@@ -55,6 +63,9 @@ fn read_counts(folder: &Path) -> (Counts, Functions) {
         counts.insert(case, total_of(&text));
         if case.version == OURS && case.measured == Measured::Whole(Call::PlanInsert) {
             functions.insert(case, spent_by_function(&text));
+        }
+        if let Measured::ListedWrite(write) = case.measured {
+            counts.insert(Case { measured: Measured::Update(write), ..case }, spent_on_updates(&text));
         }
     });
     (counts, functions)
@@ -85,5 +96,24 @@ fn spent_by_function(text: &str) -> BTreeMap<String, u64> {
             after_call = false;
         }
     }
+    spent
+}
+
+/// What the calls from other functions to that which updates a list spend, with all that it calls.
+fn spent_on_updates(text: &str) -> u64 {
+    let mut spent = 0;
+    let mut called = "";
+    let mut after_call = false;
+    for line in text.lines() {
+        if let Some(name) = line.strip_prefix("cfn=") {
+            called = name;
+        } else if line.starts_with("calls=") {
+            after_call = called == UPDATE;
+        } else if after_call {
+            spent += line.split(' ').nth(1).and_then(|word| word.parse::<u64>().ok()).expect("a cost");
+            after_call = false;
+        }
+    }
+    assert!(spent > 0, "no call of {UPDATE}: the update of a list is not told apart");
     spent
 }

@@ -3,7 +3,7 @@
 // The self-check holds each table to it; the instruction counts are printed with it.
 
 use crate::hostile::sample_step;
-use crate::tables::{every_kind, make, Kind, Size};
+use crate::tables::{every_kind, make, Kind, Size, OF_ONE_NEIGHBOUR};
 use reference::bits::Bits;
 use reference::plan::{plan_insert, write_word, PUT_IN};
 use reference::table::{read_sound_table, Rule, Slot, EXACT_RANK};
@@ -83,6 +83,7 @@ fn are_sampled_alike(entries: &[Slot]) -> bool {
 fn is_of_kind(kind: Kind, counted: &Properties, (width, slots): Size) -> bool {
     let share = |count: usize| count as f64 / counted.pairs as f64;
     let (overlapping, apart) = (share(counted.overlapping), share(counted.apart_by_word[0]));
+    let pairs_beside_one = counted.pairs - (counted.rules - 1);
     let all_apart_by = |word: usize| counted.apart_by_word[word] == counted.pairs;
     match kind {
         Kind::Sparse | Kind::HalfEmpty | Kind::SentAgain | Kind::FullSentAgain => {
@@ -105,16 +106,21 @@ fn is_of_kind(kind: Kind, counted: &Properties, (width, slots): Size) -> bool {
         Kind::TwoBits => overlapping > 0.95 && counted.falling,
         Kind::MoreBits => overlapping > 0.4 && overlapping < 0.7 && counted.falling,
         Kind::Unsampled => overlapping < 0.02 && counted.sampled_alike && counted.falling,
+        Kind::OneNeighbour => counted.falling && counted.apart_by_word[0] == pairs_beside_one,
+        Kind::OneNeighbourLast => counted.falling && counted.apart_by_word[width - 1] == pairs_beside_one,
+        Kind::OneNeighbourUncounted => counted.falling && counted.overlapping == counted.pairs,
         Kind::Exact => counted.overlapping == 0 && apart > 0.99 && counted.full_masks == counted.rules,
     }
 }
 
-/// Whether what is above the new rule is what the kind says: no rule covers it but in two tables, in one of them the last, and in
-/// those that are made for it all overlap it.
+/// Whether what is above the new rule is what the kind says: which rule covers it, and in the tables that are made for it all overlap
+/// it.
 fn is_covered_so(kind: Kind, counted: &Properties, slots: usize) -> bool {
     let of_cover = match kind {
         Kind::CoveredLast => counted.covered == Some(slots - 2),
         Kind::DenseSentAgain => true,
+        Kind::OneNeighbour | Kind::OneNeighbourLast => counted.covered == Some(slots / 2),
+        Kind::OneNeighbourUncounted => counted.covered == Some(0),
         _ => counted.covered.is_none(),
     };
     of_cover && (counted.above == counted.rules || !kind.is_for_cover())
@@ -138,7 +144,7 @@ pub fn print((width, slots): Size) {
     println!("### The tables, {slots} slots\n");
     println!("| Table | rules | pairs | of them overlapping | apart by the first word | writes of the plan | covered by slot |");
     println!("|---|---|---|---|---|---|---|");
-    for kind in every_kind(width) {
+    for kind in every_kind(width).chain(OF_ONE_NEIGHBOUR) {
         let counted = properties(kind, (width, slots));
         let covered = counted.covered.map_or("none".to_string(), |slot| slot.to_string());
         println!(

@@ -6,6 +6,7 @@ use crate::before;
 use crate::cases::{Case, Measured, DRAWN_KIND, PAIR_CALLS, SMALL_KINDS};
 use crate::ids::DRAWS;
 use crate::instructions::{Counts, Functions};
+use crate::listed_report;
 use crate::properties;
 use crate::tables::{every_kind, kinds, Kind, HOSTILE};
 use crate::targets::{self, Target};
@@ -26,7 +27,7 @@ pub struct Found<'a> {
 }
 
 impl Found<'_> {
-    fn of(&self, slots: usize, kind: Kind, measured: Measured, version: usize) -> f64 {
+    pub fn of(&self, slots: usize, kind: Kind, measured: Measured, version: usize) -> f64 {
         self.counts[&Case { width: self.width, slots, kind, measured, version }] as f64
     }
 
@@ -70,6 +71,7 @@ fn print_width(found: &Found, functions: &Functions, every_table: bool) {
         let others: Vec<Call> = CALLS.into_iter().filter(|&call| call != Call::PlanInsert).collect();
         print_tables(found, &others, &kinds, "The other calls, by table");
     }
+    listed_report::print(found);
     print_before(found);
     print_parts(found);
     print_ids(found);
@@ -78,7 +80,7 @@ fn print_width(found: &Found, functions: &Functions, every_table: bool) {
 }
 
 /// Digits in groups of three.
-fn grouped(number: u64) -> String {
+pub fn grouped(number: u64) -> String {
     let digits = number.to_string();
     let groups: Vec<&str> = digits.as_bytes().rchunks(3).rev().map(|group| std::str::from_utf8(group).unwrap()).collect();
     groups.join(",")
@@ -124,16 +126,14 @@ fn print_worst(found: &Found) {
     println!();
 }
 
-/// Ours beside what it was before an insert told of a rule that covers the new one, each call and table.
+/// Ours beside what it was before neighbour lists could be lent, each call and table.
 fn print_before(found: &Found) {
-    println!("### Beside what it was before inserts told of covering rules: now / before, the worst of the sizes\n");
-    println!("Tables with full masks are not judged.\n");
-    println!("| Table | full masks | {} |", CALLS.map(Call::name).join(" | "));
-    println!("|---|---|{}", "---|".repeat(CALLS.len()));
-    for kind in before::kinds(found.width) {
-        let full_masks = if kind.has_full_masks() { "yes" } else { "no" };
+    println!("### Beside what it was before neighbour lists could be lent: now / before, the worst of the sizes\n");
+    println!("| Table | {} |", CALLS.map(Call::name).join(" | "));
+    println!("|---|{}", "---|".repeat(CALLS.len()));
+    for kind in every_kind(found.width) {
         let cells = CALLS.map(|call| format!("{:.4}", found.now_to_before(kind, call)));
-        println!("| {} | {full_masks} | {} |", kind.name(found.width), cells.join(" | "));
+        println!("| {} | {} |", kind.name(found.width), cells.join(" | "));
     }
     println!();
 }

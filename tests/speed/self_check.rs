@@ -1,15 +1,17 @@
 // The cross-check: all versions give equal results, buffers and cells on the tables of the comparison and on edited inputs.
 // It times nothing. It fails on a difference, on a table that is not accepted, and where some refusal is never reached, or no rule
-// that is covered, or none that isn't.
+// that is covered, or none that isn't. The calls with a neighbour list are compared with ours without one.
 
 use crate::answers::NO_SLOT;
-use crate::cases::PAIR_CALLS;
+use crate::cases::{listed_kinds, PAIR_CALLS};
 use crate::edits::edit;
 use crate::inputs::{inputs_of, perform, Input, Lent};
+use crate::listed::writes_without_list;
+use crate::listed_check::{self, LISTED_CALLS};
 use crate::properties;
 use crate::shapes;
-use crate::tables::{every_kind, make, Kind, Size};
-use crate::versions::{versions, Call, Version};
+use crate::tables::{every_kind, make, Kind, Size, OF_ONE_NEIGHBOUR};
+use crate::versions::{versions, Call, Version, OURS};
 use crate::SIZES;
 use reference::bits::WIDTHS;
 use reference::table::{record_words, COUNTED, UNCOUNTED};
@@ -18,6 +20,8 @@ use support::random::Random;
 
 const EDITED_SIZES: [usize; 11] = [1, 2, 3, 5, 8, 13, 21, 40, 64, 65, 150];
 const EDITS: u64 = 500;
+/// Of so many edits one is made with lists too.
+const EDITS_FOR_LISTS: u64 = 25;
 const SEED: u64 = 11;
 
 /// The results that each call must have had at each width: refusals by number, and 2^32 - 1 for a finished plan. Beside them a
@@ -40,6 +44,7 @@ struct Tally {
     reached: BTreeSet<(usize, Call, bool, u64)>,
     /// Of the accepted inserts, by width and whether the table is uncounted, whether some rule covers the new one.
     covered: BTreeSet<(usize, bool, bool)>,
+    listed: listed_check::Tally,
 }
 
 /// Whether all is as it should be.
@@ -49,7 +54,7 @@ pub fn run() -> bool {
     let mut sound = true;
     for width in WIDTHS {
         for slots in SIZES {
-            for kind in every_kind(width) {
+            for kind in every_kind(width).chain(OF_ONE_NEIGHBOUR) {
                 sound &= is_as_made(&versions, kind, (width, slots), &mut tally);
             }
         }
@@ -60,7 +65,7 @@ pub fn run() -> bool {
             }
         }
     }
-    sound & tally.told(versions.len())
+    sound & tally.told(versions.len()) & tally.listed.told()
 }
 
 /// Whether a table is what its kind says, and each call is accepted.
@@ -69,9 +74,14 @@ fn is_as_made(versions: &[Version], kind: Kind, (width, slots): Size, tally: &mu
     if !sound {
         println!("speed: the table of {slots} slots, {}, width {width}, is not what it says", kind.name(width));
     }
-    for input in inputs_of(&make(kind, width, slots)) {
+    let inputs = inputs_of(&make(kind, width, slots));
+    for input in &inputs {
         let wanted = if input.call == Call::SlotRecord { record_words(width) as u64 } else { 0 };
-        sound &= gives(versions, &input, wanted, tally);
+        sound &= gives(versions, input, wanted, tally);
+    }
+    compare_listed(versions, &inputs, tally);
+    if listed_kinds(width).any(|one| one == kind) || kind.is_of_one_neighbour() {
+        compare_listed(versions, &writes_without_list(kind, &inputs[0]), tally);
     }
     sound
 }
@@ -96,9 +106,20 @@ fn compare_edited(versions: &[Version], kind: Kind, (width, slots): Size, tally:
     let inputs = inputs_of(&make(kind, width, slots));
     for number in 0..EDITS {
         let mut random = Random::new(SEED + slots as u64, number);
-        for input in &inputs {
-            compare(versions, &edit(input, &mut random), tally);
+        let edited: Vec<Input> = inputs.iter().map(|input| edit(input, &mut random)).collect();
+        for input in &edited {
+            compare(versions, input, tally);
         }
+        if number % EDITS_FOR_LISTS == 0 {
+            compare_listed(versions, &edited, tally);
+        }
+    }
+}
+
+/// Compares the calls with a list, on those of the inputs whose calls take one.
+fn compare_listed(versions: &[Version], inputs: &[Input], tally: &mut Tally) {
+    for input in inputs.iter().filter(|input| LISTED_CALLS.contains(&input.call)) {
+        listed_check::compare(&versions[OURS], input, &mut tally.listed);
     }
 }
 

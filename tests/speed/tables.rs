@@ -57,6 +57,12 @@ pub enum Kind {
     CoveredLast,
     /// The same, but none covers it: each cares for a bit of the last word, and the new rule for none.
     Overlapped,
+    /// A rule without mask bits in the middle of rules that the first word tells apart, priorities fall: it is the only neighbour of each.
+    OneNeighbour,
+    /// The same, but only the last word tells the others apart.
+    OneNeighbourLast,
+    /// The same, but uncounted: all overlap, and all but the one in the middle have one action.
+    OneNeighbourUncounted,
 }
 
 const KINDS: [Kind; 17] = [
@@ -87,6 +93,9 @@ pub fn kinds(width: usize) -> Vec<Kind> {
 /// Tables made to be hostile to the pass over the pairs; the first of them are judged by a target, the last two reported.
 pub const HOSTILE: [Kind; 6] = [Kind::TwoGroups, Kind::OneHot, Kind::TwoBits, Kind::MoreBits, Kind::LowInBlocks, Kind::Unsampled];
 pub const HOSTILE_JUDGED: usize = 4;
+
+/// Tables made to be hostile to the update of a neighbour list; only that is counted on them.
+pub const OF_ONE_NEIGHBOUR: [Kind; 3] = [Kind::OneNeighbour, Kind::OneNeighbourLast, Kind::OneNeighbourUncounted];
 
 pub fn every_kind(width: usize) -> impl Iterator<Item = Kind> {
     kinds(width).into_iter().chain(HOSTILE)
@@ -120,6 +129,9 @@ impl Kind {
             Kind::DenseUncounted => "dense, uncounted",
             Kind::CoveredLast => "dense, covered by the last rule",
             Kind::Overlapped => "dense, overlapped by every rule",
+            Kind::OneNeighbour => "one neighbour of all",
+            Kind::OneNeighbourLast => "one neighbour of all, last word decides",
+            Kind::OneNeighbourUncounted => "one neighbour of all, uncounted",
         }
     }
 
@@ -135,7 +147,12 @@ impl Kind {
 
     /// Whether the table is named as uncounted.
     pub fn is_uncounted(self) -> bool {
-        self == Kind::DenseUncounted
+        matches!(self, Kind::DenseUncounted | Kind::OneNeighbourUncounted)
+    }
+
+    /// Whether the rule in the middle is the only neighbour of each other.
+    pub fn is_of_one_neighbour(self) -> bool {
+        OF_ONE_NEIGHBOUR.contains(&self)
     }
 
     /// Whether the table is made for the search of a rule that covers the new one: all of its rules are ranked above that.
@@ -155,6 +172,7 @@ impl Kind {
         match self {
             Kind::HalfEmpty => slot % 2 == 1,
             Kind::DenseDown | Kind::CoveredLast | Kind::Overlapped => slot == slots - 1,
+            Kind::OneNeighbour | Kind::OneNeighbourLast | Kind::OneNeighbourUncounted => slot == slots - 1,
             Kind::DenseUp => slot == 0,
             Kind::FullSentAgain => false,
             _ => slot == slots / 2,
@@ -238,7 +256,7 @@ fn prefix(length: usize) -> Bits {
 }
 
 /// All bits of one word.
-fn word_mask(word: usize) -> Bits {
+pub fn word_mask(word: usize) -> Bits {
     Bits::number(64 * word, 64, usize::MAX)
 }
 
@@ -268,7 +286,11 @@ fn any_rule(kind: Kind, (width, slots): Size, slot: usize, random: &mut Random) 
         Kind::Exact => (drawn(width, random), Bits::all(width), EXACT_RANK),
         _ => hostile::pattern(kind, (width, slots), slot, random),
     };
-    let action = if kind.is_uncounted() { slot as u32 % 2 } else { slot as u32 ^ 0x5a5a };
+    let action = match kind {
+        Kind::DenseUncounted => slot as u32 % 2,
+        Kind::OneNeighbourUncounted => u32::from(slot == slots / 2),
+        _ => slot as u32 ^ 0x5a5a,
+    };
     Rule { id: id_of_place(slot), rank, value: wanted & mask, mask, action }
 }
 

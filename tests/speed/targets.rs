@@ -1,10 +1,9 @@
 // The targets of the comparison, each with what was found at its worst and where.
 // Ratios hold for safe Rust and for gcc -O3; the other versions are reported only. Ours is held to what it was before, too.
 
-use crate::before;
-use crate::cases::PAIR_CALLS;
+use crate::cases::{listed_kinds, PAIR_CALLS};
 use crate::report::{Found, LARGEST};
-use crate::tables::{kinds, Kind, HOSTILE, HOSTILE_JUDGED};
+use crate::tables::{every_kind, kinds, Kind, HOSTILE, HOSTILE_JUDGED};
 use crate::versions::{Call, CALLS, GCC, OURS, SAFE};
 use reference::bits::WIDTHS;
 
@@ -16,7 +15,10 @@ const LOOKUP_A_SLOT: f64 = 30.0;
 const PAIRS_GROWTH: f64 = 2.8;
 const CALL_GROWTH: f64 = 2.2;
 /// Of what it was before, every call.
-const BEFORE_RATIO: f64 = 1.02;
+const BEFORE_RATIO: f64 = 1.01;
+/// Of a planned insert without a neighbour list: one with a list, and one write carried out with a list.
+const LISTED_PLAN_RATIO: f64 = 1.01;
+const LISTED_WRITE_RATIO: f64 = 1.05;
 
 /// At five words: planning, an insert or a delete, and every other call; then planning an insert and a load by themselves.
 const WIDE_PLAN_RATIO: f64 = 1.10;
@@ -62,7 +64,7 @@ impl Target {
 
 pub fn all(found: &Found) -> Vec<Target> {
     let of_width = if found.width == WIDTHS[0] { at_two(found) } else { at_five(found) };
-    [of_width, beside_before(found)].concat()
+    [of_width, beside_before(found), with_list(found)].concat()
 }
 
 /// Ratios at two words: all calls that compare rules in pairs are held to safe Rust alike; beside gcc -O3 planning is.
@@ -102,9 +104,20 @@ fn at_two(found: &Found) -> Vec<Target> {
     targets
 }
 
-/// Each call on every table without full masks, hostile ones too, at every size, beside what it was before.
+/// The calls with a neighbour list, hostile tables too.
+fn with_list(found: &Found) -> Vec<Target> {
+    let kinds: Vec<Kind> = listed_kinds(found.width).collect();
+    let worst =
+        |name: &str, most, number: &dyn Fn(Kind) -> f64| Target::among(&kinds, found.width, name.to_string(), most, number);
+    vec![
+        worst("plan_insert with a list / without", LISTED_PLAN_RATIO, &|kind| found.plan_with_list(LARGEST, kind)),
+        worst("carry_out with a list / plan_insert without", LISTED_WRITE_RATIO, &|kind| found.write_with_list(LARGEST, kind)),
+    ]
+}
+
+/// Each call on every table, hostile ones too, at every size, beside what it was before.
 fn beside_before(found: &Found) -> Vec<Target> {
-    let kinds: Vec<Kind> = before::kinds(found.width).filter(|kind| !kind.has_full_masks()).collect();
+    let kinds: Vec<Kind> = every_kind(found.width).collect();
     let target = |call: Call| {
         let title = format!("{} / before", call.name());
         Target::among(&kinds, found.width, title, BEFORE_RATIO, |kind| found.now_to_before(kind, call))

@@ -2,7 +2,7 @@
 use mathlib.Core.Path.{_≡_, refl, sym, ap, _∙_}
 use mathlib.Core.Bool.{Bool, true, false, not}
 use mathlib.Core.List.{List}
-use Prim.Native.Nat.{ℕ, suc, _+_, _*_, _≤_, _<_}
+use Prim.Native.Nat.{ℕ, _+_, _*_, _≤_, _<_}
 use native.Mathlib.Decide.{decLt, ℕ-discrete}
 use native.Mathlib.Omega.{arith}
 use lib.ListN.{length, getD, set, length-set}
@@ -13,7 +13,7 @@ use Rattle.positions.specs.PositionsLaws.{slot-below}
 use Rattle.records.specs.Record.{slotWords, empty}
 use Rattle.records.specs.Order.{slots}
 use Rattle.neighbour_lists.specs.Lists.{Listed}
-use Rattle.list_updates.specs.Updates.{numberAlong, placeAlong, asksAt, ListedAlong, ListedBefore, AlongBefore, NumberBefore}
+use Rattle.list_updates.specs.Updates.{numberAlong, placeAlong, asksAt, ListedAlong, AlongBefore, NumberBefore}
 use Rattle.list_updates.specs.SearchesLaws.{place-below}
 use Rattle.list_updates.specs.UpdatesLaws.{slot-turns, past-stays, number-unasked}
 

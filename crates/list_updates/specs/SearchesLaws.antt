@@ -1,18 +1,18 @@
 -- Laws on searches along a direction: what a write to one position changes in them, and that a slot's number is found by one.
 use mathlib.Core.Path.{_≡_, refl, sym, ap, ap₂, _∙_}
-use mathlib.Core.Bool.{Bool, true, false, not, cond, _&&_, true≢false}
+use mathlib.Core.Bool.{Bool, true, false, cond}
 use mathlib.Core.List.{List}
 use Prim.Native.Nat.{ℕ, suc, _+_, _-_, _*_, _≤_, _<_}
 use native.Mathlib.Decide.{decLt}
 use native.Mathlib.Omega.{arith}
-use lib.Dec.{eqb, ltb, leb}
-use borrow.Author.Tests.{eq-eqb, ne-eqb, lt-ltb, le-ltb, le-leb, lt-leb}
+use lib.Dec.{ltb}
+use borrow.Author.Tests.{lt-ltb, le-ltb}
 use Rattle.search.specs.Search.{least, Least, afterLast, firstFrom, NoneFrom}
-use Rattle.search.specs.SearchLaws.{below-suc, least-law, least-unique, least-cong, least-mirrored, after-last-law}
+use Rattle.search.specs.SearchLaws.{below-suc, least-law, least-unique, least-mirrored, after-last-law}
 use Rattle.positions.specs.Positions.{slotAt}
 use Rattle.records.specs.Order.{slots}
 use Rattle.neighbour_lists.specs.Lists.{precedesSlot, nextDependant, lastPreceding, lastBelow}
-use Rattle.list_updates.specs.Updates.{placeAlong, boundedBy, boundedAt, numberAlong, foundFrom, nearestFrom, reachesSlot}
+use Rattle.list_updates.specs.Updates.{placeAlong, boundedBy, numberAlong, foundFrom, nearestFrom}
 
 -- a slot's numbers stand in the list
 pub place-below : (up : Bool) (n i : ℕ) → i < n → placeAlong up i < 2 * n

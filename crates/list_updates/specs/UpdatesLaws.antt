@@ -1,19 +1,17 @@
 -- End theorems on a neighbour list after a write to one slot: each slot's number, by the test that the code makes of it, is that of the table after the write.
 -- Nothing is asked of the table's order, of ties or of ids: only that every slot but one holds what it held.
-use mathlib.Core.Path.{_≡_, refl, sym, ap, ap₂, _∙_, subst}
+use mathlib.Core.Path.{_≡_, refl, sym, ap, _∙_, subst}
 use mathlib.Core.Bool.{Bool, true, false, not, cond, _&&_, _||_, true≢false, false≢true}
 use mathlib.Core.Logic.{_⊎_}
 use mathlib.Core.Logic._⊎_.{inl, inr}
 use mathlib.Core.List.{List}
-use Prim.Native.Nat.{ℕ, suc, _+_, _-_, _*_, _≤_, _<_}
+use Prim.Native.Nat.{ℕ, suc, _+_, _-_, _≤_, _<_}
 use native.Mathlib.Decide.{decLt, ℕ-discrete}
 use native.Mathlib.Omega.{arith}
 use lib.Dec.{eqb, ltb, leb}
-use lib.ListN.{length, getD, set, length-set}
-use lib.Seq.{getD-set-same, getD-set-other}
-use borrow.Author.Tests.{eq-eqb, ne-eqb, eqb-false, lt-ltb, le-ltb, le-leb, lt-leb, leb-true, leb-false}
-use Rattle.search.specs.Search.{least, Least, NoneFrom}
-use Rattle.search.specs.SearchLaws.{decided, and-both, all-law, least-law, least-cong, least-none}
+use borrow.Author.Tests.{ne-eqb, eqb-false, lt-ltb, le-ltb, le-leb, lt-leb}
+use Rattle.search.specs.Search.{least, Least}
+use Rattle.search.specs.SearchLaws.{decided, and-both, all-law, least-law, least-cong}
 use Rattle.ternary.specs.PatternLaws.{overlaps-law, overlap-turned}
 use Rattle.ternary.specs.Pattern as P
 use Rattle.ternary.specs.Pattern.{Words}
@@ -21,12 +19,10 @@ use Rattle.positions.specs.Positions.{slotAt}
 use Rattle.positions.specs.PositionsLaws.{slot-below}
 use Rattle.records.specs.Record.{slotWords, value, mask, rank, empty}
 use Rattle.records.specs.Order.{slots, overlapping, compared, precedes, overlapAt}
-use Rattle.records.specs.Entries.{SameRecord}
 use Rattle.records.specs.EntriesLaws.{refuted, precedes-cong}
-use Rattle.neighbour_lists.specs.Lists.{precedesSlot, Listed}
 use Rattle.neighbour_lists.specs.PairLaws.{pair-apart, pair-falling, pattern-apart, precedes-empty}
-use Rattle.list_updates.specs.Updates.{boundedBy, boundedAt, numberAlong, placeAlong, foundFrom, nearestFrom, mayOverlap, reachesSlot, asksNumber, asksAt}
-use Rattle.list_updates.specs.Updates.{BeforeWrite, ListedAlong, ListedBefore, AlongBefore, NumberBefore}
+use Rattle.list_updates.specs.Updates.{boundedBy, boundedAt, numberAlong, foundFrom, nearestFrom, mayOverlap, reachesSlot, asksNumber}
+use Rattle.list_updates.specs.Updates.{BeforeWrite}
 use Rattle.list_updates.specs.SearchesLaws.{first-stays, first-here, first-after, first-past, number-found}
 
 -- of two rules of falling ranks, whether they overlap and are compared tells whether the first precedes the second

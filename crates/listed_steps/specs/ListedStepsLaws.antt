@@ -1,8 +1,7 @@
 -- End theorems on one write: every other slot holds what it held, and a table that passes check 2 passes it again.
 -- Laws on a step with a list: its equations by the step without one.
 use mathlib.Core.Path.{_≡_, refl, sym, ap, _∙_, subst}
-use mathlib.Core.Bool.{Bool, true, false, cond, _&&_, and-false}
-use mathlib.Core.Logic.{_⊎_}
+use mathlib.Core.Bool.{Bool, false, cond, and-false}
 use mathlib.Core.Logic._⊎_.{inl, inr}
 use mathlib.Core.List.{List, [], _∷_}
 use Prim.Native.Nat.{ℕ, _+_, _≤_, _<_}
@@ -11,7 +10,7 @@ use native.Mathlib.Omega.{arith}
 use lib.ListN.{length, getD, length-replicate}
 use Rattle.layout.specs.Write.{Write, copy, put, clear}
 use Rattle.plan_words.specs.PlanWords.{writeOf, SlotsBelow}
-use Rattle.records.specs.Record.{word, recordWords, slotWords, recordOf, sound, empty, soundRule, soundRanked, putSlot}
+use Rattle.records.specs.Record.{word, recordWords, slotWords, recordOf, putSlot}
 use Rattle.records.specs.Order.{slots}
 use Rattle.records.specs.Entries.{vacant, entryAt, SameRecord}
 use Rattle.records.specs.EntriesLaws.{empty-cong, sound-same, listed-same, shaped-slots}

@@ -16,7 +16,7 @@ ghost use mathlib.Core.Path.{_≡_};
 ghost use mathlib.Core.Bool.{true, cond};
 ghost use mathlib.Core.List.{[], _∷_};
 ghost use Prim.Native.Nat.{_+_, _≤_};
-ghost use lib.ListN.{length, getD};
+ghost use lib.ListN.{length};
 ghost use Rattle.plan_words.specs.PlanWords.{writeOf};
 ghost use Rattle.records.specs.Record.{mostSlots, recordWords};
 ghost use Rattle.records.specs.Order.{slots};

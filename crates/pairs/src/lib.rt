@@ -52,10 +52,10 @@ pub fn may_overlap(table: &[u64], slot: usize, others: &[u64], other: usize, wid
     requires { ⌜ (Width width) × (slot < slots width (now table)) × (other < slots width (now others)) ⌝ }
     ensures { λ r. ⌜ r ≡ (overlapAt width (slotWords width (now (table .entry)) slot) (slotWords width (now (others .entry)) other) 0 && overlapAt width (slotWords width (now (table .entry)) slot) (slotWords width (now (others .entry)) other) 1) ⌝ }
 {
-    if !word_overlaps(table, slot, others, other, 0, width) {
-        return false;
+    if word_overlaps(table, slot, others, other, 0, width) {
+        return word_overlaps(table, slot, others, other, 1, width);
     }
-    word_overlaps(table, slot, others, other, 1, width)
+    false
 }
 
 // Whether a slot's mask has no bit in one word that another's has not.

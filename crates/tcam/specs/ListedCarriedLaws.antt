@@ -1,17 +1,12 @@
 -- End theorems on carrying out with a neighbour list from C: with a list of the table's length the call leaves what the one without a list leaves; with another it
 -- returns 1 and leaves everything as it was.
-use mathlib.Core.Path.{_≡_, refl, ap, _∙_}
-use mathlib.Core.Bool.{Bool, true, false, cond, _&&_}
+use mathlib.Core.Path.{_≡_}
+use mathlib.Core.Bool.{Bool}
 use mathlib.Core.List.{List}
 use Prim.Native.Nat.{ℕ}
 use lib.ListN.{length}
-use Rattle.records.specs.Checks.{Told, unless, passes}
-use Rattle.records.specs.Widths.{checkWords, leaves}
 use Rattle.records.specs.WidthsLaws.{words-law, words-refused}
-use Rattle.records.specs.declared.Check.{Check}
 use Rattle.neighbour_lists.specs.Lists.{listNumbers}
-use Rattle.carrying.specs.Carrying.{stepCall, stepCallTable, stepCallDone}
-use Rattle.marshalling.specs.Carried.{carryResult}
 use Rattle.tcam.specs.declared.carry.Progress.{Progress}
 use Rattle.tcam.specs.Carried.{CarryLeft}
 use Rattle.tcam.specs.ListedCarried.{ListedCarryLeft}

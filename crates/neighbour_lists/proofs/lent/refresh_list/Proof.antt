@@ -1,7 +1,6 @@
 -- `neighbour_lists::lent::refresh_list` meets its contract.
 -- The pass fills the front of a list of its own, as long as the lent one.
 use mathlib.Core.Path.{ap, _∙_}
-use mathlib.Core.List.{List}
 use Prim.Native.Nat.{ℕ}
 use native.Mathlib.Omega.{arith}
 use borrow.Author.Needs.{needs}
