@@ -50,7 +50,16 @@ pub extern "C" fn tcam_carry_out_listed(
     let done = progress.done;
     let total = progress.total;
     let carried = carry_listed(
-        table, width, uncounted, rule, edition, list, plan, done, total, refreshed,
+        table,
+        width,
+        uncounted,
+        rule,
+        edition,
+        list,
+        plan,
+        done,
+        total,
+        refreshed,
     );
     progress.done = carried.done;
     carried.result

@@ -68,7 +68,7 @@ loop-again c =
     let at = c .before .before .slot-at .ensures ∙ ap (λ (n : ℕ). slotAt n (a .up) (c .before .before .before .before .loop .position)) (inv .0) in (
       inv .0,
       none-from-more (boundedAt (a .mode .width) (a .mode .uncounted) (now (a .table)) (a .up) (a .slot)) _ _ _ (inv .1) (omega (arith, inv .0))
-      (ap (boundedBy (a .mode .width) (a .mode .uncounted) (now (a .table)) (a .up) (a .slot)) (sym at) ∙ (sym (c .before .bounded-at .ensures) ∙ c .if1 .left)),
+          (ap (boundedBy (a .mode .width) (a .mode .uncounted) (now (a .table)) (a .up) (a .slot)) (sym at) ∙ (sym (c .before .bounded-at .ensures) ∙ c .if1 .left)),
     )
 
 returns-2 : tie.Need-returns-2 Inv-loop μ-loop

@@ -80,8 +80,8 @@ returns c =
     let asked = sym (c .before .asks .ensures) ∙ c .if1 .taken in (
       inv .2,
       λ l.
-      ap₂ (λ (place slot : ℕ). asksNumber (a .width) (now (a .table)) (getD (now (a .list)) place 0) slot (a .written) (a .vacant) (a .up))
-      (ap (placeAlong (a .up)) (sym at) ∙ sym (c .before .before .before .place-along .ensures)) (sym at) ∙ asked,
+          ap₂ (λ (place slot : ℕ). asksNumber (a .width) (now (a .table)) (getD (now (a .list)) place 0) slot (a .written) (a .vacant) (a .up))
+          (ap (placeAlong (a .up)) (sym at) ∙ sym (c .before .before .before .place-along .ensures)) (sym at) ∙ asked,
     )
 
 add-position : tie.Need-add-position Inv-loop μ-loop
@@ -99,8 +99,8 @@ loop-again c =
       inv .0,
       inv .1,
       none-from-more _ _ _ _ (inv .2) (omega (arith, inv .1))
-      (ap₂ (λ (place slot : ℕ). asksNumber (a .width) (now (a .table)) (getD (now (a .list)) place 0) slot (a .written) (a .vacant) (a .up))
-      (ap (placeAlong (a .up)) (sym at) ∙ sym (c .before .before .before .place-along .ensures)) (sym at) ∙ unasked),
+          (ap₂ (λ (place slot : ℕ). asksNumber (a .width) (now (a .table)) (getD (now (a .list)) place 0) slot (a .written) (a .vacant) (a .up))
+          (ap (placeAlong (a .up)) (sym at) ∙ sym (c .before .before .before .place-along .ensures)) (sym at) ∙ unasked),
     )
 
 returns-2 : tie.Need-returns-2 Inv-loop μ-loop

@@ -55,7 +55,7 @@ loop-holds c =
       omega (arith, last, skipped .0 .1),
       refl,
       updated-skip (a .mode .width) (a .mode .uncounted) (now (a .table)) (a .up) (a .written) (s .pre .0 .1) (s .pre .0 .2) (now (a .list)) (s .pre .1) _ (s .pre .0 .0 .0) vacant (now (a .list)) 0 _
-      (updated-start (a .mode .width) (a .mode .uncounted) (now (a .table)) (a .up) (now (a .list))) (skipped .0),
+          (updated-start (a .mode .width) (a .mode .uncounted) (now (a .table)) (a .up) (now (a .list))) (skipped .0),
       λ l. skipped .1 (omega (arith, last, l)),
     )
 
@@ -122,9 +122,11 @@ number-after-requires c κs =
     let place = c .before .place-along .ensures ∙ ap (placeAlong (a .up)) at in
     let reaches = asked-reaches (a .mode .width) (now (a .table)) _ (slotAt n (a .up) p) (a .written) _ (a .up) (omega (arith, s .pre .0 .1, s .pre .0 .2)) (inv .6 (omega arith)) in (
       (s .pre .0 .0, s .pre .0 .1, omega (arith, at, below), s .pre .0 .2, s .pre .0 .3),
-      (rw at (omega (arith, slot-turns n (a .up) p (omega (arith, inv .1, last)), inv .1)),
-      rw place reaches,
-      rw (place, at) (number-before (a .mode .width) (a .mode .uncounted) (now (a .table)) (a .up) (a .written) (s .pre .0 .1) (s .pre .0 .2) (now (a .list)) (s .pre .1) _ p p (inv .5) (omega arith) (omega (arith, inv .1, last)))),
+      (
+        rw at (omega (arith, slot-turns n (a .up) p (omega (arith, inv .1, last)), inv .1)),
+        rw place reaches,
+        rw (place, at) (number-before (a .mode .width) (a .mode .uncounted) (now (a .table)) (a .up) (a .written) (s .pre .0 .1) (s .pre .0 .2) (now (a .list)) (s .pre .1) _ p p (inv .5) (omega arith) (omega (arith, inv .1, last))),
+      ),
     )
 
 mul-list : tie.Need-mul-list Inv-loop μ-loop
@@ -201,7 +203,7 @@ loop-again c =
       omega (arith, inv .1, skipped .0 .1),
       length-set l (c .before .before .before .before .place-along .result) v ∙ inv .4,
       updated-skip (a .mode .width) (a .mode .uncounted) (now (a .table)) (a .up) (a .written) (s .pre .0 .1) (s .pre .0 .2) (now (a .list)) (s .pre .1) _ (s .pre .0 .0 .0) (inv .2) _ _ _
-      (rw place stored) (skipped .0),
+          (rw place stored) (skipped .0),
       λ h. skipped .1 (omega (arith, inv .1, h)),
     )
 
