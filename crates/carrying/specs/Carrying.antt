@@ -1,6 +1,6 @@
 -- Document 01, "Carrying out": what a step answers, and the table and the writes done after it, for every table, plan, rule with its edition, and progress.
 -- The step's contract is an equation with these definitions, at the width that the call names.
-use mathlib.Core.Bool.{Bool, not, cond, _&&_, _||_}
+use mathlib.Core.Bool.{Bool, true, false, not, cond, _&&_, _||_}
 use mathlib.Core.List.{List, [], _∷_}
 use Prim.Native.Nat.{ℕ, _+_}
 use lib.Dec.{eqb, ltb, leb}
@@ -45,6 +45,23 @@ abbrev pub fitsCarried : ℕ → List ℕ → Rule → Write → Bool
 fitsCarried w t rule (copy from to) = fitsWrite w t (copy from to)
 fitsCarried w t rule (put to) = fitsWrite w t (put to) || overEqual w t rule to
 fitsCarried w t rule (clear to) = fitsWrite w t (clear to)
+
+-- the slot that a write goes to
+abbrev pub writtenSlot : Write → ℕ
+writtenSlot (copy from to) = to
+writtenSlot (put to) = to
+writtenSlot (clear to) = to
+
+-- the same in three steps, as the code has it: what a rule is taken from holds one; no room is needed; or there is room
+abbrev pub takesRule : ℕ → List ℕ → Write → Bool
+takesRule w t (copy from to) = not (eqb from to) && fitsWrite w t (clear from)
+takesRule w t (put to) = true
+takesRule w t (clear to) = fitsWrite w t (clear to)
+
+abbrev pub needsNoRoom : ℕ → List ℕ → Rule → Write → Bool
+needsNoRoom w t rule (copy from to) = false
+needsNoRoom w t rule (put to) = overEqual w t rule to
+needsNoRoom w t rule (clear to) = true
 
 -- the next write: 5 for an unsound rule and 18 for another edition where a rule is put in; else 12 unless it fits
 unfoldable pub writeChecks : ℕ → List ℕ → Given → ℕ → ℕ → Check

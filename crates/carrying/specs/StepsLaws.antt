@@ -1,7 +1,7 @@
 -- End theorems on a step: the tests of one write as the code makes them, and the ways in which a step ends.
 -- A step that is refused or finished leaves the table and the writes done as they were.
 use mathlib.Core.Path.{_≡_, refl, sym, ap, ap₂, subst, _∙_}
-use mathlib.Core.Bool.{Bool, true, false, not, cond, _&&_, _||_, and-true, or-true, or-false, true≢false}
+use mathlib.Core.Bool.{Bool, true, false, not, cond, _&&_, _||_, and-true, true≢false}
 use mathlib.Core.Logic.{_≢_, _⊎_}
 use mathlib.Core.Logic._⊎_.{inl, inr}
 use mathlib.Core.List.{List, [], _∷_}
@@ -33,7 +33,7 @@ use Rattle.records.specs.declared.Check.the-variants.{Pass, Fail}
 use Rattle.records.specs.WritesLaws.{fits-below}
 use Rattle.carrying.specs.declared.StepAnswer.{StepAnswer}
 use Rattle.carrying.specs.declared.StepAnswer.the-variants.{Wrote, Finished, Refused}
-use Rattle.carrying.specs.Carrying.{stepTold, progressChecks, putChecks, overEqual, fitsCarried, writeChecks, stepAnswer, stepWrites, stepTable, stepDone}
+use Rattle.carrying.specs.Carrying.{stepTold, progressChecks, putChecks, overEqual, fitsCarried, writtenSlot, takesRule, needsNoRoom, writeChecks, stepAnswer, stepWrites, stepTable, stepDone}
 use Rattle.carrying.specs.Carrying.{stepCall, stepCallTable, stepCallDone}
 use Rattle.carrying.specs.Steps.{StepEnds, Tells}
 
@@ -61,16 +61,6 @@ copy-tests w t from to =
     turn false b true d e = refl
     turn false b false d e = refl
 
-pub copy-passed : (w : ℕ) (t : List ℕ) (from to : ℕ) {x y : Bool} → x ≡ fitsWrite w t (clear from) → y ≡ fitsWrite w t (put to)
-    → not (eqb from to) && x ≡ true → y ≡ fitsWrite w t (copy from to)
-copy-passed w t from to e f h =
-    f ∙ (ap (λ (b : Bool). b && fitsWrite w t (put to)) (sym (ap (λ (b : Bool). not (eqb from to) && b) (sym e) ∙ h)) ∙ sym (copy-tests w t from to))
-
-pub copy-stopped : (w : ℕ) (t : List ℕ) (from to : ℕ) {x : Bool} → x ≡ fitsWrite w t (clear from)
-    → not (eqb from to) && x ≡ false → false ≡ fitsWrite w t (copy from to)
-copy-stopped w t from to e h =
-    ap (λ (b : Bool). b && fitsWrite w t (put to)) (sym (ap (λ (b : Bool). not (eqb from to) && b) (sym e) ∙ h)) ∙ sym (copy-tests w t from to)
-
 -- a write that fits as document 01 has it fits when it is carried out, and the slots of one that does exist
 module _ (w : ℕ) (t : List ℕ) (rule : Rule) where
   pub fits-carried : (x : Write) → fitsWrite w t x ≡ true → fitsCarried w t rule x ≡ true
@@ -90,12 +80,31 @@ module _ (w : ℕ) (t : List ℕ) (rule : Rule) where
           ltb-true to (slots w t) (and-left (ltb to (slots w t)) (equalRule w (slotWords w t to) (word (recordOf w rule))) over)
   carried-below (clear to) f = fits-below w t (clear to) f
 
-  -- a put-in's two tests, in the code's order
-  pub put-over : (to : ℕ) {x : Bool} → x ≡ overEqual w t rule to → x ≡ true → true ≡ fitsCarried w t rule (put to)
-  put-over to e f = sym (ap (λ (b : Bool). fitsWrite w t (put to) || b) (sym e ∙ f) ∙ or-true (fitsWrite w t (put to)))
+  -- a write's tests, in the code's order
+  fits-steps : (x : Write) → fitsCarried w t rule x ≡ takesRule w t x && (needsNoRoom w t rule x || fitsWrite w t (put (writtenSlot x)))
+  fits-steps (copy from to) = copy-tests w t from to
+  fits-steps (put to) = turn (fitsWrite w t (put to)) (overEqual w t rule to)
+    where
+      turn : (a b : Bool) → a || b ≡ b || a
+      turn true true = refl
+      turn true false = refl
+      turn false true = refl
+      turn false false = refl
+  fits-steps (clear to) = turn (fitsWrite w t (clear to))
+    where
+      turn : (a : Bool) → a ≡ a && true
+      turn true = refl
+      turn false = refl
 
-  pub put-free : (to : ℕ) {x y : Bool} → x ≡ overEqual w t rule to → x ≡ false → y ≡ fitsWrite w t (put to) → y ≡ fitsCarried w t rule (put to)
-  put-free to e f g = g ∙ sym (ap (λ (b : Bool). fitsWrite w t (put to) || b) (sym e ∙ f) ∙ or-false (fitsWrite w t (put to)))
+  pub fits-stopped : (x : Write) {a : Bool} → a ≡ takesRule w t x → a ≡ false → false ≡ fitsCarried w t rule x
+  fits-stopped x e f = sym (fits-steps x ∙ ap (λ (b : Bool). b && (needsNoRoom w t rule x || fitsWrite w t (put (writtenSlot x)))) (sym e ∙ f))
+
+  pub fits-settled : (x : Write) {a b : Bool} → a ≡ takesRule w t x → a ≡ true → b ≡ needsNoRoom w t rule x → b ≡ true → true ≡ fitsCarried w t rule x
+  fits-settled x e f g h = sym (fits-steps x ∙ ap₂ (λ (a b : Bool). a && (b || fitsWrite w t (put (writtenSlot x)))) (sym e ∙ f) (sym g ∙ h))
+
+  pub fits-roomed : (x : Write) {a b c : Bool} → a ≡ takesRule w t x → a ≡ true → b ≡ needsNoRoom w t rule x → b ≡ false → c ≡ fitsWrite w t (put (writtenSlot x))
+      → c ≡ fitsCarried w t rule x
+  fits-roomed x e f g h k = k ∙ sym (fits-steps x ∙ ap₂ (λ (a b : Bool). a && (b || fitsWrite w t (put (writtenSlot x)))) (sym e ∙ f) (sym g ∙ h))
 
 -- a rule equal to the one given, as the code compares them: the rule is lent with its priority, and its rank is worked out
 pub given-equal : (w e : ℕ) (lent : List ℕ) (x : ℕ → ℕ) → length lent ≡ recordWords w → checkGiven w (lentRule w e lent) ≡ Pass

@@ -4,7 +4,6 @@ use mathlib.Core.Bool.{Bool, cond, _&&_}
 use mathlib.Core.List.{List, [], _∷_}
 use Prim.Native.Nat.{ℕ, _+_}
 use lib.ListN.{length}
-use Rattle.layout.specs.Write.{Write, copy, put, clear}
 use Rattle.records.specs.Checks.{Told, success, refusal, unless, passes}
 use Rattle.records.specs.Widths.{checkWords, checkRule, leaves}
 use Rattle.records.specs.Editions.{lentRule}
@@ -19,12 +18,6 @@ abbrev pub listedStepTold : ListedStepAnswer → Told
 listedStepTold (Wrote info) = success (info .done ∷ flagNumber (info .refreshed) ∷ [])
 listedStepTold Finished = success []
 listedStepTold (Refused cause spot) = refusal cause spot
-
--- the slot that a write goes to
-abbrev pub writtenSlot : Write → ℕ
-writtenSlot (copy from to) = to
-writtenSlot (put to) = to
-writtenSlot (clear to) = to
 
 -- 1 for a list of another length than the table's; else the answer without a list
 abbrev pub listedStep : ℕ → ℕ → List ℕ → List ℕ → List ℕ → ℕ → ℕ → ℕ → Told

@@ -30,14 +30,14 @@ use Rattle.records.specs.declared.Check.{Check}
 use Rattle.records.specs.declared.Check.the-variants.{Pass, Fail}
 use Rattle.buffers.specs.Buffers.{flagNumber}
 use Rattle.neighbour_lists.specs.Lists.{listNumbers, listOf, staleList}
-use Rattle.carrying.specs.Carrying.{stepTold, progressChecks, putChecks, stepAnswer, stepWrites, stepTable, stepDone}
+use Rattle.carrying.specs.Carrying.{stepTold, progressChecks, writtenSlot, putChecks, stepAnswer, stepWrites, stepTable, stepDone}
 use Rattle.carrying.specs.Steps.{Writes}
 use Rattle.carrying.specs.StepsLaws.{carried-below, doneTold, answer-done, step-moved}
 use Rattle.carrying.specs.declared.StepInfo.{StepInfo}
 use Rattle.carrying.specs.declared.StepAnswer.{StepAnswer}
 use Rattle.carrying.specs.declared.StepAnswer.the-variants.{Wrote}
 use Rattle.list_updates.specs.Updates.{BeforeWrite}
-use Rattle.listed_steps.specs.ListedSteps.{writtenSlot, ListedStepEnds}
+use Rattle.listed_steps.specs.ListedSteps.{ListedStepEnds}
 
 -- a record's words that are put into a slot
 module _ (w : ℕ) (t : List ℕ) (to : ℕ) (x : List ℕ) (inside : to < slots w t) (whole : length x ≡ recordWords w) where

@@ -4,14 +4,13 @@ use carrying::StepAnswer;
 use list_updates::update_list;
 use neighbour_lists::lent::check_list;
 use neighbour_lists::lent::refresh_list;
-use plan_words::PlanWrite;
-use plan_words::write_of;
 use records::Cause;
 use records::Check;
 use records::Mode;
 use records::check_rule;
 use steps::step::next_step;
 use writes::make_write;
+use writes::written_slot;
 ghost use mathlib.Core.Path.{_≡_};
 ghost use mathlib.Core.Bool.{true, cond};
 ghost use mathlib.Core.List.{[], _∷_};
@@ -28,7 +27,7 @@ ghost use Rattle.records.specs.declared.Check.the-variants.{Pass};
 ghost use Rattle.buffers.specs.Buffers.{flagNumber};
 ghost use Rattle.neighbour_lists.specs.Lists.{Listed, listNumbers, listOf, staleList};
 ghost use Rattle.carrying.specs.Carrying.{putChecks, fitsCarried, stepAnswer, stepWrites, stepTable};
-ghost use Rattle.listed_steps.specs.ListedSteps.{listedStepTold, writtenSlot, listedStepReply, listedStepTable, listedStepList};
+ghost use Rattle.listed_steps.specs.ListedSteps.{listedStepTold, listedStepReply, listedStepTable, listedStepList};
 
 // What a step that wrote tells: how many writes are done now, and whether the list was worked out afresh before the write.
 pub struct ListedStepInfo {
@@ -41,17 +40,6 @@ pub enum ListedStepAnswer {
     Wrote(ListedStepInfo),
     Finished,
     Refused(Cause, u32),
-}
-
-// The slot that a plan word writes to.
-fn written_slot(word: u32) -> usize
-    ensures { λ r. ⌜ r ≡ writtenSlot (writeOf word) ⌝ }
-{
-    match write_of(word) {
-        PlanWrite::Copy(_, to) => to as usize,
-        PlanWrite::PutIn(to) => to as usize,
-        PlanWrite::Clear(slot) => slot as usize,
-    }
 }
 
 // Makes the write of a plan word that fits, and brings the table's own list up to date: nothing is tested here, so that a list that never leaves the library

@@ -167,9 +167,6 @@ pub fn carry_listed(
             carry_answer(StepAnswer::Wrote(StepInfo { done: info.done }), done)
         }
         ListedStepAnswer::Finished => carry_answer(StepAnswer::Finished, done),
-        ListedStepAnswer::Refused(cause, spot) => carry_answer(
-            StepAnswer::Refused(cause, spot),
-            done,
-        ),
+        ListedStepAnswer::Refused(cause, at) => carry_answer(StepAnswer::Refused(cause, at), done),
     }
 }

@@ -220,6 +220,45 @@ fn pass_with(
     )
 }
 
+// With maps for few places, and for as many as are chosen at most: each has its maps on the stack alone.
+fn pass_few(
+    table: &[u64],
+    near: &mut [u16],
+    places: &[usize],
+    count: usize,
+    chosen: &[u64],
+    starts: &[u16],
+    mode: Mode,
+) -> usize
+    requires { ⌜ (Width (mode .width)) × (slots (mode .width) (now table) ≤ mostSlots) × (checkRecords (mode .width) (now table) ≡ Pass) × (2 * (slots (mode .width) (now table)) ≤ length (now near)) ⌝ }
+    requires { ⌜ (count ≤ 8) × ((m : ℕ) → m < count → getD (now places) m 0 < 64 * mode .width) ⌝ }
+    requires { ⌜ (mode .width ≤ length (now chosen)) × (64 * mode .width ≤ length (now starts)) × (total (now chosen) (mode .width) ≤ count) × Spread (now places) count (now chosen) (now starts) ⌝ }
+    ensures { λ r. ⌜ r ≡ least (disorderAt (mode .width) (mode .uncounted) (now (table .entry))) (slots (mode .width) (now (table .entry))) 0 ⌝ }
+    ensures { λ _. ⌜ Listed (mode .width) (mode .uncounted) (now (table .entry)) (now (near .exit)) ⌝ }
+{
+    let mut maps = [0u64; 256];
+    pass_with(table, near, &mut maps, places, count, chosen, starts, mode)
+}
+
+fn pass_many(
+    table: &[u64],
+    near: &mut [u16],
+    places: &[usize],
+    count: usize,
+    chosen: &[u64],
+    starts: &[u16],
+    mode: Mode,
+) -> usize
+    requires { ⌜ (Width (mode .width)) × (slots (mode .width) (now table) ≤ mostSlots) × (checkRecords (mode .width) (now table) ≡ Pass) × (2 * (slots (mode .width) (now table)) ≤ length (now near)) ⌝ }
+    requires { ⌜ (count ≤ 64) × ((m : ℕ) → m < count → getD (now places) m 0 < 64 * mode .width) ⌝ }
+    requires { ⌜ (mode .width ≤ length (now chosen)) × (64 * mode .width ≤ length (now starts)) × (total (now chosen) (mode .width) ≤ count) × Spread (now places) count (now chosen) (now starts) ⌝ }
+    ensures { λ r. ⌜ r ≡ least (disorderAt (mode .width) (mode .uncounted) (now (table .entry))) (slots (mode .width) (now (table .entry))) 0 ⌝ }
+    ensures { λ _. ⌜ Listed (mode .width) (mode .uncounted) (now (table .entry)) (now (near .exit)) ⌝ }
+{
+    let mut maps = [0u64; 2048];
+    pass_with(table, near, &mut maps, places, count, chosen, starts, mode)
+}
+
 // With maps for the places chosen.
 fn pass_screened(table: &[u64], near: &mut [u16], mode: Mode) -> usize
     requires { ⌜ (Width (mode .width)) × (slots (mode .width) (now table) ≤ mostSlots) × (checkRecords (mode .width) (now table) ≡ Pass) × (2 * (slots (mode .width) (now table)) ≤ length (now near)) ⌝ }
@@ -233,29 +272,9 @@ fn pass_screened(table: &[u64], near: &mut [u16], mode: Mode) -> usize
     spread_places(&places, count, &mut chosen, &mut starts, mode.width);
     // Large maps cost more to clear than they save where few places are chosen.
     if count <= 8 {
-        let mut maps = [0u64; 256];
-        return pass_with(
-            table,
-            near,
-            &mut maps,
-            &places,
-            count,
-            &chosen,
-            &starts,
-            mode,
-        );
+        return pass_few(table, near, &places, count, &chosen, &starts, mode);
     }
-    let mut maps = [0u64; 2048];
-    pass_with(
-        table,
-        near,
-        &mut maps,
-        &places,
-        count,
-        &chosen,
-        &starts,
-        mode,
-    )
+    pass_many(table, near, &places, count, &chosen, &starts, mode)
 }
 
 // Without maps: no place is chosen.

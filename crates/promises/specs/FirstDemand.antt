@@ -55,7 +55,8 @@ pub record FirstDemand : Type 0 where
       ≡ 15 ∷ 16 ∷ 17 ∷ 18 ∷ 19 ∷ 20 ∷ 21 ∷ 22 ∷ []
   pub once : (cause other : Cause) → causeNumber cause ≡ causeNumber other → cause ≡ other
   -- the calls that only read a table decline by their rows, and a refusal leaves what they are lent: at every width and with every
-  -- edition that a call may name, known or not, and however it names the table, counted or uncounted; an insert's cell for the covering slot: Obscured
+  -- edition that a call may name, known or not, and however it names the table, counted or uncounted; an insert's cell for the covering slot: Obscured; the
+  -- calls that are lent a neighbour list: KeptNeighbours
   pub lookup : (w : ℕ) (t key : List ℕ) (result slot slot′ id id′ action action′ spot spot′ : ℕ)
       → LookupLeft w t key result slot slot′ id id′ action action′ spot spot′
       → DeclinesBy (lookupCallRows w t key) result spot′ × (IsRefusal result → (slot′ ≡ slot) × (id′ ≡ id) × (action′ ≡ action))

@@ -1,13 +1,14 @@
 -- End theorems: document 01's demand 1, of every exported call and of script lines.
 use mathlib.Core.Path.{_≡_, refl, sym, ap, ap₂, _∙_, subst}
-use mathlib.Core.Bool.{Bool, true, false, not, cond, _&&_, true≢false}
-use mathlib.Core.Logic.{inl, inr, ⊎-elim}
+use mathlib.Core.Bool.{Bool, true, false, not, cond, _&&_, true≢false, false≢true}
+use mathlib.Core.Logic.{_↔_, inl, inr, ⊎-elim}
 use mathlib.Core.List.{List, [], _∷_, _++_}
 use Prim.Native.Nat.{ℕ, zero, suc, _+_, _*_, _<_}
 use native.Mathlib.Omega.{arith}
 use lib.Dec.{eqb, leb}
 use lib.ListN.{length, getD, take, drop}
 use borrow.Author.Tests.{eqb-true, eqb-false, ne-eqb}
+use Rattle.search.specs.SearchLaws.{decided}
 use Rattle.records.specs.Record.{word}
 use Rattle.records.specs.Checks.{Told, success, refusal, unless, orElse, passes, tableChecks, causeNumber}
 use Rattle.records.specs.Laws.{cause-number-once, cause-not-zero}
@@ -56,7 +57,7 @@ use Rattle.tcam.specs.Cells.{PlanLeft}
 use Rattle.promises.specs.FirstDemand.{DeclinesBy, CarriesBy, IsRefusal, FirstDemand}
 
 -- the number and the cell for the spot tell an answer's rows
-told-declines : (rows : List Row) (told : Told) (result spot spot′ : ℕ) → AnsweredBy rows told → result ≡ told .number → spot′ ≡ spotCell told spot
+pub told-declines : (rows : List Row) (told : Told) (result spot spot′ : ℕ) → AnsweredBy rows told → result ≡ told .number → spot′ ≡ spotCell told spot
     → DeclinesBy rows result spot′
 told-declines rows told result spot spot′ answer e f = ⊎-elim went declined (answer .either)
   where
@@ -173,14 +174,15 @@ step-case w t plan given progress =
     pick Pass true e = ended (eqb-true _ _ e)
     pick Pass false e = wrote (progress .done + 1) (eqb-false _ _ e)
 
-call-case : (w e : ℕ) (t plan rule : List ℕ) (progress : Progress) → StepCase progress (stepCall w e t plan rule (progress .done) (progress .total))
-call-case w e t plan rule progress = pick (checkRule w (length rule))
-  where
-    pick : (x : Check) → StepCase progress (unless x (stepAnswer w t plan (lentRule w e rule) (progress .done) (progress .total)))
-    pick Pass = step-case w t plan (lentRule w e rule) progress
-    pick (Fail cause spot) = stopped cause spot
+-- behind a check of what is lent with the call
+pub lent-case : (check : Check) (progress : Progress) (told : Told) → StepCase progress told → StepCase progress (unless check told)
+lent-case Pass progress told case = case
+lent-case (Fail cause spot) progress told case = stopped cause spot
 
-carries-by : (rows : List Row) (progress : Progress) (told : Told) (result : ℕ) → AnsweredBy rows told → StepCase progress told → result ≡ carryResult told
+pub call-case : (w e : ℕ) (t plan rule : List ℕ) (progress : Progress) → StepCase progress (stepCall w e t plan rule (progress .done) (progress .total))
+call-case w e t plan rule progress = lent-case (checkRule w (length rule)) progress _ (step-case w t plan (lentRule w e rule) progress)
+
+pub carries-by : (rows : List Row) (progress : Progress) (told : Told) (result : ℕ) → AnsweredBy rows told → StepCase progress told → result ≡ carryResult told
     → CarriesBy rows progress result
 carries-by rows progress told result answer (wrote done other) e = record {
   refused = λ cause place. (λ p. absurd (omega (arith, e, p .0, cause-some cause)), λ d. absurd (no-refusal _ cause place (answer .declined cause place .1 d)));
@@ -213,20 +215,32 @@ carries-by rows progress told result answer (stopped c s) e =
       finished = (λ z. absurd (omega (arith, is, z, small)), λ p. absurd (omega (arith, answer .accepted .1 (p .0), some)));
     }
 
+-- a refusal is not the result of a write
+pub never-wrote : (cause : Cause) (spot : ℕ) → carryResult (refusal cause spot) ≡ 0 → ⊥
+never-wrote cause spot e = omega (arith, sym (carry-refused cause spot) ∙ e, cause-some cause)
+
+-- the result of a write is returned exactly where one is made
+pub step-writes : (w : ℕ) (t plan : List ℕ) (given : Given) (done total : ℕ)
+    → (carryResult (stepAnswer w t plan given done total) ≡ 0) ↔ (stepWrites w t plan given done total ≡ true)
+unfolding stepAnswer stepWrites
+step-writes w t plan given done total =
+    pick (progressChecks w t (length plan) done total) (eqb done total) (writeChecks w t given (getD plan done 0) done)
+  where
+    pick : (p : Check) (b : Bool) (c : Check)
+        → (carryResult (unless p (cond b (success []) (unless c (success ((done + 1) ∷ []))))) ≡ 0) ↔ (passes p && (not b && passes c) ≡ true)
+    pick (Fail cause spot) b c = (λ e. absurd (never-wrote cause spot e), λ e. absurd (false≢true e))
+    pick Pass true c = (λ e. absurd (omega (arith, e)), λ e. absurd (false≢true e))
+    pick Pass false Pass = (λ e. refl, λ e. refl)
+    pick Pass false (Fail cause spot) = (λ e. absurd (never-wrote cause spot e), λ e. absurd (false≢true e))
+
 -- where it does not write nothing changes
 step-kept : (w : ℕ) (t plan : List ℕ) (given : Given) (done total : ℕ) → (carryResult (stepAnswer w t plan given done total) ≡ 0 → ⊥)
     → (stepTable w t plan given done total ≡ t) × (stepDone w t plan given done total ≡ done)
-unfolding stepAnswer stepTable stepDone stepWrites
+unfolding stepTable stepDone
 step-kept w t plan given done total other =
-    let still = pick (progressChecks w t (length plan) done total) (eqb done total) (writeChecks w t given (getD plan done 0) done) other in
+    let still : stepWrites w t plan given done total ≡ false
+    = ⊎-elim (λ makes. absurd (other (step-writes w t plan given done total .1 makes))) (λ e. e) (decided (stepWrites w t plan given done total)) in
     (rw still, rw still)
-  where
-    pick : (p : Check) (b : Bool) (c : Check) → (carryResult (unless p (cond b (success []) (unless c (success ((done + 1) ∷ []))))) ≡ 0 → ⊥)
-        → passes p && (not b && passes c) ≡ false
-    pick (Fail cause spot) b c other = refl
-    pick Pass true c other = refl
-    pick Pass false Pass other = absurd (other refl)
-    pick Pass false (Fail cause spot) other = refl
 
 carry-kept : (w e : ℕ) (t plan rule : List ℕ) (done total : ℕ) → (carryResult (stepCall w e t plan rule done total) ≡ 0 → ⊥)
     → (stepCallTable w e t plan rule done total ≡ t) × (stepCallDone w e t plan rule done total ≡ done)
@@ -300,24 +314,12 @@ shown-as : {out out′ text : List ℕ} {count : ℕ} (cause : Cause) (place : �
 unfolding toldBytes
 shown-as {out} {out′} {text} {count} cause place e s = subst (λ (x : List ℕ). Shown out x count out′) e s
 
--- a refusal is not the result of a write
-never-wrote : (cause : Cause) (spot : ℕ) → carryResult (refusal cause spot) ≡ 0 → ⊥
-never-wrote cause spot e = omega (arith, sym (carry-refused cause spot) ∙ e, cause-some cause)
-
 -- where it writes, it makes the next write of the plan
 step-made : (w : ℕ) (t plan : List ℕ) (given : Given) (done total : ℕ) → carryResult (stepAnswer w t plan given done total) ≡ 0
     → (stepTable w t plan given done total ≡ applyWord w t (ranked w given) (getD plan done 0)) × (stepDone w t plan given done total ≡ done + 1)
-unfolding stepAnswer stepTable stepDone stepWrites
+unfolding stepTable stepDone
 step-made w t plan given done total zero-result =
-    let makes = pick (progressChecks w t (length plan) done total) (eqb done total) (writeChecks w t given (getD plan done 0) done) zero-result in
-    (rw makes, rw makes)
-  where
-    pick : (p : Check) (b : Bool) (c : Check) → carryResult (unless p (cond b (success []) (unless c (success ((done + 1) ∷ []))))) ≡ 0
-        → passes p && (not b && passes c) ≡ true
-    pick (Fail cause spot) b c e = absurd (never-wrote cause spot e)
-    pick Pass true c e = absurd (omega (arith, e))
-    pick Pass false Pass e = refl
-    pick Pass false (Fail cause spot) e = absurd (never-wrote cause spot e)
+    let makes = step-writes w t plan given done total .0 zero-result in (rw makes, rw makes)
 
 -- and that word is one of the plan's
 step-within : (w : ℕ) (t plan : List ℕ) (given : Given) (done total : ℕ) → carryResult (stepAnswer w t plan given done total) ≡ 0 → done < length plan

@@ -1,5 +1,6 @@
 -- Document 01's three demands, and document 02's requests where a theorem of their own states them. Calls: calls one after the other; FirstDemand,
--- SecondDemand, ThirdDemand, KeysOfSlot, Editions, Replacements, Uncounted, Obscured, AnyWords: the statements; their theorems are in the files of laws of the same names.
+-- SecondDemand, ThirdDemand, KeysOfSlot, Editions, Replacements, Uncounted, Obscured, KeptNeighbours, AnyWords: the statements; their theorems are in the files of laws of the
+-- same names.
 pub mod Calls
 pub mod CallsLaws
 pub mod FirstDemand
@@ -18,5 +19,7 @@ pub mod Uncounted
 pub mod UncountedLaws
 pub mod Obscured
 pub mod ObscuredLaws
+pub mod KeptNeighbours
+pub mod KeptNeighboursLaws
 pub mod AnyWords
 pub mod AnyWordsLaws

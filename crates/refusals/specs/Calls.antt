@@ -5,7 +5,7 @@ use mathlib.Core.Path.{_≡_}
 use mathlib.Core.Bool.{Bool, true}
 use mathlib.Core.Logic.{_⊎_}
 use mathlib.Core.List.{List, [], _∷_, _++_}
-use Prim.Native.Nat.{ℕ, zero, suc, _+_, _≤_, _<_}
+use Prim.Native.Nat.{ℕ, zero, suc, _+_, _*_, _≤_, _<_}
 use lib.ListN.{length, getD}
 use Rattle.ternary.specs.Pattern.{Words}
 use Rattle.layout.specs.Write.{Write, put}
@@ -199,6 +199,10 @@ OtherKey w key = OtherWidth w ⊎ (length key ≡ w → ⊥)
 abbrev pub OtherRule : ℕ → List ℕ → Type 0
 OtherRule w rule = OtherWidth w ⊎ (length rule ≡ recordWords w → ⊥)
 
+-- and by 2026-10 a neighbour list whose numbers are not two for each slot
+abbrev pub OtherList : ℕ → List ℕ → ℕ → Type 0
+OtherList w t numbers = numbers ≡ 2 * slots w t → ⊥
+
 -- the rows of a call, whose first row, 1, holds on this condition too
 abbrev pub rowsOr : Type 0 → List Row → List Row
 rowsOr Other [] = []
@@ -222,3 +226,10 @@ loadCallRows w u b t = rowsOr (OtherWidth w) (loadRows w u b t)
 
 abbrev pub stepCallRows : ℕ → ℕ → List ℕ → List ℕ → List ℕ → ℕ → ℕ → List Row
 stepCallRows w e t plan rule done total = rowsOr (OtherRule w rule) (stepRows w t plan (lentRule w e rule) done total)
+
+-- with a list of so many numbers
+abbrev pub listedInsertCallRows : ℕ → Bool → ℕ → List ℕ → List ℕ → ℕ → ℕ → List Row
+listedInsertCallRows w u e t rule numbers room = rowsOr (OtherList w t numbers) (insertCallRows w u e t rule room)
+
+abbrev pub listedStepCallRows : ℕ → ℕ → List ℕ → List ℕ → List ℕ → ℕ → ℕ → ℕ → List Row
+listedStepCallRows w e t plan rule numbers done total = rowsOr (OtherList w t numbers) (stepCallRows w e t plan rule done total)

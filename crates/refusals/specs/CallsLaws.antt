@@ -13,17 +13,20 @@ use Rattle.records.specs.Editions.{Given, lentRule, ranked}
 use Rattle.records.specs.declared.Check.{Check}
 use Rattle.buffers.specs.Buffers.{checkRoom, bufferAnswer}
 use Rattle.lookups.specs.Lookup.{matchTold, lookupAnswer, lookupCall}
-use Rattle.insert_plans.specs.Inserts.{insertAnswer, plannedWords, insertCall}
+use Rattle.insert_plans.specs.Inserts.{insertAnswer, plannedWords, insertCall, insertCallReply}
+use Rattle.insert_plans.specs.ListedInserts.{listedInsertReply}
 use Rattle.delete_plans.specs.Deletes.{deleteAnswer, deleteCall}
 use Rattle.carrying.specs.Carrying.{stepAnswer, stepCall}
+use Rattle.listed_steps.specs.ListedSteps.{listedStep}
 use Rattle.image.specs.Format.{imageBytes, ruleCount}
 use Rattle.image.specs.Answers.{saveAnswer, loadAnswer, saveCall, loadCall}
 use Rattle.refusals.specs.Rows.{Row, AnsweredBy}
-use Rattle.refusals.specs.RowsLaws.{Agrees, rows-then, answered}
+use Rattle.refusals.specs.RowsLaws.{Agrees, rows-then, answered, values-answered}
 use Rattle.refusals.specs.Calls.{shortRow, lookupRows, insertRows, deleteRows, saveRows, stepRows, loadRows}
 use Rattle.refusals.specs.Calls.{lookupCallRows, insertCallRows, deleteCallRows, saveCallRows, stepCallRows, loadCallRows}
+use Rattle.refusals.specs.Calls.{listedInsertCallRows, listedStepCallRows}
 use Rattle.refusals.specs.TableLaws.{slot-rows, table-rows}
-use Rattle.refusals.specs.WidthsLaws.{lent-answered, width-row, key-row, rule-row}
+use Rattle.refusals.specs.WidthsLaws.{lent-answered, width-row, key-row, rule-row, list-row}
 use Rattle.refusals.specs.PlanningLaws.{short-row, insert-rows, delete-rows}
 use Rattle.refusals.specs.CarryingLaws.{stepChecks, step-told, step-rows}
 use Rattle.refusals.specs.ImageLaws.{load-rows}
@@ -85,3 +88,14 @@ load-call-rows w u b t = lent-answered _ _ _ _ _ (width-row w) (load-by-rows w u
 
 pub step-call-rows : (w e : ℕ) (t plan rule : List ℕ) (done total : ℕ) → AnsweredBy (stepCallRows w e t plan rule done total) (stepCall w e t plan rule done total)
 step-call-rows w e t plan rule done total = lent-answered _ _ _ _ _ (rule-row w rule) (step-by-rows w t plan (lentRule w e rule) done total)
+
+-- with a neighbour list lent
+pub listed-insert-call-rows : (w : ℕ) (u : Bool) (e : ℕ) (t rule list : List ℕ) (room : ℕ)
+    → AnsweredBy (listedInsertCallRows w u e t rule (length list) room) (listedInsertReply w u e t rule list room)
+listed-insert-call-rows w u e t rule list room =
+    let reply = values-answered _ _ _ (insert-call-rows w u e t rule room) in
+    values-answered _ _ _ (lent-answered _ _ _ _ (insertCallReply w u e t rule room) (list-row w t (length list)) reply)
+
+pub listed-step-call-rows : (w e : ℕ) (t plan rule : List ℕ) (numbers done total : ℕ)
+    → AnsweredBy (listedStepCallRows w e t plan rule numbers done total) (listedStep w e t plan rule numbers done total)
+listed-step-call-rows w e t plan rule numbers done total = lent-answered _ _ _ _ _ (list-row w t numbers) (step-call-rows w e t plan rule done total)

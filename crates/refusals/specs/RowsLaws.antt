@@ -1,6 +1,6 @@
 -- Laws on lists of rows: a check and its rows agree, one after the other as the call makes them.
-use mathlib.Core.Path.{_≡_, refl, sym, ap, ap₂, _∙_}
-use mathlib.Core.Bool.{true≢false}
+use mathlib.Core.Path.{_≡_, refl, sym, ap, ap₂, _∙_, subst}
+use mathlib.Core.Bool.{Bool, cond, true≢false}
 use mathlib.Core.Logic.{_↔_, _⊎_, inl, inr, ⊎-elim}
 use mathlib.Core.List.{List, [], _∷_, _++_}
 use Prim.{tt}
@@ -9,7 +9,7 @@ use native.Mathlib.Omega.{arith}
 use native.Mathlib.Decide.{decLt}
 use lib.Dec.{eqb}
 use lib.ListN.{getD}
-use Rattle.records.specs.Checks.{Told, success, refusal, unless, orElse}
+use Rattle.records.specs.Checks.{Told, causeNumber, success, refusal, unless, orElse}
 use Rattle.records.specs.Laws.{cause-number-once, cause-not-zero}
 use Rattle.records.specs.declared.Cause.{Cause}
 use Rattle.records.specs.declared.Check.{Check}
@@ -139,6 +139,28 @@ answered (Fail c s) rows values agree = record {
     λ a. absurd (pass-not-fail (sym (agree .passes .1 a))),
   );
 }
+
+-- an answer whose success has these values: rows do not ask for them
+abbrev pub valued : Told → List ℕ → Told
+valued told values = record { number = told .number; values = cond (eqb (told .number) 0) values (told .values) }
+
+pub values-answered : (rows : List Row) (told : Told) (values : List ℕ) → AnsweredBy rows told → AnsweredBy rows (valued told values)
+values-answered rows told values answer = ⊎-elim went declined (answer .either)
+  where
+    went : (own : List ℕ) × (told ≡ success own) → AnsweredBy rows (valued told values)
+    went w =
+        let own = subst (AnsweredBy rows) (w .1) answer in
+        subst (λ (x : Told). AnsweredBy rows (valued x values)) (sym (w .1)) (record {
+          either = inl (values, refl);
+          declined = λ cause spot. (λ e. absurd (no-refusal values cause spot e), λ d. absurd (no-refusal (w .0) cause spot (own .declined cause spot .1 d)));
+          accepted = own .accepted;
+        })
+
+    declined : (cause : Cause) × (spot : ℕ) × (told ≡ refusal cause spot) → AnsweredBy rows (valued told values)
+    declined w =
+        let kept : refusal (w .0) (w .1) ≡ valued (refusal (w .0) (w .1)) values
+        = ap (λ (b : Bool). record { number = causeNumber (w .0); values = cond b values (w .1 ∷ []) }) (sym (cause-not-zero (w .0))) in
+        subst (AnsweredBy rows) (w .2 ∙ (kept ∙ ap (λ (x : Told). valued x values) (sym (w .2)))) answer
 
 -- no two slots are the lowest that something is wrong with
 pub lowest-once : (n : ℕ) (Wrong : ℕ → Type 0) (x y : ℕ) → Lowest n Wrong x → Lowest n Wrong y → x ≡ y

@@ -16,10 +16,11 @@ use Rattle.records.specs.declared.Cause.{Cause}
 use Rattle.records.specs.declared.Cause.the-variants.{Shape}
 use Rattle.records.specs.declared.Check.{Check}
 use Rattle.records.specs.declared.Check.the-variants.{Pass, Fail}
+use Rattle.neighbour_lists.specs.Lists.{listNumbers}
 use Rattle.refusals.specs.Rows.{Row, rowAt, AnsweredBy}
 use Rattle.refusals.specs.RowsLaws.{Agrees, pass-not-fail, one-row, refusal-once, number-once}
 use Rattle.refusals.specs.TableLaws.{test-row}
-use Rattle.refusals.specs.Calls.{OtherWidth, OtherKey, OtherRule}
+use Rattle.refusals.specs.Calls.{OtherWidth, OtherKey, OtherRule, OtherList}
 
 -- a check of one row, 1: where it fails, its condition holds
 abbrev ShapeRow : Check → Type 0 → Type 0
@@ -90,6 +91,10 @@ key-row w key = shape-or _ _ _ _ (width-row w) (words-row (length key) w)
 pub rule-row : (w : ℕ) (rule : List ℕ) → ShapeRow (checkRule w (length rule)) (OtherRule w rule)
 unfolding checkRule
 rule-row w rule = shape-or _ _ _ _ (width-row w) (words-row (length rule) (recordWords w))
+
+-- the numbers of a neighbour list
+pub list-row : (w : ℕ) (t : List ℕ) (numbers : ℕ) → ShapeRow (checkWords numbers (listNumbers w t)) (OtherList w t numbers)
+list-row w t numbers = words-row numbers (listNumbers w t)
 
 -- at a width that there is, a rule of as many words as it asks for is no other
 pub no-other-rule : (w : ℕ) (rule : List ℕ) → Width w → length rule ≡ recordWords w → OtherRule w rule → ⊥

@@ -287,7 +287,12 @@ pub fn check_listed(table: &[u64], near: &mut [u16], mode: Mode) -> Check
     if let Check::Fail(cause, spot) = slots {
         return Check::Fail(cause, spot);
     }
-    check_pairs(table, near, mode)
+    // Not by `check_pairs`: so the ids of check 3 are off the stack when check 4 begins.
+    let twice = check_twice(table, mode.width);
+    if let Check::Fail(cause, spot) = twice {
+        return Check::Fail(cause, spot);
+    }
+    check_order(table, near, mode)
 }
 
 // Checks 1 to 4.

@@ -16,7 +16,7 @@ ghost use mathlib.Core.Path.{_≡_};
 ghost use mathlib.Core.Bool.{true};
 ghost use Prim.Native.Nat.{_<_};
 ghost use lib.ListN.{length};
-ghost use Rattle.layout.specs.Write.{copy, put, clear};
+ghost use Rattle.layout.specs.Write.{put, clear};
 ghost use Rattle.plan_words.specs.PlanWords.{writeOf};
 ghost use Rattle.records.specs.Record.{word, recordWords, slotWords, recordOf, putSlot};
 ghost use Rattle.records.specs.Order.{slots, equalRule};
@@ -24,7 +24,7 @@ ghost use Rattle.records.specs.Entries.{entryAt, vacant};
 ghost use Rattle.records.specs.Widths.{Width};
 ghost use Rattle.records.specs.Editions.{lentRule, ranked, checkGiven};
 ghost use Rattle.records.specs.declared.Check.the-variants.{Pass};
-ghost use Rattle.carrying.specs.Carrying.{putChecks, overEqual, fitsCarried};
+ghost use Rattle.carrying.specs.Carrying.{putChecks, overEqual, fitsCarried, writtenSlot, takesRule, needsNoRoom};
 ghost use Rattle.records.specs.Writes.{heldAt, standsElsewhere, freeAt, fitsWrite, applyWord};
 
 // Whether another slot holds a slot's id.
@@ -85,17 +85,6 @@ fn rule_in(table: &[u64], slot: usize, width: usize) -> bool
     false
 }
 
-// Whether a slot's rule may be copied to another slot.
-fn copy_fits(table: &[u64], from: usize, to: usize, width: usize) -> bool
-    requires { ⌜ Width width ⌝ }
-    ensures { λ r. ⌜ r ≡ fitsWrite width (now (table .entry)) (copy from to) ⌝ }
-{
-    if (from != to) & rule_in(table, from, width) {
-        return put_fits(table, to, width);
-    }
-    false
-}
-
 // Whether a slot holds a rule of the same value, mask and rank as the rule given. Ranks first, as they tell most pairs apart.
 fn equal_to_given(table: &[u64], to: usize, rule: &[u64], edition: u32, width: usize) -> bool
     requires { ⌜ (Width width) × (to < slots width (now table)) × (length (now rule) ≡ recordWords width) × (checkGiven width (lentRule width edition (now rule)) ≡ Pass) ⌝ }
@@ -121,15 +110,39 @@ fn over_equal(table: &[u64], to: usize, rule: &[u64], edition: u32, width: usize
     false
 }
 
-// Whether the rule given may be put into a slot: over an equal one, or as any rule. The equal one first, which needs no search for copies.
-fn rule_fits(table: &[u64], to: usize, rule: &[u64], edition: u32, width: usize) -> bool
-    requires { ⌜ (Width width) × (length (now rule) ≡ recordWords width) × (checkGiven width (lentRule width edition (now rule)) ≡ Pass) ⌝ }
-    ensures { λ r. ⌜ r ≡ fitsCarried width (now (table .entry)) (ranked width (lentRule width edition (now (rule .entry)))) (put to) ⌝ }
+// Whether what a plan word takes a rule from holds one: a copy's slot, another than it goes to, and the slot that is emptied.
+fn takes_rule(table: &[u64], word: u32, width: usize) -> bool
+    requires { ⌜ Width width ⌝ }
+    ensures { λ r. ⌜ r ≡ takesRule width (now (table .entry)) (writeOf word) ⌝ }
 {
-    if over_equal(table, to, rule, edition, width) {
-        return true;
+    match write_of(word) {
+        PlanWrite::Copy(from, to) => (from != to) & rule_in(table, from as usize, width),
+        PlanWrite::PutIn(_) => true,
+        PlanWrite::Clear(slot) => rule_in(table, slot as usize, width),
     }
-    put_fits(table, to, width)
+}
+
+// Whether a plan word fits without a search for copies: an emptying, and a put-in over an equal rule.
+fn needs_no_room(table: &[u64], rule: &[u64], edition: u32, word: u32, width: usize) -> bool
+    requires { ⌜ (Width width) × (length (now rule) ≡ recordWords width) × (putChecks width (lentRule width edition (now rule)) (writeOf word) ≡ Pass) ⌝ }
+    ensures { λ r. ⌜ r ≡ needsNoRoom width (now (table .entry)) (ranked width (lentRule width edition (now (rule .entry)))) (writeOf word) ⌝ }
+{
+    match write_of(word) {
+        PlanWrite::Copy(_, _) => false,
+        PlanWrite::PutIn(to) => over_equal(table, to as usize, rule, edition, width),
+        PlanWrite::Clear(_) => true,
+    }
+}
+
+// The slot that a plan word writes to.
+pub fn written_slot(word: u32) -> usize
+    ensures { λ r. ⌜ r ≡ writtenSlot (writeOf word) ⌝ }
+{
+    match write_of(word) {
+        PlanWrite::Copy(_, to) => to as usize,
+        PlanWrite::PutIn(to) => to as usize,
+        PlanWrite::Clear(slot) => slot as usize,
+    }
 }
 
 // Whether the write of a plan word fits; a rule that is put in is sound, and its edition one that there is.
@@ -137,11 +150,13 @@ pub fn word_fits(table: &[u64], rule: &[u64], edition: u32, word: u32, width: us
     requires { ⌜ (Width width) × (length (now rule) ≡ recordWords width) × (putChecks width (lentRule width edition (now rule)) (writeOf word) ≡ Pass) ⌝ }
     ensures { λ r. ⌜ r ≡ fitsCarried width (now (table .entry)) (ranked width (lentRule width edition (now (rule .entry)))) (writeOf word) ⌝ }
 {
-    match write_of(word) {
-        PlanWrite::Copy(from, to) => copy_fits(table, from as usize, to as usize, width),
-        PlanWrite::PutIn(to) => rule_fits(table, to as usize, rule, edition, width),
-        PlanWrite::Clear(slot) => rule_in(table, slot as usize, width),
+    if !takes_rule(table, word, width) {
+        return false;
     }
+    if needs_no_room(table, rule, edition, word, width) {
+        return true;
+    }
+    put_fits(table, written_slot(word), width)
 }
 
 // Copies a slot's record to another slot, by way of a record of its own.

@@ -1,5 +1,4 @@
--- `neighbour_lists::passing::pass_screened` meets its contract: the maps and the words of chosen places begin with no bit set,
--- and 256 words are room for 8 places.
+-- `neighbour_lists::passing::pass_screened` meets its contract: the words of chosen places begin with no bit set.
 use native.Mathlib.Omega.{arith}
 use borrow.Author.Needs.{needs}
 use Rattle.records.specs.RulesLaws.{zero-word}
@@ -26,28 +25,20 @@ spread-places-requires c κs =
     let choice = c .before .before .before .before .choose-places in
     ((c .before .before .before .before .before .before .before .before .pre .0, choice .ensures .0, omega (arith, choice .ensures .0, choice .kept .1 .0), omega arith, omega arith), (choice .ensures .1, zero-word 5))
 
-slice-aggregate-pass-with : tie.Need-slice-aggregate-pass-with
-slice-aggregate-pass-with c = search needs
+slice-aggregate-pass-few : tie.Need-slice-aggregate-pass-few
+slice-aggregate-pass-few c = search needs
 
-slice-aggregate-pass-with-2 : tie.Need-slice-aggregate-pass-with-2
-slice-aggregate-pass-with-2 c = search needs
+slice-aggregate-pass-few-2 : tie.Need-slice-aggregate-pass-few-2
+slice-aggregate-pass-few-2 c = search needs
 
-slice-aggregate-pass-with-3 : tie.Need-slice-aggregate-pass-with-3
-slice-aggregate-pass-with-3 c = search needs
+slice-aggregate-pass-few-3 : tie.Need-slice-aggregate-pass-few-3
+slice-aggregate-pass-few-3 c = search needs
 
-slice-aggregate-pass-with-4 : tie.Need-slice-aggregate-pass-with-4
-slice-aggregate-pass-with-4 c = search needs
-
-pass-with-requires : tie.Need-pass-with-requires
-pass-with-requires c κs =
-    let choice = c .before .before .before .before .before .before .before .before .before .before .before .before .before .choose-places in
-    let spread = c .before .before .before .before .before .before .before .before .spread-places in (
-      c .before .before .before .before .before .before .before .before .before .before .before .before .before .before .before .before .before .pre,
-      (
-        (omega (arith, c .before .before .before .before .before .if1 .taken), choice .ensures .0, choice .ensures .1),
-        ((omega (arith, spread .kept .1 .1 .0), omega (arith, spread .kept .1 .1 .1 .0), spread .ensures .0, spread .ensures .1), zero-word 256),
-      ),
-    )
+pass-few-requires : tie.Need-pass-few-requires
+pass-few-requires c κs =
+    let choice = c .before .before .before .before .before .before .before .before .before .before .before .before .choose-places in
+    let spread = c .before .before .before .before .before .before .before .spread-places in
+    (c .before .before .before .before .before .before .before .before .before .before .before .before .before .before .before .before .pre, ((c .before .before .before .before .if1 .taken, choice .ensures .1), (omega (arith, spread .kept .1 .1 .0), omega (arith, spread .kept .1 .1 .1 .0), spread .ensures .0, spread .ensures .1)))
 
 same-length : tie.Need-same-length
 same-length c = search needs
@@ -55,28 +46,20 @@ same-length c = search needs
 returns : tie.Need-returns
 returns c = search needs
 
-slice-aggregate-pass-with-5 : tie.Need-slice-aggregate-pass-with-5
-slice-aggregate-pass-with-5 c = search needs
+slice-aggregate-pass-many : tie.Need-slice-aggregate-pass-many
+slice-aggregate-pass-many c = search needs
 
-slice-aggregate-pass-with-6 : tie.Need-slice-aggregate-pass-with-6
-slice-aggregate-pass-with-6 c = search needs
+slice-aggregate-pass-many-2 : tie.Need-slice-aggregate-pass-many-2
+slice-aggregate-pass-many-2 c = search needs
 
-slice-aggregate-pass-with-7 : tie.Need-slice-aggregate-pass-with-7
-slice-aggregate-pass-with-7 c = search needs
+slice-aggregate-pass-many-3 : tie.Need-slice-aggregate-pass-many-3
+slice-aggregate-pass-many-3 c = search needs
 
-slice-aggregate-pass-with-8 : tie.Need-slice-aggregate-pass-with-8
-slice-aggregate-pass-with-8 c = search needs
-
-pass-with-requires-2 : tie.Need-pass-with-requires-2
-pass-with-requires-2 c κs =
-    let choice = c .before .before .before .before .before .before .before .before .before .before .before .before .before .choose-places in
-    let spread = c .before .before .before .before .before .before .before .before .spread-places in (
-      c .before .before .before .before .before .before .before .before .before .before .before .before .before .before .before .before .before .pre,
-      (
-        (omega (arith, choice .ensures .0), choice .ensures .0, choice .ensures .1),
-        ((omega (arith, spread .kept .1 .1 .0), omega (arith, spread .kept .1 .1 .1 .0), spread .ensures .0, spread .ensures .1), zero-word 2048),
-      ),
-    )
+pass-many-requires : tie.Need-pass-many-requires
+pass-many-requires c κs =
+    let choice = c .before .before .before .before .before .before .before .before .before .before .before .before .choose-places in
+    let spread = c .before .before .before .before .before .before .before .spread-places in
+    (c .before .before .before .before .before .before .before .before .before .before .before .before .before .before .before .before .pre, ((choice .ensures .0, choice .ensures .1), (omega (arith, spread .kept .1 .1 .0), omega (arith, spread .kept .1 .1 .1 .0), spread .ensures .0, spread .ensures .1)))
 
 same-length-2 : tie.Need-same-length-2
 same-length-2 c = search needs
@@ -94,17 +77,15 @@ pass-screened-spec =
     slice-aggregate-spread-places-2
     slice-aggregate-spread-places-3
     spread-places-requires
-    slice-aggregate-pass-with
-    slice-aggregate-pass-with-2
-    slice-aggregate-pass-with-3
-    slice-aggregate-pass-with-4
-    pass-with-requires
+    slice-aggregate-pass-few
+    slice-aggregate-pass-few-2
+    slice-aggregate-pass-few-3
+    pass-few-requires
     same-length
     returns
-    slice-aggregate-pass-with-5
-    slice-aggregate-pass-with-6
-    slice-aggregate-pass-with-7
-    slice-aggregate-pass-with-8
-    pass-with-requires-2
+    slice-aggregate-pass-many
+    slice-aggregate-pass-many-2
+    slice-aggregate-pass-many-3
+    pass-many-requires
     same-length-2
     returns-2)

@@ -1,11 +1,11 @@
--- `listed_steps::written_slot` meets its contract.
+-- `writes::written_slot` meets its contract.
 use mathlib.Core.Path.{sym, ap, _∙_}
 use borrow.Author.Needs.{needs}
 use Rattle.plan_words.specs.PlanWords.{writeMeant}
 use Rattle.plan_words.specs.declared.PlanWrite.{PlanWrite}
-use Rattle.listed_steps.specs.ListedSteps.{writtenSlot}
-use Rattle.listed_steps.proofs.written_slot.Statement.{statement}
-use Rattle.listed_steps.proofs.written_slot.Tie as tie
+use Rattle.carrying.specs.Carrying.{writtenSlot}
+use Rattle.writes.proofs.written_slot.Statement.{statement}
+use Rattle.writes.proofs.written_slot.Tie as tie
 
 write-of-requires : tie.Need-write-of-requires
 write-of-requires c κs = search needs
