@@ -1,6 +1,6 @@
 /*
  * tcam.h: looking up keys in a table of ternary rules, planning how rules are put in and taken out, carrying
- * the plans out write by write, and saving and loading tables.
+ * the plans out write by write, keeping lists of the rules' neighbours meanwhile, and saving and loading tables.
  *
  * THE WIDTH of a table is the number of 64-bit words of a value, of a mask and of a key: 2 (TCAM_WIDTH_128, keys of
  * 128 bits) or 5 (TCAM_WIDTH_320, keys of 320 bits, room for IPv6 addresses, ports and protocol). It is given with
@@ -40,9 +40,9 @@
  * is refused where it is given as a rule, under either edition, since 65,536 is no priority: the caller keeps the
  * priority that it gave.
  *
- * A table's length is given in words, and so are a rule's, a key's and a plan's: TCAM_WORDS(array), not sizeof. A
- * table's bytes, 48 or 96 for each slot, are whole records in number too: up to 128 slots they pass for words, so that
- * nothing is refused and the call goes past the table's end.
+ * A table's length is given in words, and so are a rule's, a key's and a plan's, and a list's in numbers:
+ * TCAM_WORDS(array), not sizeof. A table's bytes, 48 or 96 for each slot, are whole records in number too: up to 128
+ * slots they pass for words, so that nothing is refused and the call goes past the table's end.
  *
  * ORDER. Two rules overlap when no bit is cared for by both with different values. They are ordered when they overlap
  * and, in an uncounted table, their actions differ too. The one of higher rank then precedes the other, which depends
@@ -52,9 +52,9 @@
  *
  * THE FLAG names a table as counted or as uncounted: 0 (TCAM_COUNTED) is counted, and any other number, 1
  * (TCAM_UNCOUNTED) or another, is uncounted. It is given, behind the width, with each call that compares rules:
- * tcam_plan_insert, tcam_plan_delete, tcam_save and tcam_load. A counted table is for a caller who counts frames for
- * each rule: every key is promised the id of its highest-ranked match. An uncounted table is for one who counts nothing
- * and sees the action alone:
+ * tcam_plan_insert, tcam_plan_insert_listed, tcam_plan_delete, tcam_carry_out_listed, tcam_save and tcam_load. A
+ * counted table is for a caller who counts frames for each rule: every key is promised the id of its highest-ranked
+ * match. An uncounted table is for one who counts nothing and sees the action alone:
  *
  *   - rules of one action are not ordered, whatever their ranks are, so that a plan may have fewer writes, and an
  *     insert may be planned that a counted table declines with TCAM_TIE or TCAM_CROSSED;
@@ -75,11 +75,11 @@
  *     from 65534 (TCAM_EMPTY)   empties slot `to`
  *     any other from            copies slot `from` to slot `to`, and leaves slot `from` as it is
  *
- * The planning calls draw plans. tcam_carry_out makes one write of a plan per call; the caller may make the
- * writes itself instead, and then puts the new rule in with its rank. What follows holds where the writes of a plan
- * are made one at a time, from the first word to the last, on the table it was drawn for, with the rule and the edition
- * it was drawn for. A key's reply is id and action, or a miss; in an uncounted table it is the action alone, or a miss.
- * Its slot may change as rules move.
+ * The planning calls draw plans. tcam_carry_out, or tcam_carry_out_listed, makes one write of a plan per call; the
+ * caller may make the writes itself instead, and then puts the new rule in with its rank. What follows holds where the
+ * writes of a plan are made one at a time, from the first word to the last, on the table it was drawn for, with the
+ * rule and the edition it was drawn for. A key's reply is id and action, or a miss; in an uncounted table it is the
+ * action alone, or a miss. Its slot may change as rules move.
  *
  * A RULE SENT AGAIN. Two rules are equal when they have the same value, mask and rank; ids and actions are not looked
  * at, and an empty slot is equal to no rule. As in OpenFlow, an insert of a rule of a new id that is equal to one
@@ -93,7 +93,8 @@
  * is in order after each write. Every key keeps its reply until the last write. After that each old rule, but for one
  * that is replaced, stands in one slot and the new one too, and every key has the reply of these rules: that of the
  * highest-ranked match among them, or a miss. In the middle of the plan one of the old rules may stand in two slots:
- * no planning call takes such a table, nor does tcam_save; tcam_lookup, tcam_slot_record and tcam_carry_out do.
+ * no planning call takes such a table, nor does tcam_save; tcam_lookup, tcam_slot_record and both calls that carry out
+ * do.
  *
  * A delete's plan is one write. It empties the slot of a rule that has no other copy. Before it every key has
  * its old reply. After it the table is in order, each other rule stands in its one slot as before, and every
@@ -108,6 +109,37 @@
  * one only together do not count: where none is named, the new rule may still be one that no key gets to. The slot is
  * one of the table before the plan, and the plan may move the rule that stands there: its id, read before the first
  * write, tells it afterwards too. None of this plays a part in the plan, in its count or in what is refused.
+ *
+ * NEIGHBOUR LISTS. The neighbours of a slot are the nearest slot after it whose rule depends on its own, and the
+ * nearest slot before it whose rule precedes its own. A list has the neighbours of every slot, as
+ * TCAM_LIST_NUMBERS(slots) numbers of 16 bits:
+ *
+ *     number 2 * i         of slot i the neighbour after it
+ *     number 2 * i + 1     of slot i the neighbour before it
+ *
+ * and 65,535 (TCAM_NONE) where there is none: an empty slot has 65,535 twice. Which rule precedes and which depends is
+ * told under ORDER, by the flag of the call. Copies of one id, equal or not, are not compared with each other: they are
+ * skipped, and another rule may be the neighbour of each of them. So every table whose slots are empty or hold sound
+ * rules has one list with either flag: a table in order, one half-way through a plan, and also one out of order, or
+ * with overlapping rules of equal rank, which are no neighbours of each other.
+ *
+ * tcam_plan_insert_listed and tcam_carry_out_listed are tcam_plan_insert and tcam_carry_out with a list lent. A success
+ * leaves the table's list there: of the table that was planned for, or of the table after the write. *refreshed is 1
+ * where the list was another than the table's at the call's start, so that it was worked out afresh, and 0 where it was
+ * the table's. So a list is always right between calls where only these two calls change its table and nothing else
+ * changes the list. It may start with any numbers, and where tcam_carry_out, tcam_load or the caller has changed the
+ * table meanwhile, the next success with the list puts it right and tells so. No number of a lent list is trusted:
+ * whatever stands there, the result, spot, plan, count, covering slot, table and progress record are those of the call
+ * without a list. Only a list of another length is refused, with TCAM_SHAPE. A refused call, and one that answers
+ * TCAM_FINISHED, leaves every number of the list and *refreshed as they were.
+ *
+ * A list pays where it is read: for a caller who draws the dependencies of the rules, or checks them, or plans moves of
+ * its own, between any two writes. It makes no call faster. Since no lent number is trusted, each call with a list
+ * compares rules in pairs to work the list out. The planning of an insert does so anyway: at 1,024 slots it takes
+ * FIGURE with a list where it takes FIGURE without one. A carrying out with a list takes about as long as a planning,
+ * FIGURE, where tcam_carry_out takes FIGURE. So a caller who reads no list calls tcam_plan_insert and tcam_carry_out;
+ * and one who reads it once for each plan, not after each write, carries out with tcam_carry_out and lends the list to
+ * the planning calls only, where it is refreshed at no more cost.
  *
  * AN IMAGE is a table as bytes, to be kept and loaded again. Its numbers are big-endian:
  *
@@ -128,59 +160,63 @@
  * the fault is, how much is needed or how much is done: a slot, an offset or a count, as told at each call, and 0
  * where there is nothing to tell. tcam_cause_name and tcam_spot_text give number and spot in words, for a log.
  *
- * Data goes to the lent cells, the lent plan and the lent image, and a load's to the lent table. On a refusal
- * only *spot is written and everything else is left as it was. On a success *spot is left as it was, and so is
- * what a buffer has past the words or bytes that the call wrote. Two calls have no cell for a spot:
- * tcam_slot_record refuses nothing, and its result is a number of words; the result of tcam_carry_out holds
- * number and spot together, and a refusal writes nothing at all.
+ * Data goes to the lent cells, the lent plan, the lent list and the lent image, and a load's to the lent table. On a
+ * refusal only *spot is written and everything else is left as it was. On a success *spot is left as it was, and so is
+ * what a buffer has past the words or bytes that the call wrote. Three calls have no cell for a spot:
+ * tcam_slot_record refuses nothing, and its result is a number of words; the result of tcam_carry_out, and that of
+ * tcam_carry_out_listed, holds number and spot together, and a refusal writes nothing at all.
  *
  * THE CALLER OWES, since no call can test it:
  *   - every pointer is valid for what it points to and not null; the pointers of the table, of the rule, of the
- *     key, of the plan and of the image may be null only where the length that goes with them is 0;
+ *     key, of the plan, of the list and of the image may be null only where the length that goes with them is 0;
  *   - every pointer is aligned: a table's, a rule's and a key's to 8 bytes; a plan's, a cell's and a progress
- *     record's to 4; an image's to any;
- *   - the lent cells, the progress record, the plan, the image, the table, the rule and the key share no byte with
- *     each other;
+ *     record's to 4; a list's to 2; an image's to any;
+ *   - the lent cells, the progress record, the plan, the list, the image, the table, the rule and the key share no byte
+ *     with each other;
  *   - a table is given with its own width in every call. Many lengths are a table's at both widths, as 12 words are
  *     two slots at width 2 and one at width 5: the same words are then read as another table;
  *   - a table that was named as uncounted in one call is named so in every later one, and so is each image of it: a
  *     call that names it as counted may decline it, and nothing is promised to its keys from then on;
  *   - a plan is carried out with the rule and the edition that it was drawn for. With another sound rule, or the other
  *     edition, each write that fits is made all the same, and what is said above of replies and of order does not hold;
- *   - until a call returns, nothing else changes what it is lent: a table, a rule, a key, a plan buffer, an image
- *     buffer, a progress record or a cell;
- *   - no other call is made on the table while tcam_carry_out or tcam_load runs, not from an interrupt handler
- *     or another core either: a write is a store for each word of a record, and what is promised of lookups is
- *     promised between calls. While nothing writes the table, calls that only read it, tcam_lookup and
+ *   - until a call returns, nothing else changes what it is lent: a table, a rule, a key, a plan buffer, a list, an
+ *     image buffer, a progress record or a cell;
+ *   - no other call is made on the table while tcam_carry_out, tcam_carry_out_listed or tcam_load runs, not from an
+ *     interrupt handler or another core either: a write is a store for each word of a record, and what is promised of
+ *     lookups is promised between calls. While nothing writes the table, calls that only read it, tcam_lookup and
  *     tcam_slot_record among them, may run side by side, on several cores too, each with its own cells and buffers;
  *   - the platform is x86-64 with the System V calling convention. At the call instruction the stack pointer is
  *     a multiple of 16 and the direction flag is clear: a C compiler sees to both, but an interrupt handler or
  *     assembler code that calls has to do so itself. SSE2 registers and the red zone are used: an interrupt
  *     handler saves those registers if it uses them or calls the library, and steps over the 128 bytes below the
  *     stack pointer if it runs on the same stack;
- *   - the program has a memset, a memmove and a memcpy, as in C's string.h: the planning calls, tcam_save, tcam_load
- *     and tcam_carry_out call memset, tcam_plan_insert memcpy too, and tcam_carry_out memmove;
+ *   - the program has a memset and a memmove, as in C's string.h: the planning calls, tcam_save, tcam_load and both
+ *     calls that carry out call memset, and the two that carry out memmove too;
  *   - there is stack enough, as told below.
  *
- * No call but tcam_carry_out and tcam_load changes the table, and none keeps anything for later. Each call but
- * tcam_load checks the whole table first, so its time grows with the number of slots. tcam_load looks at the
- * table's length only, and checks the whole image before it writes. The time of the planning calls, of tcam_save
- * and of tcam_load grows faster, at worst with the square of the slots, since they compare rules in pairs.
+ * No call but tcam_carry_out, tcam_carry_out_listed and tcam_load changes the table, and none keeps anything for later.
+ * Each call but tcam_load checks the whole table first, so its time grows with the number of slots. tcam_load looks at
+ * the table's length only, and checks the whole image before it writes. The time of the planning calls, of
+ * tcam_carry_out_listed, of tcam_save and of tcam_load grows faster, at worst with the square of the slots, since they
+ * compare rules in pairs.
  *
  * STACK, measured on this build at 1,024 slots, rounded up, with the arguments that the caller pushes, in bytes:
  *
- *                         width 2   width 5
- *     tcam_lookup             288       288
- *     tcam_slot_record        128       128
- *     tcam_plan_delete     24,640    24,640
- *     tcam_carry_out          320       320
- *     tcam_plan_insert     31,008    31,008, or 10,752 and 96 for each word of the plan, where that is more
- *     tcam_save            24,704    24,704
- *     tcam_load            74,112   123,264
+ *                                width 2   width 5
+ *     tcam_lookup                    288       288
+ *     tcam_slot_record               128       128
+ *     tcam_plan_delete            24,640    24,640
+ *     tcam_carry_out                 336       336
+ *     tcam_carry_out_listed       24,400    24,400
+ *     tcam_plan_insert            31,008    31,008, or 10,848 and 96 for each word of the plan, where that is more
+ *     tcam_plan_insert_listed     31,040    31,040, or 10,880 and 96 for each word of the plan, where that is more
+ *     tcam_save                   24,704    24,704
+ *     tcam_load                   74,112   123,264
  *
- * The longest plan, of 1,024 words, takes 109,056 bytes, 106.5 KiB. A plan that does not fit its buffer is
- * not written out, so that a buffer of n words bounds the stack at 10,752 + 96 * n bytes, or at 31,008 where
- * that is more. tcam_load builds the whole table on the stack before it writes the lent one.
+ * The longest plan, of 1,024 words, takes 109,152 bytes, 106.6 KiB, and with a list 109,184. A plan that does not fit
+ * its buffer is not written out, so that a buffer of n words bounds the stack at 10,848 + 96 * n bytes, or at 31,008
+ * where that is more; with a list at 10,880 + 96 * n, or at 31,040. tcam_load builds the whole table on the stack
+ * before it writes the lent one.
  */
 #ifndef TCAM_H
 #define TCAM_H
@@ -220,8 +256,12 @@ extern "C" {
 /* Slots of a table of so many words. */
 #define TCAM_TABLE_SLOTS(width, words) ((size_t)(words) / TCAM_RECORD_WORDS(width))
 
-/* Words of an array: a table, a rule, a key or a plan. Of the array itself: from a pointer no length can be told. */
+/* Words of an array, a table, a rule, a key or a plan, and numbers of a list. Of the array itself: from a pointer no
+ * length can be told. */
 #define TCAM_WORDS(array) (sizeof(array) / sizeof((array)[0]))
+
+/* Numbers of a neighbour list of a table of so many slots: two for each. */
+#define TCAM_LIST_NUMBERS(slots) ((size_t)2 * (size_t)(slots))
 
 /* Bytes of an image of so many rules: a head, and for each rule an entry of 10 bytes and a body. */
 #define TCAM_IMAGE_BYTES(width, rules) ((size_t)4 + ((size_t)18 + (size_t)16 * (size_t)(width)) * (size_t)(rules))
@@ -233,16 +273,17 @@ extern "C" {
 #define TCAM_PUT 65535u
 #define TCAM_EMPTY 65534u
 
-/* In place of a slot: there is none. */
+/* In place of a slot, in a cell or in a neighbour list: there is none. */
 #define TCAM_NONE 65535u
 
 /*
- * Why a call declines, and the calls that return it, without their tcam_. Where none is named, no call
- * declared here returns it: TCAM_LINE is the script program's, and the others are for calls to come.
+ * Why a call declines, and the calls that return it, without their tcam_. What plan_insert and carry_out return,
+ * plan_insert_listed and carry_out_listed return too. Where none is named, no call declared here returns it: TCAM_LINE
+ * is the script program's, and the others are for calls to come.
  */
 enum tcam_cause {
     TCAM_OK = 0,         /* not a refusal */
-    TCAM_SHAPE = 1,      /* no such width, or not its words. lookup, plan_insert, plan_delete, carry_out, save, load */
+    TCAM_SHAPE = 1,      /* no such width, or not its words, or not the numbers of a list. All that decline */
     TCAM_RECORD = 2,     /* a slot neither empty nor a sound rule. lookup, plan_insert, plan_delete, carry_out, save */
     TCAM_TWICE = 3,      /* a slot's id stands in an earlier one too. plan_insert, plan_delete, save, load */
     TCAM_ORDER = 4,      /* an earlier rule ordered with it has no higher rank. plan_insert, plan_delete, save, load */
@@ -368,6 +409,26 @@ uint32_t tcam_plan_insert(const uint64_t *table, size_t words, uint32_t width, u
                           uint32_t *covered, uint32_t *spot);
 
 /*
+ * Plans an insert with a neighbour list lent: as tcam_plan_insert, and the list is the table's afterwards.
+ *
+ *   list, list_numbers  the list and its length in numbers, which is TCAM_LIST_NUMBERS(slots)
+ *   refreshed           cell for whether the list was worked out afresh: 1, or 0
+ * and all others as for tcam_plan_insert.
+ *
+ * Result TCAM_OK: plan, *count and *covered are those of tcam_plan_insert, whatever the list was. The list is that of
+ * the table, which the call does not change, with this flag. *refreshed is 1 if a number of the list was another before
+ * the call, and 0 if none was.
+ *
+ * Refusals: those of tcam_plan_insert, in the same order, with the same spots, and also
+ *   TCAM_SHAPE    list_numbers is not TCAM_LIST_NUMBERS(slots), where table and rule pass this check. *spot is 0.
+ * A refusal, TCAM_SHORT too, leaves every number of the list as it was, and *refreshed.
+ */
+uint32_t tcam_plan_insert_listed(const uint64_t *table, size_t words, uint32_t width, uint32_t uncounted,
+                                 const uint64_t *rule, size_t rule_words, uint32_t edition, uint16_t *list,
+                                 size_t list_numbers, uint32_t *plan, size_t plan_words, uint32_t *count,
+                                 uint32_t *covered, uint32_t *refreshed, uint32_t *spot);
+
+/*
  * Plans a delete: the one write that empties a rule's slot.
  *
  *   table, words      the table and its length in words
@@ -396,7 +457,7 @@ typedef struct tcam_progress {
     uint32_t total;
 } tcam_progress;
 
-/* The results of tcam_carry_out that are no refusal. */
+/* The results of tcam_carry_out, and of tcam_carry_out_listed, that are no refusal. */
 #define TCAM_WROTE 0u
 #define TCAM_FINISHED 0xFFFFFFFFu
 
@@ -449,7 +510,30 @@ static const uint64_t tcam_no_rule[TCAM_RECORD_WORDS(TCAM_WIDTH_320)] = {0};
 uint64_t tcam_carry_out(uint64_t *table, size_t words, uint32_t width, const uint64_t *rule, size_t rule_words,
                         uint32_t edition, const uint32_t *plan, size_t plan_words, tcam_progress *progress);
 
-/* The number of a refusal of tcam_carry_out, and its spot. */
+/*
+ * Carries a plan out by one write with a neighbour list lent: as tcam_carry_out, and after a write the list is that of
+ * the table as it is then.
+ *
+ *   uncounted           the table's flag, by which its rules are ordered in the list: 0 is counted, any other number
+ *                       uncounted. It decides nothing else
+ *   list, list_numbers  the list and its length in numbers, which is TCAM_LIST_NUMBERS(slots)
+ *   refreshed           cell for whether the list was worked out afresh: 1, or 0
+ * and all others as for tcam_carry_out.
+ *
+ * Result TCAM_WROTE: table and progress record are as tcam_carry_out leaves them, whatever the list was. The list is
+ * that of the table after the write, with this flag, also where the table is out of order or an id stands in several
+ * slots. *refreshed is 1 if a number of the list was another than that of the table before the write, and 0 if none
+ * was.
+ * Result TCAM_FINISHED: as for tcam_carry_out; every number of the list stays as it was, and *refreshed.
+ * Any other result is a refusal of tcam_carry_out, at the same place, or also
+ *   TCAM_SHAPE   list_numbers is not TCAM_LIST_NUMBERS(slots), where table and rule pass this check. The spot is 0.
+ * A refusal leaves every number of the list as it was, and *refreshed.
+ */
+uint64_t tcam_carry_out_listed(uint64_t *table, size_t words, uint32_t width, uint32_t uncounted, const uint64_t *rule,
+                               size_t rule_words, uint32_t edition, uint16_t *list, size_t list_numbers,
+                               const uint32_t *plan, size_t plan_words, tcam_progress *progress, uint32_t *refreshed);
+
+/* The number of a refusal of tcam_carry_out or tcam_carry_out_listed, and its spot. */
 static inline uint32_t tcam_carry_number(uint64_t result)
 {
     return (uint32_t)result;

@@ -22,10 +22,12 @@ static record_words new_rule;
 static unsigned long rounds;
 static pthread_barrier_t start;
 
-/* What the calls answer: a lookup of each key, each slot's record, a plan of each kind and an image. */
+/* What the calls answer: a lookup of each key, each slot's record, a plan of each kind, one with a list, and an image. */
 struct answers {
     uint32_t found[KEYS][4], part[TABLE_SLOTS][2], insert[3], delete[2], save[2];
     uint32_t insert_plan[TABLE_SLOTS], delete_plan[1];
+    uint32_t listed[4], listed_plan[TABLE_SLOTS];
+    uint16_t list[TCAM_LIST_NUMBERS(TABLE_SLOTS)];
     uint8_t image[TCAM_IMAGE_BYTES(MOST_WIDTH, TABLE_SLOTS)];
 };
 
@@ -45,6 +47,9 @@ static void ask(struct answers *told, unsigned long first)
     }
     told->insert[0] = tcam_plan_insert(table, WORDS, width, uncounted, new_rule, TCAM_RECORD_WORDS(width), TCAM_EDITION_13,
                                        told->insert_plan, TABLE_SLOTS, told->insert + 1, told->insert + 2, &spot);
+    told->listed[0] = tcam_plan_insert_listed(table, WORDS, width, uncounted, new_rule, TCAM_RECORD_WORDS(width), TCAM_EDITION_13,
+                                              told->list, TCAM_WORDS(told->list), told->listed_plan, TABLE_SLOTS,
+                                              told->listed + 1, told->listed + 2, told->listed + 3, &spot);
     told->delete[0] = tcam_plan_delete(table, WORDS, width, uncounted, 2, told->delete_plan, 1, told->delete + 1, &spot);
     told->save[0] = tcam_save(table, WORDS, width, uncounted, told->image, sizeof told->image, told->save + 1, &spot);
 }
@@ -108,6 +113,7 @@ static void side_by_side(void)
         rules += alone.part[slot][0] == TCAM_RECORD_WORDS(width);
     CHECK(hits > KEYS / 2 && rules == TABLE_SLOTS * 2 / 3);
     CHECK(alone.insert[0] == TCAM_OK && alone.insert[1] > 1 && alone.insert[2] == TCAM_NONE);
+    CHECK(alone.listed[0] == TCAM_OK && alone.listed[1] == alone.insert[1] && alone.listed[3] == 1);
     CHECK(alone.delete[0] == TCAM_OK && alone.delete[1] == 1 && alone.delete_plan[0] == EMPTYING(1));
     CHECK(alone.save[0] == TCAM_OK && alone.save[1] == TCAM_IMAGE_BYTES(width, rules));
 

@@ -24,15 +24,16 @@ static const struct limits {
     size_t chain;       /* and */
     size_t write;       /* for each word of the plan */
     size_t save, load;
+    size_t plan_listed, chain_listed, carry_listed; /* with a list: as plan_insert and chain, with the same for each word */
 } limits[] = {
-    {TCAM_WIDTH_128, 288, 128, 24640, 320, 31008, 10752, 96, 24704, 74112},
-    {TCAM_WIDTH_320, 288, 128, 24640, 320, 31008, 10752, 96, 24704, 123264},
+    {TCAM_WIDTH_128, 288, 128, 24640, 336, 31008, 10848, 96, 24704, 74112, 31040, 10880, 24400},
+    {TCAM_WIDTH_320, 288, 128, 24640, 336, 31008, 10848, 96, 24704, 123264, 31040, 10880, 24400},
 };
 static const struct limits *limit;
 
 /* What tcam.h said while width 2 was the only one: at that width a call takes at most a twentieth more, or, where that is less than a
  * frame, 160 bytes: a lookup and a step hold words and addresses for both widths. */
-static const struct limits once = {TCAM_WIDTH_128, 128, 128, 24064, 192, 30336, 10752, 96, 24064, 73216};
+static const struct limits once = {TCAM_WIDTH_128, 128, 128, 24064, 192, 30336, 10752, 96, 24064, 73216, 0, 0, 0};
 
 static size_t grown(size_t bytes)
 {
@@ -46,6 +47,7 @@ static size_t grown(size_t bytes)
 static uint64_t table[MOST_WORDS];
 static uint64_t rule[TCAM_RECORD_WORDS(TCAM_WIDTH_320)];
 static uint32_t plan[SLOTS];
+static uint16_t list[TCAM_LIST_NUMBERS(SLOTS)];
 static uint8_t image[TCAM_IMAGE_BYTES(TCAM_WIDTH_320, SLOTS)];
 static const uint64_t key[TCAM_WIDTH_320] = {1, 2, 3, 4, 5};
 static size_t words, rule_words, room;
@@ -57,7 +59,7 @@ static tcam_progress progress;
 
 static unsigned char *stack;
 static uint64_t carried;
-static uint32_t result, first, slot, id, action, count, covered, bytes_saved, spot;
+static uint32_t result, first, slot, id, action, count, covered, refreshed, bytes_saved, spot;
 static unsigned char *top; /* the stack of the function that calls */
 
 /* Each runs on the painted stack. What it uses counts from its own frame, with the arguments that it pushes. */
@@ -81,6 +83,13 @@ ON_OWN_STACK run_plan_insert(void)
     result = tcam_plan_insert(table, words, width, uncounted, rule, rule_words, edition, plan, room, &count, &covered, &spot);
 }
 
+ON_OWN_STACK run_plan_listed(void)
+{
+    top = __builtin_frame_address(0);
+    result = tcam_plan_insert_listed(table, words, width, uncounted, rule, rule_words, edition, list, TCAM_WORDS(list), plan, room,
+                                     &count, &covered, &refreshed, &spot);
+}
+
 ON_OWN_STACK run_plan_delete(void)
 {
     top = __builtin_frame_address(0);
@@ -91,6 +100,13 @@ ON_OWN_STACK run_carry_out(void)
 {
     top = __builtin_frame_address(0);
     carried = tcam_carry_out(table, words, width, rule, rule_words, edition, plan, room, &progress);
+}
+
+ON_OWN_STACK run_carry_listed(void)
+{
+    top = __builtin_frame_address(0);
+    carried = tcam_carry_out_listed(table, words, width, uncounted, rule, rule_words, edition, list, TCAM_WORDS(list), plan, room,
+                                    &progress, &refreshed);
 }
 
 ON_OWN_STACK run_save(void)
@@ -180,16 +196,21 @@ static void make_chain(uint32_t hole)
             make_rule(table + TCAM_TABLE_WORDS(width, at), at + 1, 60000 - 2 * at);
 }
 
+/* A planned insert without a list, and with one. */
 static void try_insert(const char *what, uint32_t hole, uint32_t priority, uint32_t want_count)
 {
+    char with_list[80];
     make_chain(hole);
     make_rule(rule, 5000, priority);
     room = SLOTS;
     size_t bytes = used(run_plan_insert), most = limit->chain + limit->write * want_count;
     check(result == TCAM_OK && count == want_count, what, bytes, most < limit->plan_insert ? limit->plan_insert : most);
+    bytes = used(run_plan_listed), most = limit->chain_listed + limit->write * want_count;
+    snprintf(with_list, sizeof with_list, "%s, listed", what);
+    check(result == TCAM_OK && count == want_count, with_list, bytes, most < limit->plan_listed ? limit->plan_listed : most);
 }
 
-/* One step of a plan of one word, where that write is next. */
+/* One step of a plan of one word, where that write is next, without a list and with one. */
 static void try_carry(const char *what, uint32_t word, uint32_t priority, uint64_t want)
 {
     make_chain(1023);
@@ -197,8 +218,14 @@ static void try_carry(const char *what, uint32_t word, uint32_t priority, uint64
     plan[0] = word;
     room = 1;
     progress = (tcam_progress){0, 1};
+    char with_list[80];
     size_t bytes = used(run_carry_out);
     check(carried == want, what, bytes, limit->carry_out);
+    make_chain(1023);
+    progress = (tcam_progress){0, 1};
+    bytes = used(run_carry_listed);
+    snprintf(with_list, sizeof with_list, "%s, listed", what);
+    check(carried == want, with_list, bytes, limit->carry_listed);
 }
 
 static void measure_lookups(void)
@@ -226,6 +253,8 @@ static void measure_plans(void)
     room = 1023;
     bytes = used(run_plan_insert);
     check(result == TCAM_SHORT && spot == 1024, "tcam_plan_insert, one word short", bytes, limit->plan_insert);
+    bytes = used(run_plan_listed);
+    check(result == TCAM_SHORT && spot == 1024, "tcam_plan_insert, one word short, listed", bytes, limit->plan_listed);
 }
 
 static void measure_writes(void)

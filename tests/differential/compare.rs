@@ -3,6 +3,7 @@
 
 use crate::guarded::{Guarded, Seen};
 use crate::input::{initial_bytes, initial_words, Call, Input, CELL_START};
+use crate::listed::{check_carry_listed, check_plan_listed};
 use crate::tally::{plan_kind, Tally, ID_CHANGES, OTHER_ID};
 use reference::bits::Bits;
 use reference::carry::{carry_out, Carried, Progress};
@@ -17,7 +18,7 @@ use support::calls::NONE;
 const SLOTS_ALWAYS_TESTED: usize = 64;
 
 /// The result of tcam_carry_out that says "finished": the header's number, since document 01 has none.
-const FINISHED: u64 = 0xffff_ffff;
+pub const FINISHED: u64 = 0xffff_ffff;
 
 pub struct Mismatch {
     pub what: String,
@@ -41,7 +42,7 @@ pub fn check(library: &Guarded, input: &Input, tally: &mut Tally) -> Result<(), 
             tally.part(input, expected.result, read_slots(&input.table, input.width).map(|_| ()));
             same("slot_record", library.slot_record(input), expected)
         }
-        Call::PlanInsert => check_plan_insert(library, input, tally).map(|_| ()),
+        Call::PlanInsert => check_plan_insert(library, &mut input.clone(), tally).map(|_| ()),
         Call::PlanDelete => check_plan_delete(library, input, tally).map(|_| ()),
         Call::CarryOut => check_carry_out(library, &mut input.clone(), tally).map(|_| ()),
         Call::Save => check_save(library, input, tally),
@@ -50,7 +51,7 @@ pub fn check(library: &Guarded, input: &Input, tally: &mut Tally) -> Result<(), 
     }
 }
 
-fn same(what: &str, seen: Seen, expected: Seen) -> Result<(), Mismatch> {
+pub fn same(what: &str, seen: Seen, expected: Seen) -> Result<(), Mismatch> {
     if seen == expected {
         return Ok(());
     }
@@ -66,12 +67,13 @@ fn same(what: &str, seen: Seen, expected: Seen) -> Result<(), Mismatch> {
     note("rule or key", seen.beside != expected.beside);
     note("plan", seen.plan != expected.plan);
     note("image", seen.image != expected.image);
+    note("list", seen.list != expected.list);
     note("guards", seen.guards_hold != expected.guards_hold);
     Err(Mismatch::of(format!("{what}: {}", parts.join(", ")), seen, expected))
 }
 
 /// What is seen of a call that changes nothing; `cells` cells with their first contents.
-fn untouched(input: &Input, cells: usize) -> Seen {
+pub fn untouched(input: &Input, cells: usize) -> Seen {
     Seen {
         result: 0,
         cells: (0..cells).map(|cell| CELL_START + cell as u32).collect(),
@@ -79,12 +81,13 @@ fn untouched(input: &Input, cells: usize) -> Seen {
         beside: Vec::new(),
         plan: Vec::new(),
         image: Vec::new(),
+        list: Vec::new(),
         guards_hold: true,
     }
 }
 
 /// A refusal of a call whose last cell is the spot.
-fn refused(mut seen: Seen, refusal: Refusal) -> Seen {
+pub fn refused(mut seen: Seen, refusal: Refusal) -> Seen {
     seen.result = u64::from(refusal.number);
     *seen.cells.last_mut().unwrap() = refusal.spot as u32;
     seen
@@ -120,8 +123,9 @@ fn expected_slot_record(input: &Input) -> Seen {
     expected
 }
 
-/// The plan of an insert, and the slot of the rule that covers the new one.
-fn check_plan_insert(library: &Guarded, input: &Input, tally: &mut Tally) -> Result<Option<Vec<u32>>, Mismatch> {
+/// The plan of an insert, and the slot of the rule that covers the new one; the same with the input's list, which is then as the reference
+/// says.
+fn check_plan_insert(library: &Guarded, input: &mut Input, tally: &mut Tally) -> Result<Option<Vec<u32>>, Mismatch> {
     let name = |planned: &Planned| plan_kind(input, &planned.writes);
     let answer = tally.by_flag(Call::PlanInsert, input, name, |uncounted| {
         plan_insert(&input.table, input.width, uncounted, &input.rule, input.edition, input.room)
@@ -135,6 +139,7 @@ fn check_plan_insert(library: &Guarded, input: &Input, tally: &mut Tally) -> Res
     let answer = answer.map(|planned| planned.writes);
     expected = with_plan(expected, Call::PlanInsert, input, &answer, tally);
     same("plan_insert", library.plan_insert(input), expected)?;
+    check_plan_listed(library, input, tally)?;
     Ok(answer.ok())
 }
 
@@ -163,7 +168,7 @@ fn with_plan(mut expected: Seen, call: Call, input: &Input, answer: &Result<Vec<
     }
 }
 
-/// One write; table and progress of the input are advanced as the reference says.
+/// One write, without the input's list and with it; table, progress and list of the input are advanced as the reference says.
 fn check_carry_out(library: &Guarded, input: &mut Input, tally: &mut Tally) -> Result<Option<Carried>, Mismatch> {
     let mut progress = Progress { done: input.done, total: input.total };
     let mut table = input.table.clone();
@@ -181,6 +186,9 @@ fn check_carry_out(library: &Guarded, input: &mut Input, tally: &mut Tally) -> R
     expected.beside = input.rule.clone();
     expected.plan = input.plan.clone();
     same("carry_out", library.carry_out(input), expected)?;
+    if takes_list_now(input) {
+        check_carry_listed(library, input, tally)?;
+    }
     input.table = table;
     input.done = progress.done;
     Ok(answer.ok())
@@ -277,14 +285,15 @@ fn rules_after(input: &Input, slots: &[Slot]) -> Vec<Rule> {
 /// Plans, then carries out write by write, and gives the last table. Before the last write each key has its old reply, after it its
 /// new one; in an uncounted table only the reply's action is the old one and the new one.
 fn check_change(library: &Guarded, input: &Input, tally: &mut Tally) -> Result<Option<Vec<u64>>, Mismatch> {
-    let is_delete = input.call == Call::DeleteInFull;
-    let check_plan = if is_delete { check_plan_delete } else { check_plan_insert };
-    let Some(writes) = check_plan(library, input, tally)? else { return Ok(None) };
+    let mut state = input.clone();
+    let planned = match input.call {
+        Call::DeleteInFull => check_plan_delete(library, input, tally)?,
+        _ => check_plan_insert(library, &mut state, tally)?,
+    };
+    let Some(writes) = planned else { return Ok(None) };
     let slots = read_slots(&input.table, input.width).expect("a planned table is sound");
     let new_rules = rules_after(input, &slots);
     let old_rules: Vec<Rule> = slots.into_iter().flatten().collect();
-    let mut state = input.clone();
-    state.call = Call::CarryOut;
     state.plan = initial_words(input.room);
     state.plan[..writes.len()].copy_from_slice(&writes);
     state.done = 0;
@@ -315,6 +324,18 @@ fn check_change(library: &Guarded, input: &Input, tally: &mut Tally) -> Result<O
     Ok(Some(state.table))
 }
 
+/// Whether much is asked between two writes: the tables of many slots that a long plan leaves are asked now and then.
+fn is_watched(state: &Input) -> bool {
+    let slots = state.table.len() / record_words(state.width);
+    slots <= SLOTS_ALWAYS_TESTED || state.done % 256 == 0 || state.done + 1 >= state.total
+}
+
+/// Whether the next write is made with the list too. Of a plan in full some are made without, so that the list is one of an earlier table.
+fn takes_list_now(state: &Input) -> bool {
+    let is_left_out = state.list_left_out != 0 && state.done % state.list_left_out == state.list_left_out - 1;
+    state.call == Call::CarryOut || is_watched(state) && !is_left_out
+}
+
 /// An id and an action, or a miss.
 type Reply = Option<(u32, u32)>;
 
@@ -322,8 +343,7 @@ type Reply = Option<(u32, u32)>;
 fn check_state(library: &Guarded, state: &Input, rules: &[Rule], tally: &mut Tally) -> Result<Vec<Reply>, Mismatch> {
     let mut replies = Vec::new();
     let slots: Vec<Slot> = read_slots(&state.table, state.width).expect("copies of sound records are sound");
-    let is_small = slots.len() <= SLOTS_ALWAYS_TESTED;
-    if is_small || state.done % 256 == 0 || state.done + 1 >= state.total {
+    if is_watched(state) {
         if let Some(slot) = first_out_of_order(&slots, state.is_uncounted()) {
             return Err(Mismatch::of(format!("out of order after {} writes", state.done), slot, &state.plan));
         }

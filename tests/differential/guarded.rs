@@ -3,6 +3,7 @@
 
 use crate::fence::Fence;
 use crate::input::{initial_bytes, initial_words, Input, CELL_START};
+use crate::lists::NUMBERS_MOST;
 use reference::bits::WIDTHS;
 use reference::image::image_bytes;
 use reference::table::SLOTS_MOST;
@@ -18,6 +19,7 @@ pub struct Seen {
     pub beside: Vec<u64>,
     pub plan: Vec<u32>,
     pub image: Vec<u8>,
+    pub list: Vec<u16>,
     pub guards_hold: bool,
 }
 
@@ -56,6 +58,7 @@ struct Contents<'a> {
     beside: &'a [u64],
     plan: &'a [u32],
     image: &'a [u8],
+    list: &'a [u16],
 }
 
 /// The buffers where they are lent, each with its length.
@@ -64,6 +67,7 @@ struct Buffers {
     beside: (*const u64, usize),
     plan: (*mut u32, usize),
     image: (*mut u8, usize),
+    list: (*mut u16, usize),
 }
 
 /// The fenced room for the buffers, made once.
@@ -72,6 +76,7 @@ pub struct Guarded {
     beside: Fence,
     plan: Fence,
     image: Fence,
+    list: Fence,
 }
 
 /// The most words that an input has in its table, and in its rule or a key.
@@ -85,6 +90,7 @@ impl Guarded {
             beside: Fence::new(8 * RECORD_WORDS_MOST),
             plan: Fence::new(8 * SLOTS_MOST),
             image: Fence::new(image_bytes(WIDTHS[1], SLOTS_MOST) + 4096),
+            list: Fence::new(2 * NUMBERS_MOST),
         }
     }
 
@@ -99,15 +105,18 @@ impl Guarded {
         let after = input.fence_after;
         let (table, beside) = (self.table.lend(&input.table, after), self.beside.lend(contents.beside, after));
         let (plan, image) = (self.plan.lend(contents.plan, after), self.image.lend(contents.image, after));
+        let list = self.list.lend(contents.list, after);
         let buffers = Buffers {
             table: (table.pointer(after), input.table.len()),
             beside: (beside.pointer::<u64>(after), contents.beside.len()),
             plan: (plan.pointer(after), contents.plan.len()),
             image: (image.pointer(after), contents.image.len()),
+            list: (list.pointer(after), contents.list.len()),
         };
         let mut cells = Cells::new();
         let result = call(&buffers, &mut cells);
-        let fences = [(&self.table, &table), (&self.beside, &beside), (&self.plan, &plan), (&self.image, &image)];
+        let fences =
+            [(&self.table, &table), (&self.beside, &beside), (&self.plan, &plan), (&self.image, &image), (&self.list, &list)];
         Seen {
             result,
             cells: cells.first(cell_count),
@@ -115,6 +124,7 @@ impl Guarded {
             beside: beside.read_back(),
             plan: plan.read_back(),
             image: image.read_back(),
+            list: list.read_back(),
             guards_hold: cells.guards_hold() && fences.iter().all(|(fence, lent)| fence.guards_hold(lent, after)),
         }
     }
@@ -161,6 +171,37 @@ impl Guarded {
             tcam_carry_out(table.0, table.1, width, rule.0, rule.1, edition, plan.0, plan.1, progress)
         });
         seen.cells = guarded[1..3].to_vec();
+        seen.guards_hold &= guarded[0] == CELL_GUARD && guarded[3] == CELL_GUARD;
+        seen
+    }
+
+    pub fn plan_insert_listed(&self, input: &Input) -> Seen {
+        let (plan, list) = (initial_words(input.room), input.list.as_deref().unwrap_or(&[]));
+        let contents = Contents { beside: &input.rule, plan: &plan, list, ..Contents::default() };
+        self.observe(input, contents, 4, |Buffers { table, beside: rule, plan, list, .. }, cells| unsafe {
+            let (width, flag, edition) = (input.width as u32, input.uncounted, input.edition);
+            let (count, covered, refreshed, spot) = (cells.cell(0), cells.cell(1), cells.cell(2), cells.cell(3));
+            let ((table, words), (rule, rule_words), (list, numbers), (plan, room)) = (*table, *rule, *list, *plan);
+            u64::from(tcam_plan_insert_listed(
+                table, words, width, flag, rule, rule_words, edition, list, numbers, plan, room, count, covered, refreshed, spot,
+            ))
+        })
+    }
+
+    /// The cells seen are the progress record afterwards, and whether the list was refreshed.
+    pub fn carry_out_listed(&self, input: &Input) -> Seen {
+        let list = input.list.as_deref().unwrap_or(&[]);
+        let contents = Contents { beside: &input.rule, plan: &input.plan, list, ..Contents::default() };
+        let mut guarded = [CELL_GUARD, input.done, input.total, CELL_GUARD];
+        let mut seen = self.observe(input, contents, 1, |Buffers { table, beside: rule, plan, list, .. }, cells| unsafe {
+            let (width, flag, edition, refreshed) = (input.width as u32, input.uncounted, input.edition, cells.cell(0));
+            let progress = guarded.as_mut_ptr().add(1) as *mut ProgressRecord;
+            let ((table, words), (rule, rule_words), (list, numbers), (plan, room)) = (*table, *rule, *list, *plan);
+            tcam_carry_out_listed(
+                table, words, width, flag, rule, rule_words, edition, list, numbers, plan, room, progress, refreshed,
+            )
+        });
+        seen.cells = [&guarded[1..3], &seen.cells].concat();
         seen.guards_hold &= guarded[0] == CELL_GUARD && guarded[3] == CELL_GUARD;
         seen
     }

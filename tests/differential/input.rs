@@ -41,6 +41,10 @@ pub struct Input {
     pub done: u32,
     pub total: u32,
     pub image: Vec<u8>,
+    /// The neighbour list that is lent: where there is one, an insert is planned and a write is made with it too.
+    pub list: Option<Vec<u16>>,
+    /// Of a plan carried out in full every so many writes one is made without the list; 0 is none.
+    pub list_left_out: u32,
     pub fence_after: bool,
 }
 
@@ -62,6 +66,8 @@ impl Input {
             done: 0,
             total: 0,
             image: Vec::new(),
+            list: None,
+            list_left_out: 0,
             fence_after,
         }
     }

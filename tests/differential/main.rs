@@ -13,8 +13,11 @@ mod fence;
 mod guarded;
 mod input;
 mod largest;
+mod listed;
+mod lists;
 mod make;
 mod misfit;
+mod neighbours;
 mod shrink;
 mod tally;
 
@@ -146,5 +149,6 @@ fn print_input(input: &Input) {
     eprintln!("  keys {:x?}, slot {}, room {}", input.keys, input.slot, input.room);
     eprintln!("  plan {:x?}, done {}, total {}", input.plan, input.done, input.total);
     eprintln!("  image {:x?}", input.image);
+    eprintln!("  list {:?}, left out every {} writes", input.list, input.list_left_out);
     eprintln!("  the table {} the closed page", if input.fence_after { "ends at" } else { "starts behind" });
 }

@@ -5,11 +5,13 @@
 // In half of the tables some rules are exact, with every mask bit set, or nearly so, among those that are not.
 // In a quarter of the inputs the rule is one of the table sent again, or nearly so; a third of these tables is full.
 // Half of the tables are made uncounted, with few actions, ranks that often tie, and equal rules; most are told as what they are made.
+// Half of the inputs for calls that have a form with a neighbour list are lent one; half of the tables to carry out on are disordered.
 
 use crate::actions::{add_equal_rules, few_actions, flag};
 use crate::exact::{edition, exact_or_nearly, Edged};
 use crate::input::{Call, Input};
 use crate::largest::make_largest;
+use crate::lists::{disorder, lend_list, make_fit, takes_list};
 use crate::misfit;
 use reference::bits::{Bits, WIDTHS};
 use reference::given::{Given, EDITION_10, EDITION_13};
@@ -85,12 +87,20 @@ const LARGEST_EVERY: u64 = 1000;
 
 pub fn make_input(seed: u64, number: u64) -> Input {
     let random = &mut Random::new(seed, number);
-    if number % LARGEST_EVERY == 0 {
+    let is_largest = number % LARGEST_EVERY == 0;
+    let mut input = if is_largest {
         let turn = (number / LARGEST_EVERY) as usize;
         make_largest(random, WIDTHS[turn % 2], turn / 2)
     } else {
         make_any(random, WIDTHS[number as usize % 2])
+    };
+    if takes_list(input.call) && random.one_in(2) {
+        if !is_largest {
+            make_fit(random, &mut input);
+        }
+        lend_list(random, &mut input);
     }
+    input
 }
 
 fn make_any(random: &mut Random, width: usize) -> Input {
@@ -115,6 +125,9 @@ fn make_any(random: &mut Random, width: usize) -> Input {
     }
     if call == Call::CarryOut && maker.random.one_in(4) {
         maker.add_equal(&mut table, &new);
+    }
+    if call == Call::CarryOut && maker.random.one_in(2) {
+        disorder(maker.random, &mut table);
     }
     let mut input = Input::new(call, width, words_of(&table, width), fence_after);
     (input.rule, input.id) = (new.record(width), new.id);

@@ -1,8 +1,9 @@
 // Makes a failing input smaller as long as it still fails: two words for five, edition 1.3 for another, a counted table for an uncounted
-// one, fewer slots, zeroed slots, fewer bits, smaller numbers.
+// one, no list or the table's own, fewer slots, zeroed slots, fewer bits, smaller numbers.
 // Each change is tried in turn and kept if the input still fails; rounds go on until one keeps nothing.
 
 use crate::input::{Call, Input};
+use crate::lists::right_list;
 use reference::bits::WIDTHS;
 use reference::given::{EDITION_10, EDITION_13};
 use reference::table::record_words;
@@ -23,6 +24,7 @@ pub fn shrink(input: Input, fails: impl Fn(&Input) -> bool) -> Input {
         shrinker.keep(narrow);
         shrinker.plain_edition();
         shrinker.lessen(|input| u64::from(input.uncounted), |input, number| input.uncounted = number as u32);
+        shrinker.plain_list();
         shrinker.drop_slots();
         shrinker.zero_slots();
         shrinker.drop_plan_words();
@@ -59,6 +61,14 @@ impl<F: Fn(&Input) -> bool> Shrinker<F> {
         }
     }
 
+    /// No list, or the table's own if it fails so too.
+    fn plain_list(&mut self) {
+        if !self.keep(|smaller| smaller.list = None) && self.input.list.is_some() {
+            self.keep(|smaller| smaller.list = right_list(smaller).or(smaller.list.take()));
+        }
+        self.lessen(|input| u64::from(input.list_left_out), |input, number| input.list_left_out = number as u32);
+    }
+
     fn slot_words(&self) -> usize {
         record_words(words_of_a_value(&self.input))
     }
@@ -67,7 +77,8 @@ impl<F: Fn(&Input) -> bool> Shrinker<F> {
         self.input.table.len() / self.slot_words()
     }
 
-    /// Blocks of slots, large ones first; a plan's slot numbers and the slots that an image tells follow, or stay if that fails.
+    /// Blocks of slots, large ones first; the slot numbers of a plan and of a list and the slots that an image tells follow, or stay if
+    /// that fails.
     fn drop_slots(&mut self) {
         let mut block = self.slots().div_ceil(2);
         while block > 0 {
@@ -78,6 +89,7 @@ impl<F: Fn(&Input) -> bool> Shrinker<F> {
                 let dropped = self.keep(|smaller| {
                     smaller.table.drain(words.clone());
                     smaller.plan.iter_mut().for_each(|word| *word = without_slots(*word, first, block, slots));
+                    drop_listed(&mut smaller.list, first, block, slots);
                     if let Some(count) = smaller.image.get_mut(..2) {
                         count.copy_from_slice(&((slots - block) as u16).to_be_bytes());
                     }
@@ -148,6 +160,10 @@ impl<F: Fn(&Input) -> bool> Shrinker<F> {
         for place in 0..self.input.rule.len() {
             self.lessen(|input| input.rule[place], |input, word| input.rule[place] = word);
         }
+        for place in 0..self.input.list.as_ref().map_or(0, |list| list.len()) {
+            let get = |input: &Input| input.list.as_ref().map_or(0, |list| u64::from(list[place]));
+            self.lessen(get, |input, number| input.list.iter_mut().for_each(|list| list[place] = number as u16));
+        }
         self.lessen(|input| u64::from(input.id), |input, number| input.id = number as u32);
         self.lessen(|input| u64::from(input.slot), |input, number| input.slot = number as u32);
         self.lessen(|input| input.room as u64, |input, number| input.room = number as usize);
@@ -170,10 +186,27 @@ fn smaller_numbers(number: u64) -> Vec<u64> {
     list
 }
 
-/// A plan word that means the same in a table that lacks `count` slots from `first` on.
+/// A slot's number in a table that lacks `count` slots from `first` on.
+fn moved(number: u32, first: usize, count: usize, slots: usize) -> u32 {
+    if (first + count..slots).contains(&(number as usize)) {
+        number - count as u32
+    } else {
+        number
+    }
+}
+
+/// A plan word that means the same in such a table.
 fn without_slots(word: u32, first: usize, count: usize, slots: usize) -> u32 {
-    let moved = |number: u32| if (first + count..slots).contains(&(number as usize)) { number - count as u32 } else { number };
-    moved(word / 65_536) * 65_536 + moved(word % 65_536)
+    moved(word / 65_536, first, count, slots) * 65_536 + moved(word % 65_536, first, count, slots)
+}
+
+/// The list without the numbers of these slots, where it has them; the others name the same slots.
+fn drop_listed(list: &mut Option<Vec<u16>>, first: usize, count: usize, slots: usize) {
+    let Some(list) = list else { return };
+    if 2 * (first + count) <= list.len() {
+        list.drain(2 * first..2 * (first + count));
+    }
+    list.iter_mut().for_each(|number| *number = moved(u32::from(*number), first, count, slots) as u16);
 }
 
 /// The words of a value by which records are told apart; where no table has the width told, five: two such records are also one of these.

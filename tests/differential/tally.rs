@@ -9,10 +9,13 @@ use crate::covered::{self, COVERED, UNCOVERED};
 use crate::exact::OTHER_EDITIONS;
 use crate::input::{Call, Input};
 use crate::largest::{LAST, LONG};
+use crate::lists::right_list;
+use crate::neighbours::{change_kinds, list_misfit, of_list, stale_kinds, table_kinds, wanted_of_lists, with_list};
 use reference::bits::{Bits, WIDTHS};
 use reference::carry::{fits, Carried};
 use reference::given::{Given, EDITION_10, EDITION_13};
 use reference::image::image_bytes;
+use reference::listed::{list_numbers, ListedCarried, ListedPlan};
 use reference::plan::{Planned, EMPTYING, PUT_IN};
 use reference::table::{
     read_slots, record_words, rule_of, Refusal, Rule, CROSSED, EDITION, EXACT_RANK, FULL, IMAGE, KNOWN, ORDER, RECORD, RULE,
@@ -81,6 +84,7 @@ fn wanted() -> Vec<(Call, String)> {
     wanted.extend(wanted_of_uncounted());
     wanted.extend(wanted_of_large());
     wanted.extend(wanted_of_largest());
+    wanted.extend(wanted_of_lists());
     wanted
 }
 
@@ -535,6 +539,59 @@ impl Tally {
         };
         if let Some(apart) = apart {
             self.add(Call::CarryOut, apart);
+        }
+    }
+
+    /// The planning of an insert with a list.
+    pub fn listed_plan(&mut self, input: &Input, answer: &Result<ListedPlan, Refusal>) {
+        let call = Call::PlanInsert;
+        match answer {
+            Ok(ListedPlan { planned, refreshed }) => self.listed(call, plan_kind(input, &planned.writes), input, *refreshed),
+            Err(refusal) => self.listed_refusal(call, input, *refusal),
+        }
+    }
+
+    /// A write with a list, and the list that it leaves.
+    pub fn listed_write(&mut self, input: &Input, answer: &Result<ListedCarried, Refusal>, after: &[u16]) {
+        let call = Call::CarryOut;
+        let refreshed = match answer {
+            Ok(ListedCarried::Wrote { refreshed }) => *refreshed,
+            Ok(ListedCarried::Finished) => return self.count(call, &with_list("finished", None)),
+            Err(refusal) => return self.listed_refusal(call, input, *refusal),
+        };
+        let write = input.plan[input.done as usize];
+        let kind = match write / 65_536 {
+            PUT_IN => "put in",
+            EMPTYING => "emptied",
+            _ => "copied",
+        };
+        self.listed(call, kind, input, refreshed);
+        let before = right_list(input).expect("a written table passes checks 1 and 2");
+        for kind in table_kinds(input).into_iter().chain(change_kinds(&before, after, write as usize % 65_536)) {
+            self.count(call, kind);
+        }
+    }
+
+    fn listed(&mut self, call: Call, kind: &str, input: &Input, refreshed: bool) {
+        let kind = with_list(kind, Some(refreshed));
+        self.count(call, &kind);
+        self.count(call, of_list(Some(refreshed)));
+        if self.uncounted {
+            self.add(call, uncounted(&kind));
+        }
+        let stale = if refreshed { stale_kinds(input) } else { Vec::new() };
+        for kind in stale {
+            self.count(call, kind);
+        }
+    }
+
+    fn listed_refusal(&mut self, call: Call, input: &Input, refusal: Refusal) {
+        self.count(call, &with_list(&refusal.number.to_string(), None));
+        let wanted = list_numbers(self.slots);
+        let lent = input.list.as_ref().map_or(wanted, |list| list.len());
+        let is_by_list = refusal.number == SHAPE && misfit(call, input).starts_with("1 rule words") && lent != wanted;
+        if is_by_list && input.rule.len() == record_words(input.width) {
+            self.add(call, list_misfit(wanted, lent));
         }
     }
 

@@ -5,10 +5,12 @@ use crate::shortest::shortest_sequence;
 use crate::tables::{place_of, Both, New};
 use reference::bits::{Bits, WIDTHS};
 use reference::carry::{fits, Progress};
+use reference::listed::{neighbour_list, ListedPlan};
 use reference::lookup::is_promised;
 use reference::plan::{replaced_slot, write_word, Planned, PUT_IN};
-use reference::table::{check_ids_and_order, first_out_of_order, words_of, Rule, Slot};
+use reference::table::{check_ids_and_order, first_out_of_order, record_words, words_of, Rule, Slot};
 use std::collections::BTreeMap;
+use support::calls::{carry_out_listed, plan_insert_listed};
 
 #[derive(Default)]
 pub struct Counts {
@@ -51,8 +53,11 @@ pub fn check_table(tables: &Both<Vec<Slot>>, new_rules: &[New], uncounted: bool,
     counts.tables += 1;
     let words = [0, 1].map(|at| words_of(&tables[at], WIDTHS[at]));
     let keys = every_key(WIDTHS[at], new_rules[0].bits);
-    let asked = Asked { slots: &tables[at], words: &words[at], at, uncounted, keys };
-    for new in new_rules {
+    let list = neighbour_list(&tables[at], uncounted);
+    let asked = Asked { slots: &tables[at], words: &words[at], at, uncounted, keys, list };
+    let mut before_last = asked.start();
+    for (place, new) in new_rules.iter().enumerate() {
+        let turn = counts.tables as usize + place;
         let replaced = replaced_slot(asked.slots, &new.rules[at], uncounted);
         let is_planned = asked.has_empty_slot() || replaced.is_some();
         let (width, room) = (WIDTHS[at], asked.slots.len());
@@ -74,10 +79,34 @@ pub fn check_table(tables: &Both<Vec<Slot>>, new_rules: &[New], uncounted: bool,
                     Some(slot) => asked.check_replacement(new, slot, &planned.writes, counts),
                     None => asked.check_plan(new, &planned.writes, counts),
                 };
-                checked.and_then(|()| asked.check_cover(new, &planned, counts))
+                checked
+                    .and_then(|()| asked.check_cover(new, &planned, counts))
+                    .and_then(|()| asked.check_lists(new, &planned, &mut before_last, turn))
             }
         };
         checked.unwrap_or_else(|what| asked.fail(new, &what));
+    }
+}
+
+/// One insert of so many is planned with a list too; the number is even.
+const PLANNED_WITH_LIST: usize = 16;
+
+/// A table after so many copies of a plan, and its list, as the library has left them.
+struct Carried {
+    copies: Vec<u32>,
+    slots: Vec<Slot>,
+    words: Vec<u64>,
+    list: Vec<u16>,
+}
+
+impl Carried {
+    /// The words of a slot as they were: a put-in goes to an empty slot, or to one whose rule `slots` has still.
+    fn take_back(&mut self, slot: usize, width: usize) {
+        let words = &mut self.words[slot * record_words(width)..][..record_words(width)];
+        match self.slots[slot] {
+            Some(rule) => words.copy_from_slice(&rule.record(width)),
+            None => words.fill(0),
+        }
     }
 }
 
@@ -105,6 +134,7 @@ struct Asked<'a> {
     at: usize,
     uncounted: bool,
     keys: Vec<Bits>,
+    list: Vec<u16>,
 }
 
 impl Asked<'_> {
@@ -185,6 +215,68 @@ impl Asked<'_> {
             if !self.uncounted && slots.contains(&Some(covering)) && self.keys.iter().any(is_answered) {
                 return Err(format!("a key is answered by the new rule, which slot {:?} covers", planned.covered));
             }
+        }
+        Ok(())
+    }
+
+    /// The plan carried out by the library with a list. Its copies are made again only where they are others than those of the plan before,
+    /// from which `before` is left; the last write of every other plan is made and taken back. Some inserts are planned with a list too,
+    /// and the table that they leave is compared.
+    fn check_lists(&self, new: &New, planned: &Planned, before: &mut Carried, turn: usize) -> Result<(), String> {
+        let is_planned = turn % PLANNED_WITH_LIST == 0;
+        if is_planned {
+            self.check_listed_plan(new, planned, turn / PLANNED_WITH_LIST)?;
+        }
+        let copies = planned.writes.len() - 1;
+        if before.copies != planned.writes[..copies] {
+            *before = self.start();
+            (0..copies).try_for_each(|done| self.write_with_list(new, &planned.writes, done, before))?;
+            before.copies = planned.writes[..copies].to_vec();
+        }
+        if turn % 2 == 1 {
+            return Ok(());
+        }
+        let to = planned.writes[copies] as usize % 65_536;
+        let (slot, list) = (before.slots[to], before.list.clone());
+        self.write_with_list(new, &planned.writes, copies, before)?;
+        if is_planned && before.words != words_of(&before.slots, WIDTHS[self.at]) {
+            return Err("with a list the library carries the plan out in another way".to_string());
+        }
+        (before.slots[to], before.list) = (slot, list);
+        before.take_back(to, WIDTHS[self.at]);
+        Ok(())
+    }
+
+    /// The table as it is before a plan.
+    fn start(&self) -> Carried {
+        let (slots, words) = (self.slots.to_vec(), self.words.to_vec());
+        Carried { copies: Vec::new(), slots, words, list: self.list.clone() }
+    }
+
+    /// One write with a list: the list is right before it, and that of the table after it, worked out from the whole of it.
+    fn write_with_list(&self, new: &New, plan: &[u32], done: usize, carried: &mut Carried) -> Result<(), String> {
+        let (width, record) = (WIDTHS[self.at], &new.records[self.at]);
+        let Carried { slots, words, list, .. } = carried;
+        let mut progress = Progress { done: done as u32, total: plan.len() as u32 };
+        make(slots, plan[done], new.rules[self.at]);
+        let told = carry_out_listed(words, width, self.uncounted, record, new.edition, list, plan, &mut progress);
+        if told != (0, Some(false)) || *list != neighbour_list(slots, self.uncounted) {
+            return Err(format!("{told:?} and the list {list:?} after {} writes of {plan:x?}", progress.done));
+        }
+        Ok(())
+    }
+
+    /// The plan is the same with a list, and the list is that of the table then.
+    fn check_listed_plan(&self, new: &New, planned: &Planned, turn: usize) -> Result<(), String> {
+        let (mut list, wrong) = (self.list.clone(), turn % (2 * self.list.len()));
+        let refreshed = wrong < list.len();
+        if refreshed {
+            list[wrong] ^= 1;
+        }
+        let record = &new.records[self.at];
+        let listed = plan_insert_listed(self.words, WIDTHS[self.at], self.uncounted, record, new.edition, &mut list);
+        if listed != Ok(ListedPlan { planned: planned.clone(), refreshed }) || list != self.list {
+            return Err(format!("with a list the library says {listed:x?} and leaves {list:?}"));
         }
         Ok(())
     }

@@ -3,13 +3,17 @@
 // Counted: all tables of up to four slots over two bits and four priorities, all of up to three with exact rules under both editions, and
 // seeded tables of five and six over three bits. Uncounted, where the class keeps the looser order, with two actions: all tables of up to
 // three slots and three priorities, all of four with two priorities and an empty slot, all of up to two with exact rules, and seeded ones.
-// An insert that replaces a rule is none of the class: it is checked by itself.
+// An insert that replaces a rule is none of the class: it is checked by itself. Plans are also carried out with a neighbour list, which is
+// compared with a fresh one after each copy, and after the last write of every other plan; and so is every write on every table of up to
+// three slots over one bit, in order or not, with ids in several slots.
 
 mod asked;
+mod disordered;
 mod shortest;
 mod tables;
 
 use crate::asked::{check_table, Counts};
+use crate::disordered::{check_disordered, Writes};
 use crate::tables::{each_table, seeded_rules, seeded_tables, New, Others, Space};
 use reference::given::{EDITION_10, EDITION_13};
 use reference::table::{COUNTED, UNCOUNTED};
@@ -23,6 +27,7 @@ fn main() {
     let start = Instant::now();
     check_counted();
     check_uncounted();
+    check_lists_of_disordered();
     println!("exhaustive: {} s", start.elapsed().as_secs());
 }
 
@@ -69,6 +74,21 @@ fn check_uncounted() {
     );
     assert_eq!(counts.sums(), (1_671, 22_956, 7_360, 2_346));
     check_seeded(UNCOUNTED).print("uncounted, three actions: seeded tables of five and six slots over three bits");
+}
+
+/// Every write with a list on tables of which planning declines many; the sums are of all there are.
+fn check_lists_of_disordered() {
+    let kinds = [
+        ("every table of one to three slots", COUNTED, (2_379, 92_634, 38_900)),
+        ("uncounted, two actions: every table of one to three slots", UNCOUNTED, (16_275, 657_210, 256_340)),
+    ];
+    for (what, uncounted, sums) in kinds {
+        let mut all = Writes::default();
+        (1..=3).for_each(|slots| check_disordered(slots, uncounted, &mut all));
+        println!("exhaustive: {what} over one bit, in order or not, ids in several slots: {} tables", all.tables);
+        println!("  writes with a list: {} made, {} declined", all.made, all.declined);
+        assert_eq!((all.tables, all.made, all.declined), sums);
+    }
 }
 
 /// Every table of a space, with every new rule under each of the editions.

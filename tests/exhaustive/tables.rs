@@ -80,14 +80,14 @@ pub fn place_of(width: usize, bit: usize, bits: usize) -> Bits {
 }
 
 /// What a rule is made of; the pattern's digits to base 3 say 0, 1 or uncared for at each of the bits.
-struct Parts {
-    id: u32,
-    rank: u64,
-    pattern: usize,
-    action: u32,
+pub struct Parts {
+    pub id: u32,
+    pub rank: u64,
+    pub pattern: usize,
+    pub action: u32,
 }
 
-fn rules_of(Parts { id, rank, pattern, action }: Parts, bits: usize, others: Others) -> Both<Rule> {
+pub fn rules_of(Parts { id, rank, pattern, action }: Parts, bits: usize, others: Others) -> Both<Rule> {
     WIDTHS.map(|width| {
         let mut rule = Rule { id, rank, value: Bits::NONE, mask: Bits::NONE, action };
         let mut told = Bits::NONE;

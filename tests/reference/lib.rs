@@ -6,6 +6,7 @@ pub mod carry;
 pub mod cover;
 pub mod given;
 pub mod image;
+pub mod listed;
 pub mod lookup;
 pub mod plan;
 pub mod script;
@@ -19,6 +20,8 @@ mod edge_test;
 mod editions_test;
 #[cfg(test)]
 mod image_test;
+#[cfg(test)]
+mod listed_test;
 #[cfg(test)]
 mod replacement_test;
 #[cfg(test)]

@@ -2,6 +2,7 @@
 // Beside them stand plain forms of the planning of inserts and of carrying out, for programs that need no guarded buffers.
 
 use reference::carry::Progress;
+use reference::listed::ListedPlan;
 use reference::plan::Planned;
 use reference::table::{record_words, Refusal};
 
@@ -11,7 +12,7 @@ pub struct ProgressRecord {
     pub total: u32,
 }
 
-// Laid out by hand: a line for the table, one for the rule or the key, one for what the call fills in.
+// Laid out by hand: a line for the table, one for the rule or the key and the list, one for what the call fills in.
 #[rustfmt::skip]
 extern "C" {
     pub fn tcam_lookup(
@@ -33,6 +34,16 @@ extern "C" {
         table: *mut u64, words: usize, width: u32,
         rule: *const u64, rule_words: usize, edition: u32,
         plan: *const u32, plan_words: usize, progress: *mut ProgressRecord,
+    ) -> u64;
+    pub fn tcam_plan_insert_listed(
+        table: *const u64, words: usize, width: u32, uncounted: u32,
+        rule: *const u64, rule_words: usize, edition: u32, list: *mut u16, list_numbers: usize,
+        plan: *mut u32, plan_words: usize, count: *mut u32, covered: *mut u32, refreshed: *mut u32, spot: *mut u32,
+    ) -> u32;
+    pub fn tcam_carry_out_listed(
+        table: *mut u64, words: usize, width: u32, uncounted: u32,
+        rule: *const u64, rule_words: usize, edition: u32, list: *mut u16, list_numbers: usize,
+        plan: *const u32, plan_words: usize, progress: *mut ProgressRecord, refreshed: *mut u32,
     ) -> u64;
     pub fn tcam_save(
         table: *const u64, words: usize, width: u32, uncounted: u32,
@@ -75,4 +86,74 @@ pub fn carry_out(table: &mut [u64], width: usize, rule: &[u64], edition: u32, pl
     };
     *progress = Progress { done: record.done, total: record.total };
     result
+}
+
+/// What the library tells of the same insert with a list.
+pub fn plan_insert_listed(
+    table: &[u64],
+    width: usize,
+    uncounted: bool,
+    rule: &[u64],
+    edition: u32,
+    list: &mut [u16],
+) -> Result<ListedPlan, Refusal> {
+    let mut plan = vec![0; table.len() / record_words(width)];
+    let (mut count, mut covered, mut refreshed, mut spot) = (0, 0, 2, 0);
+    let cells = (&mut count, &mut covered, &mut refreshed, &mut spot);
+    let number = unsafe {
+        let (words, rule_words, numbers, room) = (table.len(), rule.len(), list.len(), plan.len());
+        let (table, rule, list, plan) = (table.as_ptr(), rule.as_ptr(), list.as_mut_ptr(), plan.as_mut_ptr());
+        let (width, flag) = (width as u32, u32::from(uncounted));
+        tcam_plan_insert_listed(
+            table, words, width, flag, rule, rule_words, edition, list, numbers, plan, room, cells.0, cells.1, cells.2, cells.3,
+        )
+    };
+    if number != 0 {
+        return Err(Refusal { number, spot: u64::from(spot) });
+    }
+    plan.truncate(count as usize);
+    let planned = Planned { writes: plan, covered: (covered != NONE).then_some(covered as usize) };
+    Ok(ListedPlan { planned, refreshed: flag_of(refreshed) })
+}
+
+fn flag_of(refreshed: u32) -> bool {
+    assert!(refreshed < 2, "whether a list was refreshed is told as 0 or 1, not as {refreshed}");
+    refreshed == 1
+}
+
+/// One write with a list: the result, and whether the list was refreshed, where the call tells it.
+pub fn carry_out_listed(
+    table: &mut [u64],
+    width: usize,
+    uncounted: bool,
+    rule: &[u64],
+    edition: u32,
+    list: &mut [u16],
+    plan: &[u32],
+    progress: &mut Progress,
+) -> (u64, Option<bool>) {
+    let mut record = ProgressRecord { done: progress.done, total: progress.total };
+    let mut refreshed = u32::MAX;
+    let result = unsafe {
+        let (words, rule_words, numbers, plan_words) = (table.len(), rule.len(), list.len(), plan.len());
+        let (table, rule, list, plan) = (table.as_mut_ptr(), rule.as_ptr(), list.as_mut_ptr(), plan.as_ptr());
+        let (width, flag) = (width as u32, u32::from(uncounted));
+        tcam_carry_out_listed(
+            table,
+            words,
+            width,
+            flag,
+            rule,
+            rule_words,
+            edition,
+            list,
+            numbers,
+            plan,
+            plan_words,
+            &mut record,
+            &mut refreshed,
+        )
+    };
+    *progress = Progress { done: record.done, total: record.total };
+    (result, (refreshed != u32::MAX).then(|| flag_of(refreshed)))
 }

@@ -26,6 +26,10 @@ stepTold (Wrote info) = success (info .done ∷ [])
 stepTold Finished = success []
 stepTold (Refused cause spot) = refusal cause spot
 
+-- the writes done after an answer: those that a write tells, or as many as before
+abbrev pub doneTold : Told → ℕ → ℕ
+doneTold told before = cond (eqb (told .number) 0) (getD (told .values) 0 before) before
+
 -- 1, 2; then 12 if done > in all or in all > the plan's words
 unfoldable pub progressChecks : ℕ → List ℕ → ℕ → ℕ → ℕ → Check
 progressChecks w t words done total = orElse (slotChecks w t) (cond (leb done total && leb total words) Pass (Fail WriteCause done))

@@ -33,7 +33,7 @@ use Rattle.records.specs.declared.Check.the-variants.{Pass, Fail}
 use Rattle.records.specs.WritesLaws.{fits-below}
 use Rattle.carrying.specs.declared.StepAnswer.{StepAnswer}
 use Rattle.carrying.specs.declared.StepAnswer.the-variants.{Wrote, Finished, Refused}
-use Rattle.carrying.specs.Carrying.{stepTold, progressChecks, putChecks, overEqual, fitsCarried, writtenSlot, takesRule, needsNoRoom, writeChecks, stepAnswer, stepWrites, stepTable, stepDone}
+use Rattle.carrying.specs.Carrying.{stepTold, doneTold, progressChecks, putChecks, overEqual, fitsCarried, writtenSlot, takesRule, needsNoRoom, writeChecks, stepAnswer, stepWrites, stepTable, stepDone}
 use Rattle.carrying.specs.Carrying.{stepCall, stepCallTable, stepCallDone}
 use Rattle.carrying.specs.Steps.{StepEnds, Tells}
 
@@ -197,10 +197,7 @@ step-told-once (Refused c s) Finished e = absurd (true≢false (ap (λ (t : Told
 step-told-once (Refused c s) (Refused d u) e =
     ap₂ Refused (cause-number-once c d (ap (λ (t : Told). t .number) e)) (ap (λ (t : Told). getD (t .values) 0 0) e)
 
--- the writes done after an answer: those that a write tells, or as many as before
-abbrev pub doneTold : Told → ℕ → ℕ
-doneTold told before = cond (eqb (told .number) 0) (getD (told .values) 0 before) before
-
+-- the writes done that an answer tells: of a refusal as many as before
 pub done-refused : (cause : Cause) (spot before : ℕ) → doneTold (refusal cause spot) before ≡ before
 done-refused cause spot before = rw (cause-not-zero cause)
 

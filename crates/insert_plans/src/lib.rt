@@ -306,10 +306,10 @@ fn plan_listed(
 // The plan of an insert at a width that there is, its rule lent as a record. Where there is a plan, the table's neighbour list is in the front of the lent one.
 fn insert_near(
     table: &[u64],
-    rule: &[u64],
-    edition: u32,
     near: &mut [u16],
     plan: &mut [u32],
+    rule: &[u64],
+    edition: u32,
     mode: Mode,
 ) -> InsertAnswer
     requires { ⌜ (Width (mode .width)) × (length (now rule) ≡ recordWords (mode .width)) × (2 * mostSlots ≤ length (now near)) ⌝ }
@@ -337,7 +337,7 @@ fn insert_at(
     ensures { λ _. ⌜ now (plan .exit) ≡ insertPlan (mode .width) (mode .uncounted) (now (table .entry)) (lentRule (mode .width) edition (now (rule .entry))) (now (plan .entry)) ⌝ }
 {
     let mut near = [0u16; LIST_NUMBERS];
-    insert_near(table, rule, edition, &mut near, plan, mode)
+    insert_near(table, &mut near, plan, rule, edition, mode)
 }
 
 // The shortest plan of an insert, or a refusal that leaves the buffer as it was.
@@ -377,7 +377,7 @@ fn insert_listed_at(
         (listOf (mode .width) (mode .uncounted) (now (table .entry))) (now (list .entry)) ⌝ }
 {
     let mut near = [0u16; LIST_NUMBERS];
-    match insert_near(table, rule, edition, &mut near, plan, mode) {
+    match insert_near(table, &mut near, plan, rule, edition, mode) {
         InsertAnswer::Planned(info) => ListedAnswer::Planned(ListedInfo {
             count: info.count,
             covered: info.covered,

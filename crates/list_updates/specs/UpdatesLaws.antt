@@ -125,32 +125,29 @@ module _ (n : ℕ) (few : n ≤ 1024) (up : Bool) (m g : ℕ) (end : m ≤ n) (w
 
 -- a write to slot g of a table that was another before
 module _ (w : ℕ) (u : Bool) (t : List ℕ) (up : Bool) (g : ℕ) (few : slots w t ≤ 1024) (within : g < slots w t) (old : List ℕ) (before : BeforeWrite w t g old) where
-  abbrev n : ℕ
-  n = slots w t
-
   -- the first position after slot i's at which a slot bounds it
   abbrev first : List ℕ → ℕ → ℕ
-  first table i = least (λ (k : ℕ). boundedBy w u table up i (slotAt n up k)) (n - suc (slotAt n up i)) (suc (slotAt n up i))
+  first table i = least (λ (k : ℕ). boundedBy w u table up i (slotAt (slots w t) up k)) (slots w t - suc (slotAt (slots w t) up i)) (suc (slotAt (slots w t) up i))
 
-  first-end : (table : List ℕ) (i : ℕ) → i < n → first table i ≤ n
+  first-end : (table : List ℕ) (i : ℕ) → i < slots w t → first table i ≤ slots w t
   first-end table i at =
-      let below = slot-below n up i at in
-      let law = least-law (λ (k : ℕ). boundedBy w u table up i (slotAt n up k)) (n - suc (slotAt n up i)) (suc (slotAt n up i)) in
+      let below = slot-below (slots w t) up i at in
+      let law = least-law (λ (k : ℕ). boundedBy w u table up i (slotAt (slots w t) up k)) (slots w t - suc (slotAt (slots w t) up i)) (suc (slotAt (slots w t) up i)) in
       let high = law .high in
       omega arith
 
-  now-first : (i : ℕ) → i < n → numberAlong w u t up i ≡ cond (ltb (first t i) n) (slotAt n up (first t i)) 65535
+  now-first : (i : ℕ) → i < slots w t → numberAlong w u t up i ≡ cond (ltb (first t i) (slots w t)) (slotAt (slots w t) up (first t i)) 65535
   unfolding foundFrom
   now-first i at = number-found w u t up i at
 
-  old-first : (i : ℕ) → i < n → numberAlong w u old up i ≡ cond (ltb (first old i) n) (slotAt n up (first old i)) 65535
+  old-first : (i : ℕ) → i < slots w t → numberAlong w u old up i ≡ cond (ltb (first old i) (slots w t)) (slotAt (slots w t) up (first old i)) 65535
   unfolding foundFrom
   old-first i at =
       number-found w u old up i (let size = before .0 in omega arith)
       ∙ ap (λ (m : ℕ). foundFrom m up (λ (k : ℕ). boundedBy w u old up i (slotAt m up k)) (suc (slotAt m up i))) (before .0)
 
   -- two slots other than g bound each other as before
-  bounded-same : (i j : ℕ) → i < n → j < n → (i ≡ g → ⊥) → (j ≡ g → ⊥) → boundedBy w u old up i j ≡ boundedBy w u t up i j
+  bounded-same : (i j : ℕ) → i < slots w t → j < slots w t → (i ≡ g → ⊥) → (j ≡ g → ⊥) → boundedBy w u old up i j ≡ boundedBy w u t up i j
   unfolding boundedBy
   bounded-same i j a b c d = along up
     where
@@ -158,80 +155,80 @@ module _ (w : ℕ) (u : Bool) (t : List ℕ) (up : Bool) (g : ℕ) (few : slots 
       along true = precedes-cong w u (before .1 j b d) (before .1 i a c)
       along false = precedes-cong w u (before .1 i a c) (before .1 j b d)
 
-  position-same : (i : ℕ) → i < n → (i ≡ g → ⊥) → (k : ℕ) → k < n → (k ≡ slotAt n up g → ⊥)
-      → boundedBy w u old up i (slotAt n up k) ≡ boundedBy w u t up i (slotAt n up k)
+  position-same : (i : ℕ) → i < slots w t → (i ≡ g → ⊥) → (k : ℕ) → k < slots w t → (k ≡ slotAt (slots w t) up g → ⊥)
+      → boundedBy w u old up i (slotAt (slots w t) up k) ≡ boundedBy w u t up i (slotAt (slots w t) up k)
   position-same i at other k h d =
-      bounded-same i (slotAt n up k) at (slot-below n up k h) other (λ e. d (sym (slot-turns n up k h) ∙ ap (slotAt n up) e))
+      bounded-same i (slotAt (slots w t) up k) at (slot-below (slots w t) up k h) other (λ e. d (sym (slot-turns (slots w t) up k h) ∙ ap (slotAt (slots w t) up) e))
 
   -- the number of a slot past the written one stays
-  pub past-stays : (i : ℕ) → i < n → slotAt n up g < slotAt n up i → numberAlong w u old up i ≡ numberAlong w u t up i
+  pub past-stays : (i : ℕ) → i < slots w t → slotAt (slots w t) up g < slotAt (slots w t) up i → numberAlong w u old up i ≡ numberAlong w u t up i
   past-stays i at past =
       old-first i at
-      ∙ (ap (λ (m : ℕ). cond (ltb m n) (slotAt n up m) 65535)
-      (least-cong (n - suc (slotAt n up i)) (suc (slotAt n up i))
-      (λ k l h. let below = slot-below n up i at in position-same i at (λ e. omega (arith, ap (slotAt n up) e)) k (omega arith) (λ e. omega arith)))
+      ∙ (ap (λ (m : ℕ). cond (ltb m (slots w t)) (slotAt (slots w t) up m) 65535)
+      (least-cong (slots w t - suc (slotAt (slots w t) up i)) (suc (slotAt (slots w t) up i))
+      (λ k l h. let below = slot-below (slots w t) up i at in position-same i at (λ e. omega (arith, ap (slotAt (slots w t) up) e)) k (omega arith) (λ e. omega arith)))
       ∙ sym (now-first i at))
 
   -- the number of a slot that comes before the written one, which it was before the write
-  module _ (i number : ℕ) (at : i < n) (ahead : slotAt n up i < slotAt n up g) (was : number ≡ numberAlong w u old up i) where
-    told : number ≡ cond (ltb (first old i) n) (slotAt n up (first old i)) 65535
+  module _ (i number : ℕ) (at : i < slots w t) (ahead : slotAt (slots w t) up i < slotAt (slots w t) up g) (was : number ≡ numberAlong w u old up i) where
+    told : number ≡ cond (ltb (first old i) (slots w t)) (slotAt (slots w t) up (first old i)) 65535
     told = was ∙ old-first i at
 
-    same : (k : ℕ) → k < n → (k ≡ slotAt n up g → ⊥) → boundedBy w u old up i (slotAt n up k) ≡ boundedBy w u t up i (slotAt n up k)
-    same = position-same i at (λ e. omega (arith, ap (slotAt n up) e))
+    same : (k : ℕ) → k < slots w t → (k ≡ slotAt (slots w t) up g → ⊥) → boundedBy w u old up i (slotAt (slots w t) up k) ≡ boundedBy w u t up i (slotAt (slots w t) up k)
+    same = position-same i at (λ e. omega (arith, ap (slotAt (slots w t) up) e))
 
     abbrev p : ℕ → Bool
-    p k = boundedBy w u old up i (slotAt n up k)
+    p k = boundedBy w u old up i (slotAt (slots w t) up k)
 
     abbrev q : ℕ → Bool
-    q k = boundedBy w u t up i (slotAt n up k)
+    q k = boundedBy w u t up i (slotAt (slots w t) up k)
 
-    below : slotAt n up g < n
-    below = slot-below n up g within
+    below : slotAt (slots w t) up g < slots w t
+    below = slot-below (slots w t) up g within
 
     -- that it is the one found at this position now
-    becomes : {m : ℕ} → first t i ≡ m → cond (ltb m n) (slotAt n up m) 65535 ≡ numberAlong w u t up i
-    becomes {m} e = sym (now-first i at ∙ ap (λ (k : ℕ). cond (ltb k n) (slotAt n up k) 65535) e)
+    becomes : {m : ℕ} → first t i ≡ m → cond (ltb m (slots w t)) (slotAt (slots w t) up m) 65535 ≡ numberAlong w u t up i
+    becomes {m} e = sym (now-first i at ∙ ap (λ (k : ℕ). cond (ltb k (slots w t)) (slotAt (slots w t) up k) 65535) e)
 
-    unbounded : boundedBy w u t up i g ≡ false → q (slotAt n up g) ≡ false
-    unbounded f = ap (boundedBy w u t up i) (slot-turns n up g within) ∙ f
+    unbounded : boundedBy w u t up i g ≡ false → q (slotAt (slots w t) up g) ≡ false
+    unbounded f = ap (boundedBy w u t up i) (slot-turns (slots w t) up g within) ∙ f
 
-    reached : reachesSlot up number g ≡ true → slotAt n up g ≤ first old i
-    reached e = by (decLt (first old i) (slotAt n up g))
+    reached : reachesSlot up number g ≡ true → slotAt (slots w t) up g ≤ first old i
+    reached e = by (decLt (first old i) (slotAt (slots w t) up g))
       where
-        by : Dec (first old i < slotAt n up g) → slotAt n up g ≤ first old i
+        by : Dec (first old i < slotAt (slots w t) up g) → slotAt (slots w t) up g ≤ first old i
         by (yes l) =
-            absurd (false≢true (sym (reach-no n few up (first old i) g (first-end old i at) within l) ∙ (ap (λ (k : ℕ). reachesSlot up k g) (sym told) ∙ e)))
+            absurd (false≢true (sym (reach-no (slots w t) few up (first old i) g (first-end old i at) within l) ∙ (ap (λ (k : ℕ). reachesSlot up k g) (sym told) ∙ e)))
         by (no l) = omega arith
 
     -- it does not reach the written slot
     pub number-short : reachesSlot up number g ≡ false → number ≡ numberAlong w u t up i
-    number-short e = by (decLt (first old i) (slotAt n up g))
+    number-short e = by (decLt (first old i) (slotAt (slots w t) up g))
       where
-        by : Dec (first old i < slotAt n up g) → number ≡ numberAlong w u t up i
-        by (yes l) = told ∙ becomes (first-stays p q n (suc (slotAt n up i)) (slotAt n up g) ahead below same l)
+        by : Dec (first old i < slotAt (slots w t) up g) → number ≡ numberAlong w u t up i
+        by (yes l) = told ∙ becomes (first-stays p q (slots w t) (suc (slotAt (slots w t) up i)) (slotAt (slots w t) up g) ahead below same l)
         by (no l) =
-            absurd (true≢false (sym (reach-yes n few up (first old i) g (first-end old i at) within (omega arith)) ∙ (ap (λ (k : ℕ). reachesSlot up k g) (sym told) ∙ e)))
+            absurd (true≢false (sym (reach-yes (slots w t) few up (first old i) g (first-end old i at) within (omega arith)) ∙ (ap (λ (k : ℕ). reachesSlot up k g) (sym told) ∙ e)))
 
     -- it reaches it, and the written slot bounds slot i now
     pub number-written : reachesSlot up number g ≡ true → boundedBy w u t up i g ≡ true → g ≡ numberAlong w u t up i
     number-written e b =
-        let here = first-here p q n (suc (slotAt n up i)) (slotAt n up g) ahead below same (reached e) (ap (boundedBy w u t up i) (slot-turns n up g within) ∙ b) in
-        sym (number-at n few up (slotAt n up g) g (omega (arith, below)) within refl) ∙ becomes here
+        let here = first-here p q (slots w t) (suc (slotAt (slots w t) up i)) (slotAt (slots w t) up g) ahead below same (reached e) (ap (boundedBy w u t up i) (slot-turns (slots w t) up g within) ∙ b) in
+        sym (number-at (slots w t) few up (slotAt (slots w t) up g) g (omega (arith, below)) within refl) ∙ becomes here
 
     -- it was the written slot, which bounds slot i no more: the next one is searched
-    pub number-searched : number ≡ g → boundedBy w u t up i g ≡ false → nearestFrom w u t up i (suc (slotAt n up g)) ≡ numberAlong w u t up i
+    pub number-searched : number ≡ g → boundedBy w u t up i g ≡ false → nearestFrom w u t up i (suc (slotAt (slots w t) up g)) ≡ numberAlong w u t up i
     unfolding foundFrom
     number-searched e f =
-        let is = number-is n few up (first old i) g (first-end old i at) within (sym told ∙ e) in
-        becomes (first-after p q n (suc (slotAt n up i)) (slotAt n up g) ahead below same (omega (arith, is)) (unbounded f))
+        let is = number-is (slots w t) few up (first old i) g (first-end old i at) within (sym told ∙ e) in
+        becomes (first-after p q (slots w t) (suc (slotAt (slots w t) up i)) (slotAt (slots w t) up g) ahead below same (omega (arith, is)) (unbounded f))
 
     -- it lies past the written slot, which does not bound slot i
     pub number-kept : reachesSlot up number g ≡ true → (number ≡ g → ⊥) → boundedBy w u t up i g ≡ false → number ≡ numberAlong w u t up i
     number-kept e d f =
         let far = reached e in
-        let past : slotAt n up g < first old i = at-most (λ h. d (told ∙ number-at n few up (first old i) g (first-end old i at) within h)) far in
-        told ∙ becomes (first-past p q n (suc (slotAt n up i)) (slotAt n up g) ahead below same past (unbounded f))
+        let past : slotAt (slots w t) up g < first old i = at-most (λ h. d (told ∙ number-at (slots w t) few up (first old i) g (first-end old i at) within h)) far in
+        told ∙ becomes (first-past p q (slots w t) (suc (slotAt (slots w t) up i)) (slotAt (slots w t) up g) ahead below same past (unbounded f))
       where
         at-most : {a b : ℕ} → (a ≡ b → ⊥) → b ≤ a → b < a
         at-most d l = omega arith

@@ -30,9 +30,9 @@ use Rattle.records.specs.declared.Check.{Check}
 use Rattle.records.specs.declared.Check.the-variants.{Pass, Fail}
 use Rattle.buffers.specs.Buffers.{flagNumber}
 use Rattle.neighbour_lists.specs.Lists.{listNumbers, listOf, staleList}
-use Rattle.carrying.specs.Carrying.{stepTold, progressChecks, writtenSlot, putChecks, stepAnswer, stepWrites, stepTable, stepDone}
+use Rattle.carrying.specs.Carrying.{stepTold, doneTold, progressChecks, writtenSlot, putChecks, stepAnswer, stepWrites, stepTable, stepDone}
 use Rattle.carrying.specs.Steps.{Writes}
-use Rattle.carrying.specs.StepsLaws.{carried-below, doneTold, answer-done, step-moved}
+use Rattle.carrying.specs.StepsLaws.{carried-below, answer-done, step-moved}
 use Rattle.carrying.specs.declared.StepInfo.{StepInfo}
 use Rattle.carrying.specs.declared.StepAnswer.{StepAnswer}
 use Rattle.carrying.specs.declared.StepAnswer.the-variants.{Wrote}

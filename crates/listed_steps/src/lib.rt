@@ -1,4 +1,4 @@
-// Carrying a plan out with a neighbour list lent: the step of `steps`, after which the list is that of the table.
+// Carrying a plan out with a neighbour list lent: the step of `steps` with a list, after which the list is that of the table.
 // A step that declines or is finished changes nothing.
 use carrying::StepAnswer;
 use list_updates::update_list;
@@ -8,7 +8,7 @@ use records::Cause;
 use records::Check;
 use records::Mode;
 use records::check_rule;
-use steps::step::next_step;
+use step_checks::next_step;
 use writes::make_write;
 use writes::written_slot;
 ghost use mathlib.Core.Path.{_≡_};

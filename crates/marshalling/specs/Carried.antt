@@ -7,8 +7,7 @@ use Prim.Native.Nat.{ℕ, _+_, _*_, _<_}
 use lib.Dec.{eqb}
 use lib.ListN.{length, getD}
 use Rattle.records.specs.Checks.{Told}
-use Rattle.carrying.specs.Carrying.{stepCall, stepCallDone}
-use Rattle.carrying.specs.StepsLaws.{doneTold}
+use Rattle.carrying.specs.Carrying.{doneTold, stepCall, stepCallDone}
 use Rattle.listed_steps.specs.ListedSteps.{listedStep, listedStepDone}
 use Rattle.carrying.specs.declared.StepAnswer.{StepAnswer}
 use Rattle.carrying.specs.declared.StepAnswer.the-variants.{Wrote, Finished, Refused}

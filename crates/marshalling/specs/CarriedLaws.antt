@@ -17,11 +17,11 @@ use Rattle.records.specs.declared.Cause.the-variants.{Shape, Record, Twice, Ord
 use Rattle.records.specs.declared.Cause.the-variants.{Write, Line, Image, Uncrossed, Plan, Damage, Edition, Open, Session, Absent, Room}
 use Rattle.buffers.specs.Buffers.{flagNumber}
 use Rattle.neighbour_lists.specs.Lists.{listNumbers, staleList}
-use Rattle.carrying.specs.Carrying.{stepTold, stepCall, progressChecks, writeChecks, stepAnswer, stepWrites, stepDone}
+use Rattle.carrying.specs.Carrying.{stepTold, doneTold, stepCall, progressChecks, writeChecks, stepAnswer, stepWrites, stepDone}
 use Rattle.carrying.specs.declared.StepInfo.{StepInfo}
 use Rattle.carrying.specs.declared.StepAnswer.{StepAnswer}
 use Rattle.carrying.specs.declared.StepAnswer.the-variants.{Wrote, Finished, Refused}
-use Rattle.carrying.specs.StepsLaws.{doneTold, done-refused, call-done-told}
+use Rattle.carrying.specs.StepsLaws.{done-refused, call-done-told}
 use Rattle.carrying.specs.SpotsLaws.{call-spot}
 use Rattle.listed_steps.specs.ListedSteps.{listedStep, listedStepReply, listedStepDone, listedStepCell}
 use Rattle.marshalling.specs.declared.Carried.{Carried}

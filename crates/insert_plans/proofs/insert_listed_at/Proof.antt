@@ -36,7 +36,7 @@ store-list-requires c κs =
     let a = c .before .before .before .before .before .before .before .before .before .before .before .before .before .before .before .args in
     let called = c .before .before .before .before .before .before .before .before .insert-near in
     let found = called .ensures .1 .1 (ap (λ (x : InsertAnswer). insertAnswerTold x .number) (c .before .before .before .info .given .1)) in
-    omega (arith, c .before .before .before .before .before .before .before .before .before .before .before .before .before .before .before .pre .2, table-few (a .mode .width) (a .mode .uncounted) (now (a .table)) (found .0), called .kept .1 .1 .1 .0)
+    omega (arith, c .before .before .before .before .before .before .before .before .before .before .before .before .before .before .before .pre .2, table-few (a .mode .width) (a .mode .uncounted) (now (a .table)) (found .0), called .kept .1 .0)
 
 enum-known-cause : tie.Need-enum-known-cause
 enum-known-cause c = search needs
@@ -60,10 +60,10 @@ returns c =
     let planned = c .before .before .before .before .before .before .info .given .1 in
     let zero = ap (λ (x : InsertAnswer). insertAnswerTold x .number) planned in
     let found = called .ensures .1 .1 zero in
-    let near = called .last .1 .1 .1 .0 in
+    let near = called .last .1 .0 in
     let stored = c .before .before .store-list .ensures in
     let few = table-few w u t (found .0) in
-    let front = stored .0 ∙ (ap (λ (n : ℕ). take n near) size ∙ listed-front w u t near (found .1) (omega (arith, few, called .kept .1 .1 .1 .0))) in
+    let front = stored .0 ∙ (ap (λ (n : ℕ). take n near) size ∙ listed-front w u t near (found .1) (omega (arith, few, called .kept .1 .0))) in
     let stale = stored .1 ∙ (ap (differing near list) size ∙ differing-stale w u t near list (found .1)) in
     (refreshed-planned planned told stale, (called .ensures .1 .0, front ∙ ap (λ (n : ℕ). cond (eqb n 0) (listOf w u t) list) (sym zero ∙ ap (λ (x : Told). x .number) told)))
 

@@ -1,4 +1,4 @@
--- `steps::step::next_step` meets its contract.
+-- `step_checks::next_step` meets its contract.
 -- Each return is one way in which a step ends.
 use mathlib.Core.Path.{sym, _∙_}
 use native.Mathlib.Omega.{arith}
@@ -7,8 +7,8 @@ use denote.Ref.{now}
 use borrow.Author.Needs.{needs}
 use Rattle.records.specs.Editions.{lentRule}
 use Rattle.carrying.specs.StepsLaws.{step-declined, step-finished, step-unfit, step-wrote, progress-within}
-use Rattle.steps.proofs.step.next_step.Statement.{statement}
-use Rattle.steps.proofs.step.next_step.Tie as tie
+use Rattle.step_checks.proofs.next_step.Statement.{statement}
+use Rattle.step_checks.proofs.next_step.Tie as tie
 
 check-progress-requires : tie.Need-check-progress-requires
 check-progress-requires c κs = search needs

@@ -1,10 +1,10 @@
--- `steps::step::check_write` meets its contract.
+-- `step_checks::check_write` meets its contract.
 -- The rule is looked at where one is put in, then the write.
 use mathlib.Core.Path.{sym, _∙_}
 use borrow.Author.Needs.{needs}
 use Rattle.carrying.specs.StepsLaws.{write-declined, write-fits, write-unfit}
-use Rattle.steps.proofs.step.check_write.Statement.{statement}
-use Rattle.steps.proofs.step.check_write.Tie as tie
+use Rattle.step_checks.proofs.check_write.Statement.{statement}
+use Rattle.step_checks.proofs.check_write.Tie as tie
 
 check-put-requires : tie.Need-check-put-requires
 check-put-requires c κs = search needs

@@ -1,10 +1,10 @@
--- `steps::step::check_progress` meets its contract.
+-- `step_checks::check_progress` meets its contract.
 -- The progress is looked at where checks 1 and 2 pass.
 use borrow.Author.Needs.{needs}
 use Rattle.records.specs.Laws.{failed, passed}
 use Rattle.carrying.specs.Carrying.{progressChecks}
-use Rattle.steps.proofs.step.check_progress.Statement.{statement}
-use Rattle.steps.proofs.step.check_progress.Tie as tie
+use Rattle.step_checks.proofs.check_progress.Statement.{statement}
+use Rattle.step_checks.proofs.check_progress.Tie as tie
 
 check-slots-requires : tie.Need-check-slots-requires
 check-slots-requires c κs = search needs

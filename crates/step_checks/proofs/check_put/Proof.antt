@@ -1,4 +1,4 @@
--- `steps::step::check_put` meets its contract.
+-- `step_checks::check_put` meets its contract.
 -- Only a put-in looks at the rule and its edition.
 use mathlib.Core.Path.{ap, _∙_}
 use denote.Ref.{now}
@@ -6,8 +6,8 @@ use borrow.Author.Needs.{needs}
 use Rattle.plan_words.specs.PlanWordsLaws.{write-taken}
 use Rattle.records.specs.Editions.{lentRule}
 use Rattle.carrying.specs.Carrying.{putChecks}
-use Rattle.steps.proofs.step.check_put.Statement.{statement}
-use Rattle.steps.proofs.step.check_put.Tie as tie
+use Rattle.step_checks.proofs.check_put.Statement.{statement}
+use Rattle.step_checks.proofs.check_put.Tie as tie
 
 write-of-requires : tie.Need-write-of-requires
 write-of-requires c κs = search needs
