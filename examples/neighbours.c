@@ -31,7 +31,7 @@ static void print_neighbour(const char *what, uint16_t slot)
 
 static void print_neighbours(uint32_t refreshed)
 {
-    printf(refreshed ? "    the list was another table's, and is worked out afresh\n" : "    the list was up to date\n");
+    printf(refreshed ? "    the list was not this table's, and is worked out afresh\n" : "    the list was up to date\n");
     for (uint32_t slot = 0; slot < SLOTS; slot++) {
         const uint64_t *record = tcam_slot_words(table, WORDS, WIDTH, slot);
         if (record == NULL)

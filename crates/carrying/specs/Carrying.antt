@@ -50,12 +50,6 @@ fitsCarried w t rule (copy from to) = fitsWrite w t (copy from to)
 fitsCarried w t rule (put to) = fitsWrite w t (put to) || overEqual w t rule to
 fitsCarried w t rule (clear to) = fitsWrite w t (clear to)
 
--- the slot that a write goes to
-abbrev pub writtenSlot : Write → ℕ
-writtenSlot (copy from to) = to
-writtenSlot (put to) = to
-writtenSlot (clear to) = to
-
 -- the same in three steps, as the code has it: what a rule is taken from holds one; no room is needed; or there is room
 abbrev pub takesRule : ℕ → List ℕ → Write → Bool
 takesRule w t (copy from to) = not (eqb from to) && fitsWrite w t (clear from)
@@ -66,6 +60,12 @@ abbrev pub needsNoRoom : ℕ → List ℕ → Rule → Write → Bool
 needsNoRoom w t rule (copy from to) = false
 needsNoRoom w t rule (put to) = overEqual w t rule to
 needsNoRoom w t rule (clear to) = true
+
+-- the slot that a write goes to
+abbrev pub writtenSlot : Write → ℕ
+writtenSlot (copy from to) = to
+writtenSlot (put to) = to
+writtenSlot (clear to) = to
 
 -- the next write: 5 for an unsound rule and 18 for another edition where a rule is put in; else 12 unless it fits
 unfoldable pub writeChecks : ℕ → List ℕ → Given → ℕ → ℕ → Check

@@ -138,9 +138,6 @@ given-equal w e lent x size good =
 
 -- the write of a word, by the value that the code has taken it apart to
 module _ (w : ℕ) (t : List ℕ) (n : ℕ) {x : Write} (e : x ≡ writeOf n) (rule : Rule) where
-  pub write-fitting : fitsCarried w t rule x ≡ fitsCarried w t rule (writeOf n)
-  write-fitting = ap (fitsCarried w t rule) e
-
   pub write-made : applyWrite w t rule x ≡ applyWord w t rule n
   write-made = ap (applyWrite w t rule) e
 

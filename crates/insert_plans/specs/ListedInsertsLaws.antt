@@ -9,7 +9,7 @@ use lib.ListN.{length}
 use Rattle.records.specs.Checks.{Told, refusal, unless}
 use Rattle.records.specs.Laws.{cause-not-zero, told-answered}
 use Rattle.records.specs.Widths.{checkRule, checkWords, leaves}
-use Rattle.records.specs.WidthsLaws.{words-law, shape-turn, call-refused, call-answered}
+use Rattle.records.specs.WidthsLaws.{leaves-same, words-law, shape-turn, call-refused, call-answered}
 use Rattle.records.specs.Editions.{lentRule}
 use Rattle.records.specs.declared.Cause.{Cause}
 use Rattle.records.specs.declared.Check.{Check}
@@ -50,11 +50,7 @@ module _ (w : ℕ) (u : Bool) (e : ℕ) (t rule list plan : List ℕ) where
       let reply = insertReply w u t (lentRule w e rule) (length plan) in
       let r = call-refused (unless numbers reply) (insertPlan w u t (lentRule w e rule) plan) plan h f in
       refused cause spot (r .0 ∙ (shape-turn w (length rule) (length list) (listNumbers w t) reply ∙ ap (unless numbers) (call-behind w u e t rule (length plan))))
-      (kept numbers ∙ ap (λ (p : List ℕ). leaves numbers p plan) (r .1))
-    where
-      kept : (y : Check) → plan ≡ leaves y plan plan
-      kept Pass = refl
-      kept (Fail cause spot) = refl
+      (leaves-same numbers plan ∙ ap (λ (p : List ℕ). leaves numbers p plan) (r .1))
 
   -- .. by that of the list's numbers, ..
   pub list-refused : {x : Check} {cause : Cause} {spot : ℕ} → x ≡ checkWords (length list) (listNumbers w t) → x ≡ Fail cause spot

@@ -303,7 +303,7 @@ fn plan_listed(
     plan_covered(table, near, &ranked[0..words], found, plan, mode)
 }
 
-// The plan of an insert at a width that there is, its rule lent as a record. Where there is a plan, the table's neighbour list is in the front of the lent one.
+// The plan of an insert at a width that there is, its rule lent as a record. Where there is a plan, the table's neighbour list is in the front of `near`.
 fn insert_near(
     table: &[u64],
     near: &mut [u16],

@@ -1,5 +1,5 @@
--- A neighbour list after a write to one slot. Updates: its numbers along one direction, and which are asked again. SearchLaws: a search along positions.
--- UpdatesLaws: a number after the write, by the test that the code makes of it.
+-- A neighbour list after a write to one slot. Updates: its numbers along one direction, and which are asked again. SearchesLaws: a search along positions.
+-- UpdatesLaws: a number after the write, by the test that the code makes of it. AlongLaws: the list, position after position.
 pub mod Updates
 pub mod SearchesLaws
 pub mod UpdatesLaws

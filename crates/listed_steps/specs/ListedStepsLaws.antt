@@ -1,6 +1,6 @@
 -- End theorems on one write: every other slot holds what it held, and a table that passes check 2 passes it again.
 -- Laws on a step with a list: its equations by the step without one.
-use mathlib.Core.Path.{_≡_, refl, sym, ap, _∙_, subst}
+use mathlib.Core.Path.{_≡_, sym, ap, _∙_, subst}
 use mathlib.Core.Bool.{Bool, false, cond, and-false}
 use mathlib.Core.Logic._⊎_.{inl, inr}
 use mathlib.Core.List.{List, [], _∷_}
@@ -20,8 +20,8 @@ use Rattle.records.specs.Writes.{applyWrite}
 use Rattle.records.specs.WritesLaws.{apply-slots}
 use Rattle.records.specs.Checks.{Told, success, refusal, EmptyOrSound, checkRecords, slotChecks}
 use Rattle.records.specs.Laws.{records-law, empty-law, slot-checks-law, or-else-pass}
-use Rattle.records.specs.Widths.{checkRule, checkWords, leaves}
-use Rattle.records.specs.WidthsLaws.{shape-turn}
+use Rattle.records.specs.Widths.{checkRule, checkWords}
+use Rattle.records.specs.WidthsLaws.{leaves-same, shape-turn}
 use Rattle.records.specs.Editions.{Given, lentRule, ranked}
 use Rattle.records.specs.EditionsLaws.{given-law, rank-sound}
 use Rattle.records.specs.declared.Rule.{Rule}
@@ -118,11 +118,7 @@ module _ (w : ℕ) (u : Bool) (e : ℕ) (t plan rule list : List ℕ) (done tota
   rule-refused {x} {cause} {spot} h f =
       let is = sym h ∙ f in
       let turned = rw is at (shape-turn w (length rule) (length list) (listNumbers w t) (stepAnswer w t plan (lentRule w e rule) done total)) in
-      (rw (is, and-false) turned, rw is (kept (checkWords (length list) (listNumbers w t))), rw (is, and-false))
-    where
-      kept : (y : Check) → t ≡ leaves y t t
-      kept Pass = refl
-      kept (Fail cause spot) = refl
+      (rw (is, and-false) turned, rw is (leaves-same (checkWords (length list) (listNumbers w t)) t), rw (is, and-false))
 
   -- .. by that of the list's numbers
   pub list-refused : {x : Check} {cause : Cause} {spot : ℕ} → x ≡ checkWords (length list) (listNumbers w t) → x ≡ Fail cause spot

@@ -35,21 +35,21 @@ pub list-number : (w : ℕ) (u : Bool) (t : List ℕ) (k : ℕ) → k < listNumb
 unfolding listOf
 list-number w u t k h = word-listed (listNumbers w t) (numberAt w u t) k h
 
-pub number-after : (w : ℕ) (u : Bool) (t : List ℕ) (i : ℕ) → numberAt w u t (2 * i) ≡ nextDependant w u t i
-number-after w u t i =
+pub number-even : (w : ℕ) (u : Bool) (t : List ℕ) (i : ℕ) → numberAt w u t (2 * i) ≡ nextDependant w u t i
+number-even w u t i =
     let half : 2 * i / 2 ≡ i = omega arith in
     rw (eq-eqb (2 * i % 2) 0 (omega arith), half)
 
-pub number-before : (w : ℕ) (u : Bool) (t : List ℕ) (i : ℕ) → numberAt w u t (2 * i + 1) ≡ lastPreceding w u t i
-number-before w u t i =
+pub number-odd : (w : ℕ) (u : Bool) (t : List ℕ) (i : ℕ) → numberAt w u t (2 * i + 1) ≡ lastPreceding w u t i
+number-odd w u t i =
     let half : (2 * i + 1) / 2 ≡ i = omega arith in
     rw (ne-eqb ((2 * i + 1) % 2) 0 (λ e. omega arith), half)
 
 -- the list of a table begins with its numbers, and a list that does is this one as far as it goes
 pub list-listed : (w : ℕ) (u : Bool) (t : List ℕ) → Listed w u t (listOf w u t)
 list-listed w u t i h = (
-  list-number w u t (2 * i) (omega arith) ∙ number-after w u t i,
-  list-number w u t (2 * i + 1) (omega arith) ∙ number-before w u t i,
+  list-number w u t (2 * i) (omega arith) ∙ number-even w u t i,
+  list-number w u t (2 * i + 1) (omega arith) ∙ number-odd w u t i,
 )
 
 pub listed-number : (w : ℕ) (u : Bool) (t near : List ℕ) → Listed w u t near → (k : ℕ) → k < listNumbers w t → getD near k 0 ≡ getD (listOf w u t) k 0

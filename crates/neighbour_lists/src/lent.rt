@@ -1,4 +1,4 @@
-// A neighbour list that a caller lends: its length is the table's, and its numbers are worked out afresh where they are not the table's.
+// A neighbour list that a caller lends: it has two numbers for each slot, and they are worked out afresh where they are not the table's.
 use crate::passing::fill_near;
 use records::Check;
 use records::LIST_NUMBERS;

@@ -1,7 +1,7 @@
 -- Document 02, 2026-10: neighbours kept, not searched. What the list of a table says, on any table, in order or not; and of tcam_plan_insert_listed and
 -- tcam_carry_out_listed what they return and leave beside the calls without a list.
 use mathlib.Core.Path.{_≡_}
-use mathlib.Core.Bool.{Bool, false}
+use mathlib.Core.Bool.{Bool, true, false}
 use mathlib.Core.Logic.{_↔_}
 use mathlib.Core.List.{List, [], _∷_, _++_, map}
 use Prim.Native.Nat.{ℕ, _+_, _*_, _≤_, _<_}
@@ -105,8 +105,8 @@ pub record KeptNeighbours (w : ℕ) (u : Bool) : Type 0 where
   pub carry : (e : ℕ) (t plan rule list : List ℕ) (progress : Progress) (cell result : ℕ) (after list′ : List ℕ) (progress′ : Progress) (cell′ : ℕ)
       → ListedCarryLeft w u e t plan rule list progress cell result after list′ progress′ cell′
       → CarryListed w u e t plan rule list progress cell result after list′ progress′ cell′
-  -- a list that a call left is the table's, so that the next call on that table with it, planning or carrying out, says 0: 1 tells that table or list were
-  -- changed by others
+  -- a list that a call left is the table's, so that the next call on that table with it, planning or carrying out, says 0, where the table is named alike: 1
+  -- tells that something else has changed, table, list or flag
   pub left-own : (t list : List ℕ) → LeftFor w u t list → list ≡ listOf w u t
   pub next-insert : (t list : List ℕ) → LeftFor w u t list
       → (e : ℕ) (rule list′ plan after : List ℕ) (count count′ covered covered′ refreshed refreshed′ spot spot′ : ℕ)
@@ -115,8 +115,9 @@ pub record KeptNeighbours (w : ℕ) (u : Bool) : Type 0 where
       → (e : ℕ) (plan rule : List ℕ) (progress : Progress) (cell : ℕ) (after list′ : List ℕ) (progress′ : Progress) (cell′ : ℕ)
       → ListedCarryLeft w u e t plan rule list progress cell wroteResult after list′ progress′ cell′ → cell′ ≡ 0
 
--- a table, and the list that is to be its own
+-- a table, named as uncounted or not, and the list that is to be its own
 pub record TableAndList : Type 0 where
+  pub uncounted : Bool
   pub table : List ℕ
   pub list : List ℕ
 
@@ -127,6 +128,10 @@ module _ (w : ℕ) where
   abbrev pub slot : ℕ → ℕ → List Symbol → List ℕ
   slot id rank pattern = held w (line w id rank pattern 7)
 
+  -- three rules that overlap, the first two of one action
+  abbrev pub alike : List ℕ
+  alike = slot 1 30 (one ∷ []) ++ slot 2 20 (one ∷ []) ++ held w (line w 3 10 (one ∷ []) 8)
+
   unfoldable pub listedTables : List TableAndList
   listedTables =
       let r1 = slot 1 40 (star ∷ nought ∷ []) in
@@ -135,16 +140,19 @@ module _ (w : ℕ) where
       let r4 = slot 4 20 (one ∷ one ∷ []) in
       let r5 = slot 5 50 (nought ∷ nought ∷ []) in
       -- five slots; and after each write of a plan that puts in the fifth rule: 1→4, 0→1, new→0
-      record { table = r1 ++ r2 ++ r3 ++ r4 ++ vacancy w; list = 2 ∷ none ∷ none ∷ none ∷ 3 ∷ 0 ∷ none ∷ 2 ∷ none ∷ none ∷ [] }
-      ∷ record { table = r1 ++ r2 ++ r3 ++ r4 ++ r2; list = 2 ∷ none ∷ none ∷ none ∷ 3 ∷ 0 ∷ none ∷ 2 ∷ none ∷ none ∷ [] }
-      ∷ record { table = r1 ++ r1 ++ r3 ++ r4 ++ r2; list = 2 ∷ none ∷ 2 ∷ none ∷ 3 ∷ 1 ∷ none ∷ 2 ∷ none ∷ none ∷ [] }
-      ∷ record { table = r5 ++ r1 ++ r3 ++ r4 ++ r2; list = 1 ∷ none ∷ 2 ∷ 0 ∷ 3 ∷ 1 ∷ none ∷ 2 ∷ none ∷ none ∷ [] }
+      record { uncounted = false; table = r1 ++ r2 ++ r3 ++ r4 ++ vacancy w; list = 2 ∷ none ∷ none ∷ none ∷ 3 ∷ 0 ∷ none ∷ 2 ∷ none ∷ none ∷ [] }
+      ∷ record { uncounted = false; table = r1 ++ r2 ++ r3 ++ r4 ++ r2; list = 2 ∷ none ∷ none ∷ none ∷ 3 ∷ 0 ∷ none ∷ 2 ∷ none ∷ none ∷ [] }
+      ∷ record { uncounted = false; table = r1 ++ r1 ++ r3 ++ r4 ++ r2; list = 2 ∷ none ∷ 2 ∷ none ∷ 3 ∷ 1 ∷ none ∷ 2 ∷ none ∷ none ∷ [] }
+      ∷ record { uncounted = false; table = r5 ++ r1 ++ r3 ++ r4 ++ r2; list = 1 ∷ none ∷ 2 ∷ 0 ∷ 3 ∷ 1 ∷ none ∷ 2 ∷ none ∷ none ∷ [] }
       -- a tie and a pair out of order
-      ∷ record { table = slot 1 20 (one ∷ []) ++ slot 2 20 (one ∷ []) ++ slot 3 30 (one ∷ []) ++ slot 4 10 (one ∷ []); list = 3 ∷ none ∷ 3 ∷ none ∷ 3 ∷ none ∷ none ∷ 2 ∷ [] }
+      ∷ record { uncounted = false; table = slot 1 20 (one ∷ []) ++ slot 2 20 (one ∷ []) ++ slot 3 30 (one ∷ []) ++ slot 4 10 (one ∷ []); list = 3 ∷ none ∷ 3 ∷ none ∷ 3 ∷ none ∷ none ∷ 2 ∷ [] }
       -- one id in two slots, with two ranks
-      ∷ record { table = slot 1 30 (one ∷ []) ++ slot 1 20 (one ∷ []) ++ slot 2 10 (one ∷ []) ++ vacancy w; list = 2 ∷ none ∷ 2 ∷ none ∷ none ∷ 1 ∷ none ∷ none ∷ [] }
+      ∷ record { uncounted = false; table = slot 1 30 (one ∷ []) ++ slot 1 20 (one ∷ []) ++ slot 2 10 (one ∷ []) ++ vacancy w; list = 2 ∷ none ∷ 2 ∷ none ∷ none ∷ 1 ∷ none ∷ none ∷ [] }
+      -- one table under either flag
+      ∷ record { uncounted = false; table = alike; list = 1 ∷ none ∷ 2 ∷ 0 ∷ none ∷ 1 ∷ [] }
+      ∷ record { uncounted = true; table = alike; list = 2 ∷ none ∷ 2 ∷ none ∷ none ∷ 1 ∷ [] }
       ∷ []
 
 -- each table's list, worked out, and as it is to be
 abbrev pub WorkedLists : ℕ → Type 0
-WorkedLists w = map (λ (x : TableAndList). listOf w false (x .table)) (listedTables w) ≡ map (λ (x : TableAndList). x .list) (listedTables w)
+WorkedLists w = map (λ (x : TableAndList). listOf w (x .uncounted) (x .table)) (listedTables w) ≡ map (λ (x : TableAndList). x .list) (listedTables w)

@@ -71,6 +71,11 @@ pub rule-law : (w words : ℕ) → (checkRule w words ≡ Pass) ↔ (Width w × 
 unfolding checkRule
 rule-law w words = lent-law w words (recordWords w)
 
+-- a call that changes nothing leaves what was lent, whatever its check says
+pub leaves-same : {A : Type 0} (check : Check) (a : A) → a ≡ leaves check a a
+leaves-same Pass a = refl
+leaves-same (Fail cause spot) a = refl
+
 -- checks that fail with 1 alike may be made in either order
 pub shape-turn : (w lent words needed : ℕ) (answer : Told)
     → unless (checkRule w lent) (unless (checkWords words needed) answer) ≡ unless (checkWords words needed) (unless (checkRule w lent) answer)

@@ -1,5 +1,6 @@
 -- `list_updates::rule_precedes` meets its contract.
 -- Ranks first; then whether the rules overlap and are compared.
+use native.Mathlib.Omega.{arith}
 use denote.Ref.{now}
 use borrow.Author.Tests.{le-ltb}
 use borrow.Author.Needs.{needs}
@@ -21,7 +22,7 @@ unfolding precedes
 returns c =
     let a = c .before .before .before .before .args in
     rw (← c .before .slot-rank2 .ensures, ← c .before .before .slot-rank .ensures)
-    (pair-ranked (a .mode .width) (a .mode .uncounted) (slotWords (a .mode .width) (now (a .table)) (a .slot)) (slotWords (a .mode .width) (now (a .table)) (a .other)) (le-ltb _ _ (c .if1 .taken)))
+    (pair-ranked (a .mode .width) (a .mode .uncounted) (slotWords (a .mode .width) (now (a .table)) (a .slot)) (slotWords (a .mode .width) (now (a .table)) (a .other)) (le-ltb (c .before .slot-rank2 .result) (c .before .before .slot-rank .result) (omega (arith, c .if1 .taken))))
 
 rules-overlap-requires : tie.Need-rules-overlap-requires
 rules-overlap-requires c κs = search needs
