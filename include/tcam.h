@@ -222,13 +222,13 @@
  *     tcam_carry_out                 336       336
  *     tcam_carry_out_listed       24,400    24,400
  *     tcam_plan_insert            31,008    31,008, or 10,848 and 96 for each word of the plan, where that is more
- *     tcam_plan_insert_listed     31,040    31,040, or 10,880 and 96 for each word of the plan, where that is more
+ *     tcam_plan_insert_listed     31,056    31,056, or 10,896 and 96 for each word of the plan, where that is more
  *     tcam_save                   24,704    24,704
  *     tcam_load                   74,112   123,264
  *
- * The longest plan, of 1,024 words, takes 109,152 bytes, 106.6 KiB, and with a list 109,184. A plan that does not fit
+ * The longest plan, of 1,024 words, takes 109,152 bytes, 106.6 KiB, and with a list 109,200. A plan that does not fit
  * its buffer is not written out, so that a buffer of n words bounds the stack at 10,848 + 96 * n bytes, or at 31,008
- * where that is more; with a list at 10,880 + 96 * n, or at 31,040. tcam_load builds the whole table on the stack
+ * where that is more; with a list at 10,896 + 96 * n, or at 31,056. tcam_load builds the whole table on the stack
  * before it writes the lent one.
  */
 #ifndef TCAM_H

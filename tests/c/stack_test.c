@@ -26,8 +26,8 @@ static const struct limits {
     size_t save, load;
     size_t plan_listed, chain_listed, carry_listed; /* with a list: as plan_insert and chain, with the same for each word */
 } limits[] = {
-    {TCAM_WIDTH_128, 288, 128, 24640, 336, 31008, 10848, 96, 24704, 74112, 31040, 10880, 24400},
-    {TCAM_WIDTH_320, 288, 128, 24640, 336, 31008, 10848, 96, 24704, 123264, 31040, 10880, 24400},
+    {TCAM_WIDTH_128, 288, 128, 24640, 336, 31008, 10848, 96, 24704, 74112, 31056, 10896, 24400},
+    {TCAM_WIDTH_320, 288, 128, 24640, 336, 31008, 10848, 96, 24704, 123264, 31056, 10896, 24400},
 };
 static const struct limits *limit;
 
