@@ -145,8 +145,7 @@
  *     one write, with a list                   0.35 to 1.4 million       0.41 to 1.5 million
  *         the same, tables hostile to it       up to 7.9 million         up to 7.9 million
  *     of that bringing the list up to date     7 to 60 thousand          7 to 60 thousand
- *         where half the slots are empty       111 thousand              119 thousand
- *         where the last word alone decides                              207 thousand
+ *         where the last word alone decides                              209 thousand
  *         at worst                             42 million                50 million
  *
  * At worst the rule that is taken out or written over is the only neighbour of all others, and no other two can be told

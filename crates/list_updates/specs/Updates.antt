@@ -8,7 +8,7 @@ use lib.Dec.{eqb, ltb, leb}
 use lib.ListN.{getD}
 use Rattle.search.specs.Search.{least}
 use Rattle.positions.specs.Positions.{slotAt}
-use Rattle.records.specs.Record.{slotWords}
+use Rattle.records.specs.Record.{slotWords, empty}
 use Rattle.records.specs.Order.{slots, overlapAt}
 use Rattle.records.specs.Entries.{SameRecord}
 use Rattle.neighbour_lists.specs.Lists.{precedesSlot, nextDependant, lastPreceding, Listed}
@@ -45,9 +45,10 @@ mayOverlap w t i j = overlapAt w (slotWords w t i) (slotWords w t j) 0 && overla
 unfoldable pub reachesSlot : Bool → ℕ → ℕ → Bool
 reachesSlot up number slot = cond (up && not (eqb number 65535)) (leb number slot) (leb slot number)
 
--- a slot is asked again: its number was the written slot, or may become it, where that holds a rule
+-- a slot is asked again: its number was the written slot, or may become it, where both hold a rule
 unfoldable pub asksNumber : ℕ → List ℕ → ℕ → ℕ → ℕ → Bool → Bool → Bool
-asksNumber w t number slot written vacant up = eqb number written || (not vacant && (reachesSlot up number written && mayOverlap w t slot written))
+asksNumber w t number slot written vacant up =
+    eqb number written || (not vacant && (reachesSlot up number written && (mayOverlap w t slot written && not (empty w (slotWords w t slot)))))
 
 -- the slot at a position, by its number in a list
 abbrev pub asksAt : ℕ → List ℕ → List ℕ → ℕ → Bool → Bool → ℕ → Bool

@@ -242,20 +242,23 @@ module _ (w : ℕ) (u : Bool) (t : List ℕ) (up : Bool) (g : ℕ) (few : slots 
         left true b h = absurd (true≢false h)
         left false b h = (refl, h)
 
-        rest : not vacant && (reachesSlot up number g && mayOverlap w t i g) ≡ false
+        rest : not vacant && (reachesSlot up number g && (mayOverlap w t i g && not (empty w (slotWords w t i)))) ≡ false
         rest = left (eqb number g) _ f .1
 
-        either : (v r m : Bool) → not v && (r && m) ≡ false → r ≡ true → (v ≡ true) ⊎ (m ≡ false)
-        either true r m h k = inl refl
-        either false true m h k = inr h
-        either false false m h k = absurd (false≢true k)
+        either : (v r m n : Bool) → not v && (r && (m && not n)) ≡ false → r ≡ true → (v ≡ true) ⊎ ((m ≡ false) ⊎ (n ≡ true))
+        either true r m n h k = inl refl
+        either false true false n h k = inr (inl refl)
+        either false true true true h k = inr (inr refl)
+        either false true true false h k = absurd (true≢false h)
+        either false false m n h k = absurd (false≢true k)
 
-        quiet : (vacant ≡ true) ⊎ (mayOverlap w t i g ≡ false) → boundedBy w u t up i g ≡ false
+        quiet : (vacant ≡ true) ⊎ ((mayOverlap w t i g ≡ false) ⊎ (empty w (slotWords w t i) ≡ true)) → boundedBy w u t up i g ≡ false
         quiet (inl v) = empty-unbounded w u t up i g (sym e ∙ v) .0
-        quiet (inr m) = apart-unbounded w t wide i g m u up .0
+        quiet (inr (inl m)) = apart-unbounded w t wide i g m u up .0
+        quiet (inr (inr n)) = empty-unbounded w u t up g i n .1
 
         by : (reachesSlot up number g ≡ true) ⊎ (reachesSlot up number g ≡ false) → number ≡ numberAlong w u t up i
-        by (inl r) = number-kept r (eqb-false number g (left (eqb number g) _ f .0)) (quiet (either vacant _ _ rest r))
+        by (inl r) = number-kept r (eqb-false number g (left (eqb number g) _ f .0)) (quiet (either vacant _ _ _ rest r))
         by (inr r) = number-short r
 
 -- a slot that is asked again reaches the written slot
@@ -263,9 +266,6 @@ pub asked-reaches : (w : ℕ) (t : List ℕ) (number slot g : ℕ) (vacant up : 
 unfolding asksNumber reachesSlot
 asked-reaches w t number slot g vacant up low e = by (ℕ-discrete number g)
   where
-    two : (b : Bool) → cond b (leb number g) (leb g number) ≡ true → cond b (leb number g) (leb g number) ≡ true
-    two b h = h
-
     equal : number ≡ g → (b : Bool) → cond b (leb number g) (leb g number) ≡ true
     equal h true = le-leb number g (omega arith)
     equal h false = le-leb g number (omega arith)
@@ -278,7 +278,7 @@ asked-reaches w t number slot g vacant up low e = by (ℕ-discrete number g)
 
     by : Dec (number ≡ g) → cond (up && not (eqb number 65535)) (leb number g) (leb g number) ≡ true
     by (yes h) = equal h (up && not (eqb number 65535))
-    by (no h) = second (eqb number g) vacant (cond (up && not (eqb number 65535)) (leb number g) (leb g number)) (mayOverlap w t slot g) (ne-eqb number g h) e
+    by (no h) = second (eqb number g) vacant (cond (up && not (eqb number 65535)) (leb number g) (leb g number)) (mayOverlap w t slot g && not (empty w (slotWords w t slot))) (ne-eqb number g h) e
 
 -- the written slot's own number, where it was emptied
 pub empty-number : (w : ℕ) (u : Bool) (t : List ℕ) (up : Bool) (g : ℕ) → g < slots w t → empty w (slotWords w t g) ≡ true → 65535 ≡ numberAlong w u t up g

@@ -114,7 +114,7 @@ fn place_along(slot: usize, up: bool) -> usize
     if up { 2 * slot + 1 } else { 2 * slot }
 }
 
-// Whether a slot is to be asked again: its number was the written slot, or may become it. A slot that was emptied becomes no number.
+// Whether a slot is to be asked again: its number was the written slot, or may become it. A slot that was emptied becomes no number, and an empty one has none.
 fn asks(
     table: &[u64],
     number: u16,
@@ -124,7 +124,7 @@ fn asks(
     up: bool,
     width: usize,
 ) -> bool
-    requires { ⌜ (Width width) × (slots width (now table) ≤ mostSlots) × (slot < slots width (now table)) × (written < slots width (now table)) ⌝ }
+    requires { ⌜ (Width width) × (slots width (now table) ≤ mostSlots) × (slot < slots width (now table)) × (written < slots width (now table)) × (checkRecords width (now table) ≡ Pass) ⌝ }
     ensures { λ r. ⌜ r ≡ asksNumber width (now (table .entry)) number slot written vacant up ⌝ }
 {
     if number as usize == written {
@@ -136,7 +136,10 @@ fn asks(
     if !reaches(number, written, up) {
         return false;
     }
-    may_overlap(table, slot, table, written, width)
+    if !may_overlap(table, slot, table, written, width) {
+        return false;
+    }
+    !slot_vacant(table, slot, width)
 }
 
 // Skips positions whose slots are not asked again, up to that of the written slot.
@@ -149,7 +152,7 @@ fn skip_unasked(
     up: bool,
     width: usize,
 ) -> usize
-    requires { ⌜ (Width width) × (slots width (now table) ≤ mostSlots) × (written < slots width (now table)) × (from ≤ slotAt (slots width (now table)) up written) × (2 * (slots width (now table)) ≤ length (now list)) ⌝ }
+    requires { ⌜ (Width width) × (slots width (now table) ≤ mostSlots) × (written < slots width (now table)) × (from ≤ slotAt (slots width (now table)) up written) × (2 * (slots width (now table)) ≤ length (now list)) × (checkRecords width (now table) ≡ Pass) ⌝ }
     ensures { λ r. ⌜ NoneFrom (asksAt width (now (table .entry)) (now (list .entry)) written vacant up) from (slotAt (slots width (now (table .entry))) up written) r ⌝ }
     ensures { λ r. ⌜ (r < slotAt (slots width (now (table .entry))) up written → asksAt width (now (table .entry)) (now (list .entry)) written vacant up r ≡ true) ⌝ }
 {

@@ -70,7 +70,7 @@ asks-requires c κs =
     let inv = c .before .before .before .before .loop .inv in
     let at = c .before .before .slot-at2 .ensures ∙ ap (λ (n : ℕ). slotAt n (s .args .up) (c .before .before .before .before .loop .position)) (inv .0) in
     let below = slot-below (slotsOf (s .args .width) (now (s .args .table))) (s .args .up) (c .before .before .before .before .loop .position) (omega (arith, inv .1, slot-below (slotsOf (s .args .width) (now (s .args .table))) (s .args .up) (s .args .written) (s .pre .2))) in
-    (s .pre .0, s .pre .1, omega (arith, at, below), s .pre .2)
+    (s .pre .0, s .pre .1, omega (arith, at, below), s .pre .2, s .pre .5)
 
 returns : tie.Need-returns Inv-loop μ-loop
 returns c =

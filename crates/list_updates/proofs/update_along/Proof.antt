@@ -39,7 +39,7 @@ slot-vacant-requires c κs = search needs
 skip-unasked-requires : tie.Need-skip-unasked-requires Inv-loop μ-loop
 skip-unasked-requires c κs =
     let s = c .before .before .before .before .before .before in
-    (s .pre .0 .0, s .pre .0 .1, s .pre .0 .2, omega arith, s .pre .0 .4)
+    (s .pre .0 .0, s .pre .0 .1, s .pre .0 .2, omega arith, s .pre .0 .4, s .pre .0 .3)
 
 loop-holds : tie.Need-loop-holds Inv-loop μ-loop
 loop-holds c =
@@ -175,7 +175,7 @@ skip-unasked-requires-2 c κs =
     let inv = c .before .before .before .before .before .before .loop .inv in
     let p = c .before .before .before .before .before .before .loop .position in
     let last = slot-below n (a .up) (a .written) (s .pre .0 .2) in
-    (s .pre .0 .0, s .pre .0 .1, s .pre .0 .2, omega (arith, inv .1), omega (arith, s .pre .0 .4, inv .4, length-set (c .before .before .before .before .before .before .loop .list) (c .before .before .before .place-along .result) (c .before .number-after .result)))
+    (s .pre .0 .0, s .pre .0 .1, s .pre .0 .2, omega (arith, inv .1), omega (arith, s .pre .0 .4, inv .4, length-set (c .before .before .before .before .before .before .loop .list) (c .before .before .before .place-along .result) (c .before .number-after .result)), s .pre .0 .3)
 
 loop-less : tie.Need-loop-less Inv-loop μ-loop
 loop-less c =
