@@ -88,7 +88,7 @@ pub fn check_table(tables: &Both<Vec<Slot>>, new_rules: &[New], uncounted: bool,
     }
 }
 
-/// One insert of so many is planned with a list too; the number is even.
+/// One insert of so many is planned with a list too.
 const PLANNED_WITH_LIST: usize = 16;
 
 /// A table after so many copies of a plan, and its list, as the library has left them.
@@ -220,8 +220,8 @@ impl Asked<'_> {
     }
 
     /// The plan carried out by the library with a list. Its copies are made again only where they are others than those of the plan before,
-    /// from which `before` is left; the last write of every other plan is made and taken back. Some inserts are planned with a list too,
-    /// and the table that they leave is compared.
+    /// from which `before` is left; the last write is made and taken back. Some inserts are planned with a list too, and the table that they
+    /// leave is compared.
     fn check_lists(&self, new: &New, planned: &Planned, before: &mut Carried, turn: usize) -> Result<(), String> {
         let is_planned = turn % PLANNED_WITH_LIST == 0;
         if is_planned {
@@ -232,9 +232,6 @@ impl Asked<'_> {
             *before = self.start();
             (0..copies).try_for_each(|done| self.write_with_list(new, &planned.writes, done, before))?;
             before.copies = planned.writes[..copies].to_vec();
-        }
-        if turn % 2 == 1 {
-            return Ok(());
         }
         let to = planned.writes[copies] as usize % 65_536;
         let (slot, list) = (before.slots[to], before.list.clone());

@@ -8,6 +8,7 @@ use bitmaps::maps::apart_in;
 use pairs::rules_overlap;
 use pairs::slots_overlap;
 use records::Mode;
+use records::NO_NUMBER;
 use slots::slot_rank;
 ghost use mathlib.Core.Path.{_≡_};
 ghost use mathlib.Core.Bool.{true, false};
@@ -36,7 +37,7 @@ fn needed(
     ensures { λ r. ⌜ r ≡ neededBits (now (near .entry)) (now (full .entry)) (now (free .entry)) (now (low .entry)) block later rank ⌝ }
 {
     let before = near[2 * later + 1];
-    if before == 65535 {
+    if before == NO_NUMBER {
         return full[block];
     }
     if low[block] <= rank {
@@ -50,13 +51,13 @@ fn settled(table: &[u64], near: &[u16], slot: usize, later: usize, rank: u64, mo
     requires { ⌜ (Width (mode .width)) × (slot < later) × (later < slots (mode .width) (now table)) × (2 * later + 1 < length (now near)) ⌝ }
     ensures { λ r. ⌜ r ≡ settledPair (now (near .entry)) slot later (rankAt (mode .width) (now (table .entry)) slot) rank ⌝ }
 {
-    if near[2 * later + 1] == 65535 {
+    if near[2 * later + 1] == NO_NUMBER {
         return false;
     }
     if slot_rank(table, slot, mode.width) <= rank {
         return false;
     }
-    near[2 * slot] != 65535
+    near[2 * slot] != NO_NUMBER
 }
 
 // A pair whose first rule precedes the second: each number is kept where there was none.
@@ -65,11 +66,11 @@ fn keep_pair(near: &mut [u16], free: &mut [u64], slot: usize, later: usize)
     ensures { λ _. ⌜ now (near .exit) ≡ bothKept (now (near .entry)) slot later ⌝ }
     ensures { λ _. ⌜ now (free .exit) ≡ closed (now (near .entry)) (now (free .entry)) slot ⌝ }
 {
-    if near[2 * slot] == 65535 {
+    if near[2 * slot] == NO_NUMBER {
         near[2 * slot] = later as u16;
         free[slot / 64] = clear_bit(free[slot / 64], slot % 64);
     }
-    if near[2 * later + 1] == 65535 {
+    if near[2 * later + 1] == NO_NUMBER {
         near[2 * later + 1] = slot as u16;
     }
 }

@@ -7,6 +7,7 @@ use bitmaps::places::WIDE_PLACES;
 use bitmaps::places::choose_places;
 use bitmaps::places::spread_places;
 use records::Mode;
+use records::NO_NUMBER;
 use records::WIDE;
 use slots::slot_count;
 use slots::slot_rank;
@@ -63,7 +64,7 @@ fn take_rule(
     ensures { λ r. ⌜ r ≡ disorderAt (mode .width) (mode .uncounted) (now (table .entry)) slot ⌝ }
     ensures { λ _. ⌜ Taken (mode .width) (mode .uncounted) (now (table .entry)) (now (places .entry)) (now (near .exit)) (now (full .exit)) (now (free .exit)) (now (low .exit)) (now (maps .exit)) (slot + 1) ⌝ }
 {
-    near[2 * slot + 1] = 65535;
+    near[2 * slot + 1] = NO_NUMBER;
     let used = fill_rows(
         table,
         slot,
@@ -77,7 +78,7 @@ fn take_rule(
     );
     let bad = ask_row(table, near, full, free, low, maps, others, used, slot, mode);
     // Stored after the row, which promises nothing of this number.
-    near[2 * slot] = 65535;
+    near[2 * slot] = NO_NUMBER;
     note_rows(maps, own, used, slot);
     note_rule(full, free, low, slot, slot_rank(table, slot, mode.width));
     bad
@@ -107,8 +108,8 @@ fn take_slot(
     ensures { λ _. ⌜ Taken (mode .width) (mode .uncounted) (now (table .entry)) (now (places .entry)) (now (near .exit)) (now (full .exit)) (now (free .exit)) (now (low .exit)) (now (maps .exit)) (slot + 1) ⌝ }
 {
     if slot_vacant(table, slot, mode.width) {
-        near[2 * slot + 1] = 65535;
-        near[2 * slot] = 65535;
+        near[2 * slot + 1] = NO_NUMBER;
+        near[2 * slot] = NO_NUMBER;
         return false;
     }
     take_rule(
