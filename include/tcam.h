@@ -137,13 +137,14 @@
  *
  * A list pays where it is read: for a caller who draws the dependencies of the rules, or checks them, or plans moves of
  * its own, between any two writes. It makes no call faster. Since no lent number is trusted, each call with a list
- * compares rules in pairs to work the list out. In instructions, at 1,024 slots:
+ * compares rules in pairs to work the list out. In instructions, at 1,024 slots, over the tables that were measured:
  *
  *                                              width 2                   width 5
  *     planning an insert, with a list          at most 1.006 of what it takes without one, the list right or not
- *     one write, without a list                18 to 25 thousand         28 to 43 thousand
+ *     one write, without a list                18 to 31 thousand         28 to 43 thousand
  *     one write, with a list                   0.35 to 1.4 million       0.41 to 1.5 million
- *         the same, tables hostile to it       up to 7.9 million         up to 7.9 million
+ *         tables hostile to the comparison     up to 7.9 million         up to 7.9 million
+ *         at worst                             60 million                77 million
  *     of that bringing the list up to date     7 to 60 thousand          7 to 60 thousand
  *         where the last word alone decides                              209 thousand
  *         at worst                             42 million                50 million

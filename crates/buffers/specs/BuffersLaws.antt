@@ -19,7 +19,9 @@ use Rattle.buffers.specs.declared.PlanAnswer.the-variants.{Planned, Refu
 use Rattle.buffers.specs.declared.InsertAnswer.{InsertAnswer}
 use Rattle.buffers.specs.declared.InsertAnswer.the-variants.{Planned as Inserted, Refused as Declined}
 use Rattle.buffers.specs.declared.InsertInfo.{InsertInfo}
-use Rattle.buffers.specs.Buffers.{planTold, insertAnswerTold, flagNumber, withRefreshed, withCover, withoutCover, bufferAfter, bufferAnswer, checkRoom}
+use Rattle.buffers.specs.declared.ListedAnswer.{ListedAnswer}
+use Rattle.buffers.specs.declared.ListedAnswer.the-variants.{Planned as InsertedListed, Refused as DeclinedListed}
+use Rattle.buffers.specs.Buffers.{planTold, insertAnswerTold, listedAnswerTold, flagNumber, withRefreshed, withCover, withoutCover, bufferAfter, bufferAnswer, checkRoom}
 
 -- an answer's number and values lose nothing
 pub plan-told-once : (a b : PlanAnswer) → planTold a ≡ planTold b → a ≡ b
@@ -36,6 +38,23 @@ insert-told-once (Inserted x) (Declined c s) e = absurd (true≢false (ap (λ (t
 insert-told-once (Declined c s) (Inserted y) e = absurd (true≢false (ap (λ (t : Told). eqb (t .number) 0) (sym e) ∙ cause-not-zero c))
 insert-told-once (Declined c s) (Declined d u) e =
     ap₂ Declined (cause-number-once c d (ap (λ (t : Told). t .number) e)) (ap (λ (t : Told). getD (t .values) 0 0) e)
+
+-- a flag's number is no other flag's
+pub flag-once : (a b : Bool) → flagNumber a ≡ flagNumber b → a ≡ b
+flag-once true true e = refl
+flag-once true false e = absurd (omega (arith, e))
+flag-once false true e = absurd (omega (arith, e))
+flag-once false false e = refl
+
+pub listed-told-once : (a b : ListedAnswer) → listedAnswerTold a ≡ listedAnswerTold b → a ≡ b
+listed-told-once (InsertedListed x) (InsertedListed y) e =
+    let value : (k : ℕ) → getD (listedAnswerTold (InsertedListed x) .values) k 0 ≡ getD (listedAnswerTold (InsertedListed y) .values) k 0
+    = λ k. ap (λ (t : Told). getD (t .values) k 0) e in
+    λ i. InsertedListed (record { count = value 0 i; covered = value 1 i; refreshed = flag-once (x .refreshed) (y .refreshed) (value 2) i })
+listed-told-once (InsertedListed x) (DeclinedListed c s) e = absurd (true≢false (ap (λ (t : Told). eqb (t .number) 0) e ∙ cause-not-zero c))
+listed-told-once (DeclinedListed c s) (InsertedListed y) e = absurd (true≢false (ap (λ (t : Told). eqb (t .number) 0) (sym e) ∙ cause-not-zero c))
+listed-told-once (DeclinedListed c s) (DeclinedListed d u) e =
+    ap₂ DeclinedListed (cause-number-once c d (ap (λ (t : Told). t .number) e)) (ap (λ (t : Told). getD (t .values) 0 0) e)
 
 -- the number that a success holds more: a refusal has none, ..
 pub cover-refused : (cause : Cause) (spot covered : ℕ) {told : Told} → refusal cause spot ≡ told → refusal cause spot ≡ withCover told covered

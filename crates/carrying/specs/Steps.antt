@@ -29,7 +29,7 @@ pub record Writes (w : ℕ) (t plan : List ℕ) (given : Given) (done total : �
   pub made : applyWord w t (ranked w given) (getD plan done 0) ≡ stepTable w t plan given done total
 
 -- what an answer tells: that the step writes, or that the table is as it was
-abbrev pub Tells : ℕ → List ℕ → List ℕ → Given → ℕ → ℕ → StepAnswer → Type 0
-Tells w t plan given done total (Wrote info) = Writes w t plan given done total
-Tells w t plan given done total Finished = t ≡ stepTable w t plan given done total
-Tells w t plan given done total (Refused cause spot) = t ≡ stepTable w t plan given done total
+abbrev pub StepTells : ℕ → List ℕ → List ℕ → Given → ℕ → ℕ → StepAnswer → Type 0
+StepTells w t plan given done total (Wrote info) = Writes w t plan given done total
+StepTells w t plan given done total Finished = t ≡ stepTable w t plan given done total
+StepTells w t plan given done total (Refused cause spot) = t ≡ stepTable w t plan given done total

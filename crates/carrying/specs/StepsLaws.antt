@@ -35,7 +35,7 @@ use Rattle.carrying.specs.declared.StepAnswer.{StepAnswer}
 use Rattle.carrying.specs.declared.StepAnswer.the-variants.{Wrote, Finished, Refused}
 use Rattle.carrying.specs.Carrying.{stepTold, doneTold, progressChecks, putChecks, overEqual, fitsCarried, writtenSlot, takesRule, needsNoRoom, writeChecks, stepAnswer, stepWrites, stepTable, stepDone}
 use Rattle.carrying.specs.Carrying.{stepCall, stepCallTable, stepCallDone}
-use Rattle.carrying.specs.Steps.{StepEnds, Tells}
+use Rattle.carrying.specs.Steps.{StepEnds, StepTells}
 
 -- a slot is free where it is empty, or where its id stands elsewhere
 pub free-empty : (w : ℕ) (t : List ℕ) (j : ℕ) → empty w (slotWords w t j) ≡ true → true ≡ freeAt w t j
@@ -245,14 +245,14 @@ accepted-progress w t plan given done total values e = pick (progressChecks w t 
 
 -- an answer tells whether the step writes, and what its checks have then shown: of an answer that tells the same as the step's
 pub answer-tells : (w : ℕ) (t plan : List ℕ) (given : Given) (done total : ℕ) {a b : StepAnswer} → a ≡ b → stepTold a ≡ stepAnswer w t plan given done total
-    → Tells w t plan given done total b
+    → StepTells w t plan given done total b
 unfolding stepWrites
 answer-tells w t plan given done total {a} {b} e f =
     let end = ends (progressChecks w t (length plan) done total) refl in
-    subst (Tells w t plan given done total) (step-told-once (end .0) b (end .1 ∙ (sym f ∙ ap stepTold e))) (end .2)
+    subst (StepTells w t plan given done total) (step-told-once (end .0) b (end .1 ∙ (sym f ∙ ap stepTold e))) (end .2)
   where
     End : Type 0
-    End = (x : StepAnswer) × (stepTold x ≡ stepAnswer w t plan given done total) × Tells w t plan given done total x
+    End = (x : StepAnswer) × (stepTold x ≡ stepAnswer w t plan given done total) × StepTells w t plan given done total x
 
     next : progressChecks w t (length plan) done total ≡ Pass → done ≢ total
         → (y : Check) → y ≡ writeChecks w t given (getD plan done 0) done → End

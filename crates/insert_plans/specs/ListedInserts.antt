@@ -26,9 +26,3 @@ listedInsertPlan w u e t rule numbers plan = leaves (checkWords numbers (listNum
 -- the list afterwards: where a plan is given that of the table, else as it was
 abbrev pub listedInsertList : ℕ → Bool → ℕ → List ℕ → List ℕ → List ℕ → ℕ → List ℕ
 listedInsertList w u e t rule list room = cond (eqb (listedInsert w u e t rule (length list) room .number) 0) (listOf w u t) list
-
--- how the call ends: its answer, the plan buffer and the list afterwards
-abbrev pub ListedEnds : ℕ → Bool → ℕ → List ℕ → List ℕ → List ℕ → List ℕ → Told → List ℕ → List ℕ → Type 0
-ListedEnds w u e t rule list plan told after left =
-    (told ≡ listedInsertReply w u e t rule list (length plan)) × (after ≡ listedInsertPlan w u e t rule (length list) plan)
-    × (left ≡ listedInsertList w u e t rule list (length plan))

@@ -19,7 +19,13 @@ use Rattle.buffers.specs.BuffersLaws.{cover-refused, refreshed-refused, refresh
 use Rattle.neighbour_lists.specs.Lists.{listNumbers, listOf, staleList}
 use Rattle.insert_plans.specs.Inserts.{insertAnswer, insertPlan, insertCall, insertCover, insertReply, insertCallPlan, insertCallReply}
 use Rattle.insert_plans.specs.InsertsLaws.{call-reply-dropped}
-use Rattle.insert_plans.specs.ListedInserts.{listedInsert, listedInsertReply, listedInsertPlan, ListedEnds}
+use Rattle.insert_plans.specs.ListedInserts.{listedInsert, listedInsertReply, listedInsertPlan, listedInsertList}
+
+-- how the call ends: its answer, the plan buffer and the list afterwards
+abbrev ListedEnds : ℕ → Bool → ℕ → List ℕ → List ℕ → List ℕ → List ℕ → Told → List ℕ → List ℕ → Type 0
+ListedEnds w u e t rule list plan told after left =
+    (told ≡ listedInsertReply w u e t rule list (length plan)) × (after ≡ listedInsertPlan w u e t rule (length list) plan)
+    × (left ≡ listedInsertList w u e t rule list (length plan))
 
 -- the answer without a list stands behind the check of the rule
 call-behind : (w : ℕ) (u : Bool) (e : ℕ) (t rule : List ℕ) (room : ℕ)
@@ -76,8 +82,8 @@ module _ (w : ℕ) (u : Bool) (e : ℕ) (t rule list plan : List ℕ) where
 
   -- with a list of the table's length: the answer but for what it tells of the list, and the plan
   module _ (size : length list ≡ listNumbers w t) where
-    pub listed-same : listedInsert w u e t rule (length list) (length plan) ≡ insertCallReply w u e t rule (length plan)
-    listed-same = sym (told-answered (sym (words-law (length list) (listNumbers w t) .1 size)) refl refl)
+    pub reply-same : listedInsert w u e t rule (length list) (length plan) ≡ insertCallReply w u e t rule (length plan)
+    reply-same = sym (told-answered (sym (words-law (length list) (listNumbers w t) .1 size)) refl refl)
 
     pub plan-same : listedInsertPlan w u e t rule (length list) plan ≡ insertCallPlan w u e t rule plan
     plan-same =
@@ -85,6 +91,6 @@ module _ (w : ℕ) (u : Bool) (e : ℕ) (t rule list plan : List ℕ) where
 
     pub listed-dropped : withoutCover (listedInsertReply w u e t rule list (length plan)) ≡ insertCall w u e t rule (length plan)
     listed-dropped =
-        ap (λ (x : Told). withoutCover (withRefreshed x (staleList w u t list))) listed-same
+        ap (λ (x : Told). withoutCover (withRefreshed x (staleList w u t list))) reply-same
         ∙ (refreshed-dropped (insertCall w u e t rule (length plan)) (insertCover w t (lentRule w e rule)) (staleList w u t list)
         ∙ call-reply-dropped w u e t rule (length plan))

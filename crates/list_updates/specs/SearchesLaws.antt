@@ -60,9 +60,9 @@ module _ (p q : ℕ → Bool) (n from g : ℕ) (low : from ≤ g) (high : g < n)
       })
 
   -- it is g or comes after it, and the test holds there now
-  pub first-here : g ≤ least p (n - from) from → q g ≡ true → least q (n - from) from ≡ g
+  pub bound-here : g ≤ least p (n - from) from → q g ≡ true → least q (n - from) from ≡ g
   unfolding was
-  first-here l t =
+  bound-here l t =
       least-unique (least-law q (n - from) from) (record {
         low = low;
         high = omega arith;
@@ -71,9 +71,9 @@ module _ (p q : ℕ → Bool) (n from g : ℕ) (low : from ≤ g) (high : g < n)
       })
 
   -- it does not hold there: the first is looked for after g ..
-  pub first-after : g ≤ least p (n - from) from → q g ≡ false → least q (n - from) from ≡ least q (n - suc g) (suc g)
+  pub bound-after : g ≤ least p (n - from) from → q g ≡ false → least q (n - from) from ≡ least q (n - suc g) (suc g)
   unfolding was
-  first-after l f =
+  bound-after l f =
       let rest = least-law q (n - suc g) (suc g) in
       let at = rest .low in
       let end = rest .high in

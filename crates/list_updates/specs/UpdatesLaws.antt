@@ -23,7 +23,7 @@ use Rattle.records.specs.EntriesLaws.{refuted, precedes-cong}
 use Rattle.neighbour_lists.specs.PairLaws.{pair-apart, pair-falling, pattern-apart, precedes-empty}
 use Rattle.list_updates.specs.Updates.{boundedBy, boundedAt, numberAlong, foundFrom, nearestFrom, mayOverlap, reachesSlot, asksNumber}
 use Rattle.list_updates.specs.Updates.{BeforeWrite}
-use Rattle.list_updates.specs.SearchesLaws.{first-stays, first-here, first-after, first-past, number-found}
+use Rattle.list_updates.specs.SearchesLaws.{first-stays, bound-here, bound-after, first-past, number-found}
 
 -- of two rules of falling ranks, whether they overlap and are compared tells whether the first precedes the second
 pub precedes-told : (w : ℕ) (u : Bool) (a b : Words) {r : Bool} → r ≡ overlapping w a b && compared w u a b → rank w b < rank w a → r ≡ precedes w u a b
@@ -213,7 +213,7 @@ module _ (w : ℕ) (u : Bool) (t : List ℕ) (up : Bool) (g : ℕ) (few : slots 
     -- it reaches it, and the written slot bounds slot i now
     pub number-written : reachesSlot up number g ≡ true → boundedBy w u t up i g ≡ true → g ≡ numberAlong w u t up i
     number-written e b =
-        let here = first-here p q (slots w t) (suc (slotAt (slots w t) up i)) (slotAt (slots w t) up g) ahead below same (reached e) (ap (boundedBy w u t up i) (slot-turns (slots w t) up g within) ∙ b) in
+        let here = bound-here p q (slots w t) (suc (slotAt (slots w t) up i)) (slotAt (slots w t) up g) ahead below same (reached e) (ap (boundedBy w u t up i) (slot-turns (slots w t) up g within) ∙ b) in
         sym (number-at (slots w t) few up (slotAt (slots w t) up g) g (omega (arith, below)) within refl) ∙ becomes here
 
     -- it was the written slot, which bounds slot i no more: the next one is searched
@@ -221,7 +221,7 @@ module _ (w : ℕ) (u : Bool) (t : List ℕ) (up : Bool) (g : ℕ) (few : slots 
     unfolding foundFrom
     number-searched e f =
         let is = number-is (slots w t) few up (first old i) g (first-end old i at) within (sym told ∙ e) in
-        becomes (first-after p q (slots w t) (suc (slotAt (slots w t) up i)) (slotAt (slots w t) up g) ahead below same (omega (arith, is)) (unbounded f))
+        becomes (bound-after p q (slots w t) (suc (slotAt (slots w t) up i)) (slotAt (slots w t) up g) ahead below same (omega (arith, is)) (unbounded f))
 
     -- it lies past the written slot, which does not bound slot i
     pub number-kept : reachesSlot up number g ≡ true → (number ≡ g → ⊥) → boundedBy w u t up i g ≡ false → number ≡ numberAlong w u t up i

@@ -1,5 +1,4 @@
 -- Document 02, 2026-10: carrying out with a neighbour list lent. But for 1 by the list's length a step answers and writes as the one without a list.
-use mathlib.Core.Path.{_≡_}
 use mathlib.Core.Bool.{Bool, cond, _&&_}
 use mathlib.Core.List.{List, [], _∷_}
 use Prim.Native.Nat.{ℕ, _+_}
@@ -50,9 +49,3 @@ listedStepList w u e t plan rule list done total =
 abbrev pub listedStepCell : ℕ → Bool → ℕ → List ℕ → List ℕ → List ℕ → List ℕ → ℕ → ℕ → ℕ → ℕ
 listedStepCell w u e t plan rule list done total before =
     cond (listedStepWrites w e t plan rule (length list) done total) (flagNumber (staleList w u t list)) before
-
--- the ways in which a call ends: its answer, the table and the list
-abbrev pub ListedStepEnds : ℕ → Bool → ℕ → List ℕ → List ℕ → List ℕ → List ℕ → ℕ → ℕ → Told → List ℕ → List ℕ → Type 0
-ListedStepEnds w u e t plan rule list done total told table left =
-    (told ≡ listedStepReply w u e t plan rule list done total) × (table ≡ listedStepTable w e t plan rule (length list) done total)
-    × (left ≡ listedStepList w u e t plan rule list done total)

@@ -1,92 +1,49 @@
--- End theorems on one write: every other slot holds what it held, and a table that passes check 2 passes it again.
--- Laws on a step with a list: its equations by the step without one.
-use mathlib.Core.Path.{_≡_, sym, ap, _∙_, subst}
-use mathlib.Core.Bool.{Bool, false, cond, and-false}
-use mathlib.Core.Logic._⊎_.{inl, inr}
+-- End theorems on a step with a list: its equations by the step without one, and that its answer loses nothing.
+use mathlib.Core.Path.{_≡_, refl, sym, ap, ap₂, _∙_}
+use mathlib.Core.Bool.{Bool, false, true≢false, cond, and-false}
 use mathlib.Core.List.{List, [], _∷_}
-use Prim.Native.Nat.{ℕ, _+_, _≤_, _<_}
-use native.Mathlib.Decide.{ℕ-discrete}
+use Prim.Native.Nat.{ℕ, _+_, _≤_}
 use native.Mathlib.Omega.{arith}
-use lib.ListN.{length, getD, length-replicate}
-use Rattle.layout.specs.Write.{Write, copy, put, clear}
-use Rattle.plan_words.specs.PlanWords.{writeOf, SlotsBelow}
-use Rattle.records.specs.Record.{word, recordWords, slotWords, recordOf, putSlot}
+use lib.Dec.{eqb}
+use lib.ListN.{length, getD}
+use Rattle.plan_words.specs.PlanWords.{writeOf}
 use Rattle.records.specs.Order.{slots}
-use Rattle.records.specs.Entries.{vacant, entryAt, SameRecord}
-use Rattle.records.specs.EntriesLaws.{empty-cong, sound-same, listed-same, shaped-slots}
-use Rattle.records.specs.RulesLaws.{zero-word, length-listed, record-length, record-sound}
-use Rattle.records.specs.PutSlotLaws.{put-slots, put-here, put-other}
-use Rattle.records.specs.Writes.{applyWrite}
+use Rattle.records.specs.EntriesLaws.{shaped-slots}
 use Rattle.records.specs.WritesLaws.{apply-slots}
-use Rattle.records.specs.Checks.{Told, success, refusal, EmptyOrSound, checkRecords, slotChecks}
-use Rattle.records.specs.Laws.{records-law, empty-law, slot-checks-law, or-else-pass}
+use Rattle.records.specs.Checks.{Told, success, refusal, checkRecords, slotChecks}
+use Rattle.records.specs.Laws.{cause-number-once, cause-not-zero, slot-checks-law, or-else-pass}
 use Rattle.records.specs.Widths.{checkRule, checkWords}
 use Rattle.records.specs.WidthsLaws.{leaves-same, shape-turn}
 use Rattle.records.specs.Editions.{Given, lentRule, ranked}
-use Rattle.records.specs.EditionsLaws.{given-law, rank-sound}
-use Rattle.records.specs.declared.Rule.{Rule}
 use Rattle.records.specs.declared.Cause.{Cause}
 use Rattle.records.specs.declared.Check.{Check}
 use Rattle.records.specs.declared.Check.the-variants.{Pass, Fail}
 use Rattle.buffers.specs.Buffers.{flagNumber}
+use Rattle.buffers.specs.BuffersLaws.{flag-once}
 use Rattle.neighbour_lists.specs.Lists.{listNumbers, listOf, staleList}
-use Rattle.carrying.specs.Carrying.{stepTold, doneTold, progressChecks, writtenSlot, putChecks, stepAnswer, stepWrites, stepTable, stepDone}
+use Rattle.carrying.specs.Carrying.{stepTold, doneTold, progressChecks, stepAnswer, stepWrites, stepTable, stepDone}
 use Rattle.carrying.specs.Steps.{Writes}
 use Rattle.carrying.specs.StepsLaws.{carried-below, answer-done, step-moved}
 use Rattle.carrying.specs.declared.StepInfo.{StepInfo}
 use Rattle.carrying.specs.declared.StepAnswer.{StepAnswer}
 use Rattle.carrying.specs.declared.StepAnswer.the-variants.{Wrote}
-use Rattle.list_updates.specs.Updates.{BeforeWrite}
-use Rattle.listed_steps.specs.ListedSteps.{ListedStepEnds}
+use Rattle.listed_steps.specs.declared.ListedStepAnswer.{ListedStepAnswer}
+use Rattle.listed_steps.specs.declared.ListedStepAnswer.the-variants.{Wrote as WroteListed, Finished as FinishedListed, Refused as RefusedListed}
+use Rattle.listed_steps.specs.ListedSteps.{listedStepTold, listedStepReply, listedStepTable, listedStepList}
 
--- a record's words that are put into a slot
-module _ (w : ℕ) (t : List ℕ) (to : ℕ) (x : List ℕ) (inside : to < slots w t) (whole : length x ≡ recordWords w) where
-  -- the table before the write is the one after it but for that slot
-  put-before : BeforeWrite w (putSlot w t to x) to t
-  put-before =
-      let size = put-slots w t to x inside whole in
-      (sym size, λ k h other j l. sym (put-other w t to x inside whole k other j l))
-
-  -- it passes check 2 where the record is empty or sound
-  put-records : checkRecords w t ≡ Pass → EmptyOrSound w (word x) → checkRecords w (putSlot w t to x) ≡ Pass
-  put-records checks good = records-law w (putSlot w t to x) .1 (λ i h. at i h (ℕ-discrete i to))
-    where
-      same : (a b : ℕ → ℕ) → SameRecord w a b → EmptyOrSound w b → EmptyOrSound w a
-      same a b s (inl e) = inl (empty-cong w s ∙ e)
-      same a b s (inr e) = inr (sound-same w a b s ∙ e)
-
-      at : (i : ℕ) → i < slots w (putSlot w t to x) → Dec (i ≡ to) → EmptyOrSound w (slotWords w (putSlot w t to x) i)
-      at i h (yes e) = subst (λ (k : ℕ). EmptyOrSound w (slotWords w (putSlot w t to x) k)) (sym e) (same _ _ (put-here w t to x inside whole) good)
-      at i h (no e) =
-          same _ _ (put-other w t to x inside whole i e) (records-law w t .0 checks i (let size = put-slots w t to x inside whole in omega arith))
-
-module _ (w : ℕ) (t : List ℕ) where
-  pub written-below : (x : Write) → SlotsBelow (slots w t) x → writtenSlot x < slots w t
-  written-below (copy from to) h = h .1
-  written-below (put to) h = h
-  written-below (clear to) h = h
-
-  -- any write, on any table
-  pub write-before : (rule : Rule) (x : Write) → SlotsBelow (slots w t) x → BeforeWrite w (applyWrite w t rule x) (writtenSlot x) t
-  write-before rule (copy from to) h = put-before w t to (entryAt w t from) (h .1) (length-listed (recordWords w) (slotWords w t from))
-  write-before rule (put to) h = put-before w t to (recordOf w rule) h (record-length w rule)
-  write-before rule (clear to) h = put-before w t to (vacant w) h (length-replicate (recordWords w) 0)
-
-  -- a rule that is put in passes 5 and 18
-  pub write-records : (given : Given) (x : Write) → given .rule .action < 4294967296 → checkRecords w t ≡ Pass → SlotsBelow (slots w t) x → putChecks w given x ≡ Pass
-      → checkRecords w (applyWrite w t (ranked w given) x) ≡ Pass
-  unfolding ranked
-  write-records given (copy from to) small checks h pass =
-      put-records w t to (entryAt w t from) (h .1) (length-listed (recordWords w) (slotWords w t from)) checks (copied (records-law w t .0 checks from (h .0)))
-    where
-      copied : EmptyOrSound w (slotWords w t from) → EmptyOrSound w (word (entryAt w t from))
-      copied (inl e) = inl (empty-cong w (listed-same w (slotWords w t from)) ∙ e)
-      copied (inr e) = inr (sound-same w _ _ (listed-same w (slotWords w t from)) ∙ e)
-  write-records given (put to) small checks h pass =
-      put-records w t to (recordOf w (ranked w given)) h (record-length w (ranked w given)) checks
-      (inr (record-sound w (ranked w given) small ∙ rank-sound w given (given-law w given .0 pass .0)))
-  write-records given (clear to) small checks h pass =
-      put-records w t to (vacant w) h (length-replicate (recordWords w) 0) checks (inl (empty-law w (word (vacant w)) .1 (λ j l. zero-word (recordWords w) j)))
+-- an answer's number and values lose nothing
+pub listed-step-told-once : (a b : ListedStepAnswer) → listedStepTold a ≡ listedStepTold b → a ≡ b
+listed-step-told-once (WroteListed x) (WroteListed y) e =
+    λ i. WroteListed (record { done = ap (λ (t : Told). getD (t .values) 0 0) e i; refreshed = flag-once (x .refreshed) (y .refreshed) (ap (λ (t : Told). getD (t .values) 1 0) e) i })
+listed-step-told-once (WroteListed x) FinishedListed e = absurd (omega (arith, ap (λ (t : Told). length (t .values)) e))
+listed-step-told-once (WroteListed x) (RefusedListed c s) e = absurd (true≢false (ap (λ (t : Told). eqb (t .number) 0) e ∙ cause-not-zero c))
+listed-step-told-once FinishedListed (WroteListed y) e = absurd (omega (arith, ap (λ (t : Told). length (t .values)) e))
+listed-step-told-once FinishedListed FinishedListed e = refl
+listed-step-told-once FinishedListed (RefusedListed c s) e = absurd (true≢false (ap (λ (t : Told). eqb (t .number) 0) e ∙ cause-not-zero c))
+listed-step-told-once (RefusedListed c s) (WroteListed y) e = absurd (true≢false (ap (λ (t : Told). eqb (t .number) 0) (sym e) ∙ cause-not-zero c))
+listed-step-told-once (RefusedListed c s) FinishedListed e = absurd (true≢false (ap (λ (t : Told). eqb (t .number) 0) (sym e) ∙ cause-not-zero c))
+listed-step-told-once (RefusedListed c s) (RefusedListed d u) e =
+    ap₂ RefusedListed (cause-number-once c d (ap (λ (t : Told). t .number) e)) (ap (λ (t : Told). getD (t .values) 0 0) e)
 
 -- a step that writes: its table passes checks 1 and 2, and has as many slots afterwards
 module _ (w : ℕ) (t plan : List ℕ) (given : Given) (done total : ℕ) where
@@ -109,6 +66,12 @@ module _ (w : ℕ) (t plan : List ℕ) (given : Given) (done total : ℕ) where
   -- an answer by which as many writes are done as before
   pub answer-still : {a b : StepAnswer} → a ≡ b → stepTold a ≡ stepAnswer w t plan given done total → doneTold (stepTold b) done ≡ done → stepWrites w t plan given done total ≡ false
   answer-still e told same = step-moved w t plan given done total done (sym same ∙ answer-done w t plan given done total e told) .1 (omega arith)
+
+-- the ways in which a call ends: its answer, the table and the list
+abbrev ListedStepEnds : ℕ → Bool → ℕ → List ℕ → List ℕ → List ℕ → List ℕ → ℕ → ℕ → Told → List ℕ → List ℕ → Type 0
+ListedStepEnds w u e t plan rule list done total told table left =
+    (told ≡ listedStepReply w u e t plan rule list done total) × (table ≡ listedStepTable w e t plan rule (length list) done total)
+    × (left ≡ listedStepList w u e t plan rule list done total)
 
 -- the call, behind its two checks
 module _ (w : ℕ) (u : Bool) (e : ℕ) (t plan rule list : List ℕ) (done total : ℕ) where

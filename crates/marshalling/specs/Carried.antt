@@ -37,10 +37,6 @@ listedCarriedStep w e t plan rule numbers done total = record {
   result = carryResult (listedStep w e t plan rule numbers done total);
 }
 
--- the cell for whether the list was worked out afresh, the second value of an answer that wrote
-abbrev pub refreshedCell : Told → ℕ → ℕ
-refreshedCell told before = cond (eqb (told .number) 0) (getD (told .values) 1 before) before
-
 -- a spot is a number of 32 bits
 abbrev pub SpotFits : StepAnswer → Type 0
 SpotFits (Wrote info) = Unit {0}

@@ -25,7 +25,7 @@ use Rattle.carrying.specs.StepsLaws.{done-refused, call-done-told}
 use Rattle.carrying.specs.SpotsLaws.{call-spot}
 use Rattle.listed_steps.specs.ListedSteps.{listedStep, listedStepReply, listedStepDone, listedStepCell}
 use Rattle.marshalling.specs.declared.Carried.{Carried}
-use Rattle.marshalling.specs.Carried.{SameCase, SpotFits, carriedStep, carryResult, carriedTold, listedCarriedStep, refreshedCell}
+use Rattle.marshalling.specs.Carried.{SameCase, SpotFits, carriedStep, carryResult, carriedTold, listedCarriedStep}
 
 -- each case of an answer has its number
 pub carry-wrote : (info : StepInfo) → carryResult (stepTold (Wrote info)) ≡ 0
@@ -110,6 +110,10 @@ carry-ends w edition t plan rule done total e m =
     let d = ap (λ (x : Told). doneTold x done) e ∙ call-done-told w edition t plan rule done total in
     let n = ap carryResult e in
     m ∙ (λ i. record { done = d i; result = n i })
+
+-- the cell for whether the list was worked out afresh, the second value of an answer that wrote
+abbrev refreshedCell : Told → ℕ → ℕ
+refreshedCell told before = cond (eqb (told .number) 0) (getD (told .values) 1 before) before
 
 -- what crosses of a step with a neighbour list: its answer tells the writes done, its number and whether the list was worked out afresh
 module _ (w : ℕ) (u : Bool) (e : ℕ) (t plan rule list : List ℕ) (done total : ℕ) where

@@ -16,7 +16,7 @@ use Rattle.search.specs.SearchLaws.{all-law, all-next, all-cong}
 use Rattle.records.specs.Order.{slots}
 use Rattle.records.specs.Widths.{Width}
 use Rattle.records.specs.RulesLaws.{length-listed, word-listed}
-use Rattle.neighbour_lists.specs.Lists.{Listed, nextDependant, lastPreceding, listNumbers, numberAt, listOf, differing, staleList}
+use Rattle.neighbour_lists.specs.Lists.{Listed, nextDependant, lastPreceding, listNumbers, listNumberAt, listOf, differing, staleList}
 
 -- a slot has more words than a list has numbers for it, so that twice the slots of a lent table fit a number
 pub numbers-few : (w : ℕ) (t : List ℕ) → Width w → listNumbers w t ≤ length t
@@ -29,18 +29,18 @@ numbers-few w t width = by (width .2)
 -- the numbers of the list, and their places
 pub list-length : (w : ℕ) (u : Bool) (t : List ℕ) → length (listOf w u t) ≡ listNumbers w t
 unfolding listOf
-list-length w u t = length-listed (listNumbers w t) (numberAt w u t)
+list-length w u t = length-listed (listNumbers w t) (listNumberAt w u t)
 
-pub list-number : (w : ℕ) (u : Bool) (t : List ℕ) (k : ℕ) → k < listNumbers w t → getD (listOf w u t) k 0 ≡ numberAt w u t k
+pub list-number : (w : ℕ) (u : Bool) (t : List ℕ) (k : ℕ) → k < listNumbers w t → getD (listOf w u t) k 0 ≡ listNumberAt w u t k
 unfolding listOf
-list-number w u t k h = word-listed (listNumbers w t) (numberAt w u t) k h
+list-number w u t k h = word-listed (listNumbers w t) (listNumberAt w u t) k h
 
-pub number-even : (w : ℕ) (u : Bool) (t : List ℕ) (i : ℕ) → numberAt w u t (2 * i) ≡ nextDependant w u t i
+pub number-even : (w : ℕ) (u : Bool) (t : List ℕ) (i : ℕ) → listNumberAt w u t (2 * i) ≡ nextDependant w u t i
 number-even w u t i =
     let half : 2 * i / 2 ≡ i = omega arith in
     rw (eq-eqb (2 * i % 2) 0 (omega arith), half)
 
-pub number-odd : (w : ℕ) (u : Bool) (t : List ℕ) (i : ℕ) → numberAt w u t (2 * i + 1) ≡ lastPreceding w u t i
+pub number-odd : (w : ℕ) (u : Bool) (t : List ℕ) (i : ℕ) → listNumberAt w u t (2 * i + 1) ≡ lastPreceding w u t i
 number-odd w u t i =
     let half : (2 * i + 1) / 2 ≡ i = omega arith in
     rw (ne-eqb ((2 * i + 1) % 2) 0 (λ e. omega arith), half)
@@ -82,8 +82,8 @@ pub record Stored (near old : List ℕ) (i : ℕ) (list : List ℕ) : Type 0 whe
   pub first : (k : ℕ) → k < i → getD list k 0 ≡ getD near k 0
   pub rest : (k : ℕ) → i ≤ k → getD list k 0 ≡ getD old k 0
 
-pub store-next : (near old list : List ℕ) (i : ℕ) → Stored near old i list → i < length old → Stored near old (i + 1) (set list i (getD near i 0))
-store-next near old list i s h = record {
+pub stored-next : (near old list : List ℕ) (i : ℕ) → Stored near old i list → i < length old → Stored near old (i + 1) (set list i (getD near i 0))
+stored-next near old list i s h = record {
   size = length-set list i (getD near i 0) ∙ s .size;
   first = λ k l. at k l (ℕ-discrete k i);
   rest = λ k l. getD-set-other list i k (getD near i 0) 0 (λ e. omega arith) ∙ s .rest k (omega arith);

@@ -42,12 +42,12 @@ Listed w u t near = (i : ℕ) → i < slots w t → (getD near (2 * i) 0 ≡ nex
 abbrev pub listNumbers : ℕ → List ℕ → ℕ
 listNumbers w t = 2 * slots w t
 
-abbrev pub numberAt : ℕ → Bool → List ℕ → ℕ → ℕ
-numberAt w u t k = cond (eqb (k % 2) 0) (nextDependant w u t (k / 2)) (lastPreceding w u t (k / 2))
+abbrev pub listNumberAt : ℕ → Bool → List ℕ → ℕ → ℕ
+listNumberAt w u t k = cond (eqb (k % 2) 0) (nextDependant w u t (k / 2)) (lastPreceding w u t (k / 2))
 
 -- the list of a table, worked out from the whole of it
 unfoldable pub listOf : ℕ → Bool → List ℕ → List ℕ
-listOf w u t = listed (listNumbers w t) (numberAt w u t)
+listOf w u t = listed (listNumbers w t) (listNumberAt w u t)
 
 -- one of the first n numbers of a list is another than in a second one
 unfoldable pub differing : List ℕ → List ℕ → ℕ → Bool

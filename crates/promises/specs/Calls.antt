@@ -38,7 +38,7 @@ CarriedOut w e t plan rule count after = (progress : Progress) × Carrying w e t
 -- delete with any record of as many words, and any edition. An insert counts with the rank that its edition gives it, and the rule that it replaces counts as
 -- deleted.
 -- Document 02, 2026-11: u tells whether some call has named the table as uncounted. From that call on every call that takes a flag names it so; the calls that
--- take none, as lookups and the carrying out, say nothing of it.
+-- take none, as lookups and the carrying out, say nothing of it. Carrying out with a neighbour list takes one, which decides the list alone (`CarryListed .same`).
 pub data CameTo (w : ℕ) : Bool → List Change → List ℕ → Type 0 where
   started : (n : ℕ) → 1 ≤ n → n ≤ 1024 → CameTo w false [] (replicate (n * recordWords w) 0)
   uncounted : (history : List Change) (t : List ℕ) → CameTo w false history t → CameTo w true history t

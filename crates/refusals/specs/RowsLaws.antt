@@ -141,26 +141,26 @@ answered (Fail c s) rows values agree = record {
 }
 
 -- an answer whose success has these values: rows do not ask for them
-abbrev pub valued : Told → List ℕ → Told
-valued told values = record { number = told .number; values = cond (eqb (told .number) 0) values (told .values) }
+abbrev pub withValues : Told → List ℕ → Told
+withValues told values = record { number = told .number; values = cond (eqb (told .number) 0) values (told .values) }
 
-pub values-answered : (rows : List Row) (told : Told) (values : List ℕ) → AnsweredBy rows told → AnsweredBy rows (valued told values)
+pub values-answered : (rows : List Row) (told : Told) (values : List ℕ) → AnsweredBy rows told → AnsweredBy rows (withValues told values)
 values-answered rows told values answer = ⊎-elim went declined (answer .either)
   where
-    went : (own : List ℕ) × (told ≡ success own) → AnsweredBy rows (valued told values)
+    went : (own : List ℕ) × (told ≡ success own) → AnsweredBy rows (withValues told values)
     went w =
         let own = subst (AnsweredBy rows) (w .1) answer in
-        subst (λ (x : Told). AnsweredBy rows (valued x values)) (sym (w .1)) (record {
+        subst (λ (x : Told). AnsweredBy rows (withValues x values)) (sym (w .1)) (record {
           either = inl (values, refl);
           declined = λ cause spot. (λ e. absurd (no-refusal values cause spot e), λ d. absurd (no-refusal (w .0) cause spot (own .declined cause spot .1 d)));
           accepted = own .accepted;
         })
 
-    declined : (cause : Cause) × (spot : ℕ) × (told ≡ refusal cause spot) → AnsweredBy rows (valued told values)
+    declined : (cause : Cause) × (spot : ℕ) × (told ≡ refusal cause spot) → AnsweredBy rows (withValues told values)
     declined w =
-        let kept : refusal (w .0) (w .1) ≡ valued (refusal (w .0) (w .1)) values
+        let kept : refusal (w .0) (w .1) ≡ withValues (refusal (w .0) (w .1)) values
         = ap (λ (b : Bool). record { number = causeNumber (w .0); values = cond b values (w .1 ∷ []) }) (sym (cause-not-zero (w .0))) in
-        subst (AnsweredBy rows) (w .2 ∙ (kept ∙ ap (λ (x : Told). valued x values) (sym (w .2)))) answer
+        subst (AnsweredBy rows) (w .2 ∙ (kept ∙ ap (λ (x : Told). withValues x values) (sym (w .2)))) answer
 
 -- no two slots are the lowest that something is wrong with
 pub lowest-once : (n : ℕ) (Wrong : ℕ → Type 0) (x y : ℕ) → Lowest n Wrong x → Lowest n Wrong y → x ≡ y

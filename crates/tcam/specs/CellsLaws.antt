@@ -25,7 +25,7 @@ use Rattle.lookups.specs.Lookup.{lookupAnswer, lookupCall, hitAt, Case, refused
 use Rattle.lookups.specs.LookupLaws.{lookup-cases, lookup-hit, lookup-miss, lookup-refused, hit-not-zero}
 use Rattle.insert_plans.specs.Inserts.{insertCall, insertCover}
 use Rattle.insert_plans.specs.ListedInserts.{listedInsert, listedInsertReply}
-use Rattle.insert_plans.specs.ListedInsertsLaws.{listed-same, plan-same, list-refused}
+use Rattle.insert_plans.specs.ListedInsertsLaws.{reply-same, plan-same, list-refused}
 use Rattle.marshalling.specs.Cells.{dataCell, spotCell}
 use Rattle.marshalling.specs.CellsLaws.{refusal-kept, refusal-put, cover-cells, refreshed-cells, refreshed-cell}
 use Rattle.tcam.specs.Cells.{HitCells, MissCells, InsertLeft, CoverLeft, ListedInsertLeft, ListDeclined}
@@ -76,7 +76,7 @@ module _ (w : ℕ) (u : Bool) (e : ℕ) (t rule list list′ : List ℕ) (result
   pub listed-as-insert : length list ≡ listNumbers w t
       → InsertLeft w u e t rule result plan after count count′ spot spot′ × CoverLeft w u e t rule (length plan) covered covered′
   listed-as-insert size =
-      let same = listed-same w u e t rule list plan size in
+      let same = reply-same w u e t rule list plan size in
       let cover = cover-cells (insertCall w u e t rule (length plan)) (insertCover w t (lentRule w e rule)) count spot in (
         record {
           left = record {

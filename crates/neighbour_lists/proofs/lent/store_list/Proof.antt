@@ -9,7 +9,7 @@ use lib.ListN.{length, getD}
 use denote.Ref.{now}
 use Rattle.search.specs.Search as S
 use Rattle.neighbour_lists.specs.Lists.{differing}
-use Rattle.neighbour_lists.specs.LentLaws.{Stored, store-next, stored-all, differing-next}
+use Rattle.neighbour_lists.specs.LentLaws.{Stored, stored-next, stored-all, differing-next}
 use Rattle.neighbour_lists.proofs.lent.store_list.Statement.{statement}
 use Rattle.neighbour_lists.proofs.lent.store_list.Tie as tie
 
@@ -61,7 +61,7 @@ loop-again c =
     let i = c .before .before .before .before .loop .index in
     let l = c .before .before .before .before .loop .list in
     let v = getD (now (a .near)) i 0 in
-    let next = store-next (now (a .near)) (now (a .list)) l i (inv .2) (omega arith) in (
+    let next = stored-next (now (a .near)) (now (a .list)) l i (inv .2) (omega arith) in (
       omega arith,
       next .size,
       next,

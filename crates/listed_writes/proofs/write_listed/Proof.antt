@@ -1,4 +1,4 @@
--- `listed_steps::write_listed` meets its contract.
+-- `listed_writes::write_listed` meets its contract.
 -- The write leaves every slot but one as it was, and check 2 passes again.
 use mathlib.Core.Path.{_≡_, sym, subst}
 use mathlib.Core.List.{List}
@@ -18,9 +18,9 @@ use Rattle.records.specs.WritesLaws.{apply-slots}
 use Rattle.records.specs.declared.Check.the-variants.{Pass}
 use Rattle.carrying.specs.StepsLaws.{carried-below}
 use Rattle.list_updates.specs.Updates.{ListedBefore}
-use Rattle.listed_steps.specs.ListedStepsLaws.{written-below, write-before, write-records}
-use Rattle.listed_steps.proofs.write_listed.Statement.{statement}
-use Rattle.listed_steps.proofs.write_listed.Tie as tie
+use Rattle.listed_writes.specs.ListedWritesLaws.{written-below, write-before, write-records}
+use Rattle.listed_writes.proofs.write_listed.Statement.{statement}
+use Rattle.listed_writes.proofs.write_listed.Tie as tie
 
 make-write-requires : tie.Need-make-write-requires
 make-write-requires c κs = search needs
