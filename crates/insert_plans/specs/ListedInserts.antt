@@ -1,5 +1,4 @@
 -- Document 02, 2026-10: planning an insert with a neighbour list lent. But for 1 by the list's length the call answers and plans as the one without a list.
-use mathlib.Core.Path.{_≡_}
 use mathlib.Core.Bool.{Bool, cond}
 use mathlib.Core.List.{List}
 use Prim.Native.Nat.{ℕ}
