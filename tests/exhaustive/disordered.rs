@@ -76,8 +76,13 @@ struct Asked {
     uncounted: bool,
 }
 
+type Answer = Result<ListedCarried, Refusal>;
+
 /// All that is seen of a call.
-type Seen = (Result<ListedCarried, Refusal>, Vec<u64>, Vec<u16>, Progress);
+type Seen = (Answer, Vec<u64>, Vec<u16>, Progress);
+
+/// The call, the library's or the reference's.
+type CarryOut = fn(&mut [u64], usize, bool, &[u64], u32, &mut [u16], &[u32], &mut Progress) -> Answer;
 
 impl Asked {
     /// One write on both sides. The list is right every other time, else one of its numbers is another.
@@ -87,7 +92,13 @@ impl Asked {
         if wrong < list.len() {
             list[wrong] ^= 1;
         }
-        let (library, reference) = (self.library(write, new, &list), self.reference(write, new, &list));
+        let library = self.seen(write, new, &list, |words, width, uncounted, rule, edition, list, plan, progress| {
+            match support::calls::carry_out_listed(words, width, uncounted, rule, edition, list, plan, progress) {
+                (0, Some(refreshed)) => Ok(ListedCarried::Wrote { refreshed }),
+                (result, _) => Err(Refusal { number: result as u32, spot: result >> 32 }),
+            }
+        });
+        let reference = self.seen(write, new, &list, listed::carry_out_listed);
         if library != reference {
             println!("exhaustive: MISMATCH: the write {write:x} with the list {list:?} of {:x?}", self.words);
             println!("  width {}, uncounted {}, new rule {new:x?}", self.width, self.uncounted);
@@ -99,39 +110,11 @@ impl Asked {
         writes.declined += u64::from(library.0.is_err());
     }
 
-    fn reference(&self, write: u32, new: &Rule, list: &[u16]) -> Seen {
+    /// One write as one of them makes it.
+    fn seen(&self, write: u32, new: &Rule, list: &[u16], carry_out: CarryOut) -> Seen {
         let (mut words, mut list, mut progress) = (self.words.clone(), list.to_vec(), Progress { done: 0, total: 1 });
         let (record, plan) = (new.record(self.width), [write]);
-        let answer = listed::carry_out_listed(
-            &mut words,
-            self.width,
-            self.uncounted,
-            &record,
-            EDITION_13,
-            &mut list,
-            &plan,
-            &mut progress,
-        );
-        (answer, words, list, progress)
-    }
-
-    fn library(&self, write: u32, new: &Rule, list: &[u16]) -> Seen {
-        let (mut words, mut list, mut progress) = (self.words.clone(), list.to_vec(), Progress { done: 0, total: 1 });
-        let (record, plan) = (new.record(self.width), [write]);
-        let told = support::calls::carry_out_listed(
-            &mut words,
-            self.width,
-            self.uncounted,
-            &record,
-            EDITION_13,
-            &mut list,
-            &plan,
-            &mut progress,
-        );
-        let answer = match told {
-            (0, Some(refreshed)) => Ok(ListedCarried::Wrote { refreshed }),
-            (result, _) => Err(Refusal { number: result as u32, spot: result >> 32 }),
-        };
+        let answer = carry_out(&mut words, self.width, self.uncounted, &record, EDITION_13, &mut list, &plan, &mut progress);
         (answer, words, list, progress)
     }
 }

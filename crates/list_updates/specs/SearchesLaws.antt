@@ -49,9 +49,9 @@ module _ (p q : ℕ → Bool) (n from g : ℕ) (low : from ≤ g) (high : g < n)
   law = least-law p (n - from) from
 
   -- it comes before g: it stays
-  pub first-stays : least p (n - from) from < g → least q (n - from) from ≡ least p (n - from) from
+  pub bound-stays : least p (n - from) from < g → least q (n - from) from ≡ least p (n - from) from
   unfolding was
-  first-stays l =
+  bound-stays l =
       least-unique (least-law q (n - from) from) (record {
         low = law .low;
         high = law .high;
@@ -93,9 +93,9 @@ module _ (p q : ℕ → Bool) (n from g : ℕ) (low : from ≤ g) (high : g < n)
       by j a b (no h) = least-law q (n - suc g) (suc g) .before j (omega arith) b
 
   -- .. and is found already, where it came after g
-  pub first-past : g < least p (n - from) from → q g ≡ false → least q (n - from) from ≡ least p (n - from) from
+  pub bound-past : g < least p (n - from) from → q g ≡ false → least q (n - from) from ≡ least p (n - from) from
   unfolding was
-  first-past l f =
+  bound-past l f =
       least-unique (least-law q (n - from) from) (record {
         low = law .low;
         high = law .high;

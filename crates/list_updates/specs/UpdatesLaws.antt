@@ -23,7 +23,7 @@ use Rattle.records.specs.EntriesLaws.{refuted, precedes-cong}
 use Rattle.neighbour_lists.specs.PairLaws.{pair-apart, pair-falling, pattern-apart, precedes-empty}
 use Rattle.list_updates.specs.Updates.{boundedBy, boundedAt, numberAlong, foundFrom, nearestFrom, mayOverlap, reachesSlot, asksNumber}
 use Rattle.list_updates.specs.Updates.{BeforeWrite}
-use Rattle.list_updates.specs.SearchesLaws.{first-stays, bound-here, bound-after, first-past, number-found}
+use Rattle.list_updates.specs.SearchesLaws.{bound-stays, bound-here, bound-after, bound-past, number-found}
 
 -- of two rules of falling ranks, whether they overlap and are compared tells whether the first precedes the second
 pub precedes-told : (w : ℕ) (u : Bool) (a b : Words) {r : Bool} → r ≡ overlapping w a b && compared w u a b → rank w b < rank w a → r ≡ precedes w u a b
@@ -206,7 +206,7 @@ module _ (w : ℕ) (u : Bool) (t : List ℕ) (up : Bool) (g : ℕ) (few : slots 
     number-short e = by (decLt (first old i) (slotAt (slots w t) up g))
       where
         by : Dec (first old i < slotAt (slots w t) up g) → number ≡ numberAlong w u t up i
-        by (yes l) = told ∙ becomes (first-stays p q (slots w t) (suc (slotAt (slots w t) up i)) (slotAt (slots w t) up g) ahead below same l)
+        by (yes l) = told ∙ becomes (bound-stays p q (slots w t) (suc (slotAt (slots w t) up i)) (slotAt (slots w t) up g) ahead below same l)
         by (no l) =
             absurd (true≢false (sym (reach-yes (slots w t) few up (first old i) g (first-end old i at) within (omega arith)) ∙ (ap (λ (k : ℕ). reachesSlot up k g) (sym told) ∙ e)))
 
@@ -228,7 +228,7 @@ module _ (w : ℕ) (u : Bool) (t : List ℕ) (up : Bool) (g : ℕ) (few : slots 
     number-kept e d f =
         let far = reached e in
         let past : slotAt (slots w t) up g < first old i = at-most (λ h. d (told ∙ number-at (slots w t) few up (first old i) g (first-end old i at) within h)) far in
-        told ∙ becomes (first-past p q (slots w t) (suc (slotAt (slots w t) up i)) (slotAt (slots w t) up g) ahead below same past (unbounded f))
+        told ∙ becomes (bound-past p q (slots w t) (suc (slotAt (slots w t) up i)) (slotAt (slots w t) up g) ahead below same past (unbounded f))
       where
         at-most : {a b : ℕ} → (a ≡ b → ⊥) → b ≤ a → b < a
         at-most d l = omega arith
