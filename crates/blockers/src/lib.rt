@@ -1,5 +1,7 @@
 // The slots whose rules depend on a new one, directly or through others of the table: document 02's blockers, below A. One pass over the slots.
 // Two rules are compared only where the table's neighbour list does not tell already that the one does not depend on the other.
+#![tactic(auto)]
+
 ghost use Rattle.std.specs.Prelude.{◌≡◌, ◌||◌, ◌++◌, ℕ, ◌*◌, ◌≤◌, ◌<◌, length, get_or, drop};
 ghost use Rattle.search.specs.Search.{any};
 ghost use Rattle.records.specs.Record.{most_slots, record_words, slot_words};

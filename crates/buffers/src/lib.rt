@@ -1,5 +1,7 @@
 // What a call that writes into a lent buffer answers and leaves there, a plan's words or an image's bytes, and what a planning call answers.
 // specs/ has the definitions, which planning and saving share.
+#![tactic(auto)]
+
 ghost use Rattle.std.specs.Prelude.{◌≡◌, [], ◌∷◌, length};
 ghost use Rattle.records.specs.declared.Check.TheVariants.{Pass};
 ghost use Rattle.buffers.specs.Buffers.{plan_told, insert_answer_told, without_cover, buffer_answer, buffer_after};

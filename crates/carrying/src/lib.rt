@@ -1,5 +1,7 @@
 // What carrying a plan out answers; specs/ has the definitions of a step and of steps one after the other, for every table and plan.
 // The calls are in `steps`.
+#![tactic(auto)]
+
 use records::Cause;
 
 // What a step that wrote tells: how many writes are done now.

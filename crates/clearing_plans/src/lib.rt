@@ -1,5 +1,7 @@
 // Planning a clearing: the blocker of a crossed rule that stands in the highest slot is copied to a slot after A, or to A itself, and its older copy emptied.
 // The table is never changed, and a call that declines leaves the plan buffer as it was.
+#![tactic(auto)]
+
 ghost use Rattle.std.specs.Prelude.{◌≡◌, cond, ◌++◌, map, ◌+◌, ◌*◌, ◌≤◌, ◌<◌, eqb, length, drop};
 ghost use Rattle.layout.specs.Clearing.{landed};
 ghost use Rattle.plan_words.specs.PlanWords.{write_of};

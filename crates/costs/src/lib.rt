@@ -1,5 +1,7 @@
 // The costs of all positions along one direction, from the ends of their windows alone.
 // A position's cost rests on those of the positions after it; nothing here knows what a slot holds.
+#![tactic(auto)]
+
 ghost use Rattle.std.specs.Prelude.{◌≡◌, ◌+◌, ◌-◌, ◌≤◌, ◌<◌, min, length};
 ghost use Rattle.layout.specs.Minimum.{minimum};
 ghost use Rattle.costs.specs.Costs.{cost_of, position_cost, Sized, Filled};

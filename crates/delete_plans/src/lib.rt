@@ -1,5 +1,7 @@
 // Planning a delete: one write that empties the rule's slot.
 // The table is never changed, and a call that declines leaves the plan buffer as it was.
+#![tactic(auto)]
+
 ghost use Rattle.std.specs.Prelude.{◌≡◌, ◌<◌, length};
 ghost use Rattle.records.specs.Order.{slots};
 ghost use Rattle.records.specs.Widths.{Width};

@@ -1,5 +1,7 @@
 // Test program: tables at the edge of document 01, looked up and checked; what it prints is held to the file stdout.
 // A slot id action, M (miss), R number spot; K the covering slot of an insert, P count and B with the buffer's first words; C: passes checks 1 to 4; W words last: a slot's record; S 0 or 1: is a rule sound.
+#![tactic(auto)]
+
 ghost use Rattle.std.specs.Prelude.{◌≡◌, length};
 
 use buffers::{InsertAnswer, PlanAnswer, without_cover};

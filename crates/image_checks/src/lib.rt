@@ -1,5 +1,7 @@
 // The checks of an image: its header, each entry of its contents, each body; a failure tells where the wrong field stands.
 // An image is only read here: the table that it means is built in `loads`.
+#![tactic(auto)]
+
 ghost use Rattle.std.specs.Prelude.{◌≡◌, ◌&&◌, [], ◌∷◌, ℕ, ◌+◌, ◌*◌, ◌≤◌, ◌<◌, length};
 ghost use Rattle.ternary.specs.Pattern.{within, full_mask};
 ghost use Rattle.records.specs.Record.{most_slots, listed, mask, rank_fits, put_slot};

@@ -1,5 +1,7 @@
 // Planning an insert: costs in both directions, the choice between them, and the words of its chain; the one word of a replacement; the rule that covers the new one.
 // The table is never changed, and a call that declines leaves the plan buffer as it was.
+#![tactic(auto)]
+
 ghost use Rattle.std.specs.Prelude.{◌≡◌, false, cond, ◌+◌, ◌-◌, ◌*◌, ◌≤◌, ◌<◌, eqb, length};
 ghost use Rattle.records.specs.Record.{most_slots, record_words, slot_words};
 ghost use Rattle.records.specs.Order.{slots as slots_of};

@@ -1,5 +1,7 @@
 // A neighbour list brought up to date after a write to one slot. Of the other slots only those are asked again whose number was, or may become, the written slot.
 // Going down a slot's number is its nearest dependant's after it, going up its nearest preceding rule's before it: one loop along positions serves both.
+#![tactic(auto)]
+
 ghost use Rattle.std.specs.Prelude.{◌≡◌, true, not, ℕ, ◌*◌, ◌<◌, ◌≤◌, length, get_or};
 ghost use Rattle.search.specs.Search.{NoneFrom};
 ghost use Rattle.positions.specs.Positions.{slot_at};

@@ -1,5 +1,7 @@
 // Carrying a plan out with a neighbour list lent: the step of `steps` with a list, after which the list is that of the table.
 // A step that declines or is finished changes nothing.
+#![tactic(auto)]
+
 ghost use Rattle.std.specs.Prelude.{◌≡◌, cond, [], ◌∷◌, ◌+◌, length};
 ghost use Rattle.records.specs.Record.{record_words};
 ghost use Rattle.records.specs.Widths.{Width};

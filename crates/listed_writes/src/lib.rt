@@ -1,5 +1,7 @@
 // One write that fits, and the table's own neighbour list brought up to date: for a list that a call keeps itself, and so need not test.
 // What is lent by a caller is tested by `listed_steps`, before the first write.
+#![tactic(auto)]
+
 ghost use Rattle.std.specs.Prelude.{◌≡◌, true, ◌≤◌, length};
 ghost use Rattle.plan_words.specs.PlanWords.{write_of};
 ghost use Rattle.records.specs.Record.{most_slots, record_words};

@@ -1,5 +1,7 @@
 // Loading an image: every field is checked and the table meant is built apart, before the lent table is written.
 // A refused load leaves the lent table as it was; of it only the length counts.
+#![tactic(auto)]
+
 ghost use Rattle.std.specs.Prelude.{◌≡◌, ℕ, ◌≤◌, ◌<◌, length, replicate};
 ghost use Rattle.records.specs.Record.{most_slots, most_words};
 ghost use Rattle.records.specs.Order.{slots};

@@ -1,5 +1,7 @@
 // Looking keys up in a lent table, and a slot's record as a part of it: calls with an answer for every input.
 // Each contract is an equation for the reply on all inputs, refused ones too; specs/ has the definitions.
+#![tactic(auto)]
+
 pub mod lookup;
 
 use records::Cause;

@@ -1,5 +1,7 @@
 // What crosses between the C interface and the calls: a planning call's answer as its number and lent cells.
 // A step takes its progress as two numbers, and its answer crosses as one: the cause's number in the lower half, the spot in the upper.
+#![tactic(auto)]
+
 ghost use Rattle.std.specs.Prelude.{◌≡◌, length};
 ghost use Rattle.buffers.specs.Buffers.{plan_told, insert_answer_told, listed_answer_told};
 ghost use Rattle.carrying.specs.Carrying.{step_told, step_call_table};

@@ -1,5 +1,7 @@
 // Two slots side by side: apart, overlapping or covering, one id in both, compared, tied, equal, one before the other. Each slot is read in its own table.
 // A slot of one table and a slot of another, or of the same; a rule to be inserted is a table of one slot.
+#![tactic(auto)]
+
 ghost use Rattle.std.specs.Prelude.{◌≡◌, ◌&&◌, ◌<◌, eqb};
 ghost use Rattle.records.specs.Record.{slot_words, mask, action, occupied};
 ghost use Rattle.ternary.specs.Comparison.{masks_within};

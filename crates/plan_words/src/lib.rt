@@ -1,5 +1,7 @@
 // Plan words: document 01's write as one word of 32 bits, from × 65,536 + to. Its numbers, encoder and decoder stand here alone.
 // What a write does to a table, and when it fits, is in `records`; `writes` makes it.
+#![tactic(auto)]
+
 ghost use Rattle.std.specs.Prelude.{◌≡◌, ◌<◌};
 ghost use Rattle.plan_words.specs.PlanWords.{emptying, word_of, write_word, write_of, write_meant, SlotsBelow};
 

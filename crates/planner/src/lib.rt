@@ -1,5 +1,7 @@
 // From costs to a plan: the choice of direction and position, and the chain's words.
 // Everything runs in one direction along positions (crate `positions`).
+#![tactic(auto)]
+
 ghost use Rattle.std.specs.Prelude.{◌≡◌, ◌++◌, ℕ, suc, ◌-◌, ◌≤◌, ◌<◌, eqb, length, drop};
 ghost use Rattle.search.specs.Search.{least};
 ghost use Rattle.layout.specs.Write.{copy};

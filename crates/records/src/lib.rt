@@ -1,5 +1,7 @@
 // A rule, the sizes of records and tables, the editions, the causes of refusals and what a check answers; specs/ has what the words of a lent table mean, for any
 // number of words of a value. The code that reads the words is in `slots`, the checks of a whole table in `table_checks`.
+#![tactic(auto)]
+
 ghost use Rattle.std.specs.Prelude.{◌≡◌, ◌≤◌};
 ghost use Rattle.records.specs.Record.{record_words};
 ghost use Rattle.records.specs.Checks.{cause_number};

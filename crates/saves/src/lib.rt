@@ -1,5 +1,7 @@
 // Saving a table: its rules in rising slot order, first the contents, then the bodies.
 // Each rule's entry and body go to their own places, so that one pass over the slots writes both.
+#![tactic(auto)]
+
 ghost use Rattle.std.specs.Prelude.{◌≡◌, ◌++◌, ◌+◌, ◌*◌, ◌≤◌, ◌<◌, length, drop};
 ghost use Rattle.records.specs.Record.{most_slots, slot_words, ident};
 ghost use Rattle.records.specs.Order.{slots};

@@ -1,5 +1,7 @@
 // One line of a script on lent buffers: the table changes as the line says, and the answer is written as bytes.
 // The memory has room for the largest table, the output for the longest answer; the table is the words at the memory's start.
+#![tactic(auto)]
+
 ghost use Rattle.std.specs.Prelude.{◌≡◌, ◌≤◌, min, length, replicate};
 ghost use Rattle.records.specs.Checks.{refusal};
 ghost use Rattle.records.specs.declared.Cause.TheVariants.{Line};

@@ -1,5 +1,7 @@
 // Answers as bytes: each is written at the start of a lent buffer, and its length is answered; bytes after it stay untouched.
 // The buffer has room for the longest answer, a plan of 1,024 words: 7 bytes for its count and at most 14 for each word.
+#![tactic(auto)]
+
 ghost use Rattle.std.specs.Prelude.{◌≤◌, length};
 ghost use Rattle.script_printing.specs.Printing.{Shown};
 ghost use Rattle.script_answers.specs.Answers.{table_bytes, plan_bytes, hit_bytes, miss_bytes, refusal_bytes};

@@ -1,5 +1,7 @@
 // One line of a script as a command, with an answer for every list of bytes.
 // Fields are read in the line itself; specs/ has what each field and each line means.
+#![tactic(auto)]
+
 ghost use Rattle.std.specs.Prelude.{◌≡◌, ◌∷◌};
 ghost use Rattle.script_text.specs.Parts.{parts};
 ghost use Rattle.script_commands.specs.Commands.{inserted_rule, key_of, letter_of, table_command, insert_command, delete_command, lookup_command};

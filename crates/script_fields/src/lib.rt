@@ -1,5 +1,7 @@
 // The fields of a script line: numbers of 32 bits, patterns and keys of up to 128 symbols.
 // Each field is a part of the line, read in place.
+#![tactic(auto)]
+
 ghost use Rattle.std.specs.Prelude.{◌≡◌, true, ◌≤◌, length, get_or};
 ghost use Rattle.script_text.specs.Decimal.{every, digit, decimal};
 ghost use Rattle.script_fields.specs.Fields.{symbol, number_in, symbol_field, one_if, bit_of, symbol_word, symbol_words};

@@ -1,5 +1,7 @@
 // Lines out of blocks of bytes, however the input is cut into blocks: one line is held at a time, and each has its number.
 // The program lends a buffer with one byte more than a line may have, so that a longer line is known by the bytes held.
+#![tactic(auto)]
+
 ghost use Rattle.std.specs.Prelude.{◌≡◌, ◌+◌, length, drop};
 ghost use Rattle.script_text.specs.Parts.{first_part};
 ghost use Rattle.script_lines.specs.Lines.{next_number};

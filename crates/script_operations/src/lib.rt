@@ -1,5 +1,7 @@
 // What one command does to a table: a rule is inserted or deleted, or a key looked up, and the answer is written as bytes.
 // The table is lent as its own words, and nothing else of the memory; the output has room for the longest answer.
+#![tactic(auto)]
+
 ghost use Rattle.std.specs.Prelude.{◌≡◌, ◌≤◌, length};
 ghost use Rattle.records.specs.Checks.{cause_number};
 ghost use Rattle.records.specs.Record.{most_slots, word};

@@ -1,5 +1,7 @@
 // Lines written into a lent buffer at a place; each call answers the place after its bytes, and bytes elsewhere stay untouched.
 // A line is a letter, each number after a space, and a newline.
+#![tactic(auto)]
+
 ghost use Rattle.std.specs.Prelude.{◌∷◌, [], ◌+◌, ◌≤◌, ◌<◌, length};
 ghost use Rattle.script_text.specs.Decimal.{digits_of};
 ghost use Rattle.script_printing.specs.Printing.{Printed};

@@ -1,5 +1,7 @@
 // Text in bytes: parts between separators, and numbers in decimal.
 // Lines, the fields of a line and printed numbers are made of these; specs/ has the definitions.
+#![tactic(auto)]
+
 ghost use Rattle.std.specs.Prelude.{◌≡◌, ◌+◌, length, drop};
 ghost use Rattle.script_text.specs.Parts.{first_part};
 

@@ -1,5 +1,7 @@
 // Reading a script block by block: each turn takes bytes out of a block, and runs the line that they complete.
 // What is held between turns is a few numbers, the table's memory and the line's buffer; however the input is cut, the answers are the same.
+#![tactic(auto)]
+
 ghost use Rattle.std.specs.Prelude.{◌≡◌, ◌*◌, min, length, drop};
 ghost use Rattle.records.specs.Record.{most_words};
 ghost use Rattle.script_lines.specs.Held.{taken_of};

@@ -1,6 +1,8 @@
 // One slot of a table, read in the table itself: empty, sound, matching a key; and a rule's record and rank.
 // The width, the number of words of a value, is given with each call: two or five, with one text for both.
 // A function on a slot asks that it exists, `slot_vacant` that check 2 passes; else the table may hold anything.
+#![tactic(auto)]
+
 pub mod given;
 pub mod rules;
 

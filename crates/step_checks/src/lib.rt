@@ -1,5 +1,7 @@
 // The checks of a step, document 01's "Carrying out" in their order: what it answers, before the write is made.
 // A step of either kind, with a neighbour list or without, begins with them.
+#![tactic(auto)]
+
 ghost use Rattle.std.specs.Prelude.{◌≡◌, length};
 ghost use Rattle.plan_words.specs.PlanWords.{write_of};
 ghost use Rattle.records.specs.Record.{record_words};

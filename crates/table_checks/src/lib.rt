@@ -1,5 +1,7 @@
 // Checks 1 to 4 of a table, each with the lowest slot that fails it, and the first match of a key.
 // A planning call makes all four checks; lookup makes the first two, after which the comparison is true of exactly the slots that match.
+#![tactic(auto)]
+
 pub mod ids;
 
 ghost use Rattle.std.specs.Prelude.{◌≡◌, ◌||◌, ◌+◌, ◌-◌, ◌*◌, ◌≤◌, ◌<◌, min, length};

@@ -1,5 +1,7 @@
 // The script program of document 01: reads standard input block by block, and prints what each line is answered.
 // What a line does, prints and is refused for is the crate `script`, taking lines out of blocks `script_turns`; here bytes are only read and written.
+#![tactic(auto)]
+
 ghost use Rattle.std.specs.Prelude.{◌≡◌, ◌+◌, replicate};
 ghost use Rattle.script_transcripts.specs.Whole.{keeping, opening};
 ghost use Rattle.tcam_script.specs.Checksum.{checksum_on, block_of};

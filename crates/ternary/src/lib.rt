@@ -1,6 +1,8 @@
 // Tests of ternary words: does a key agree with a value, can two patterns match one key, does a value lie within its mask, is every bit cared for; and what two
 // patterns are to each other.
 // Each is masks and exclusive-or against zero; specs/ says what the tests mean at every bit position, for any number of words.
+#![tactic(auto)]
+
 ghost use Rattle.std.specs.Prelude.{◌≡◌};
 ghost use Rattle.ternary.specs.Word.{agree, both, inside, ones};
 ghost use Rattle.ternary.specs.Comparison.{masks_compared, not_apart, first_covers};

@@ -1,5 +1,7 @@
 // The windows of a table's rules along one direction, by positions, for the planner.
 // They are told by the table's neighbour list; the numbers go into a lent array.
+#![tactic(auto)]
+
 ghost use Rattle.std.specs.Prelude.{◌≡◌, ◌++◌, ◌+◌, ◌-◌, ◌*◌, ◌≤◌, ◌<◌, length, get_or, drop};
 ghost use Rattle.records.specs.Record.{most_slots, listed};
 ghost use Rattle.records.specs.Order.{slots as slots_of};

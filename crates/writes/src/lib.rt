@@ -1,5 +1,7 @@
 // One write of a plan: whether it fits the table, and the table with it made.
 // A write is a plan word, taken apart in `plan_words`.
+#![tactic(auto)]
+
 ghost use Rattle.std.specs.Prelude.{◌≡◌, true, ◌<◌, length};
 ghost use Rattle.layout.specs.Write.{put, clear};
 ghost use Rattle.plan_words.specs.PlanWords.{write_of};

@@ -1,0 +1,8 @@
+-- `slots::rules::record_of` meets its contract.
+-- Its six words are those of the definition, once the widened fields are read.
+use Rattle.records.specs.Record.{record_of, listed}
+use Rattle.slots.proofs.rules.record_of.Goals as goal
+
+pub returns : goal.returns
+unfolding record_of listed
+returns c = rw (c.wide-3.ensures, c.wide-2.ensures, c.wide.ensures)
