@@ -4,7 +4,6 @@ use mathlib.Core.Path.{sym, ◌∙◌}
 use mathlib.Core.Logic.{⊎_elim}
 use mathlib.Core.Logic.◌⊎◌.{inl, inr}
 use borrow.Author.Tests.{eq-eqb}
-use Rattle.std.proofs.lemmas.Bool.{eqb-false}
 use Rattle.records.specs.WidthsLaws.{lent_slot}
 use Rattle.records.specs.Editions.{rank_of}
 use Rattle.records.specs.EditionsLaws.{rank_plain}
@@ -25,4 +24,4 @@ pub returns : goal.returns
 returns c =
     c.slot_rank.ensures
     ∙ sym (rank_plain c.args.width c.args.edition _ _
-    (elim c.if-edition-eq-EDITION_10.branch [ then-edition-eq-EDITION_10+else-mask_full w ↦ inr (sym w.mask_full.ensures ∙ w.if-mask_full.false) | else-edition-eq-EDITION_10 w ↦ inl (eqb-false _ 10 w.if-edition-eq-EDITION_10.false) ]))
+    (elim c.if-edition-eq-EDITION_10.branch [ then-edition-eq-EDITION_10+else-mask_full w ↦ inr (sym w.mask_full.ensures ∙ w.if-mask_full.false) | else-edition-eq-EDITION_10 w ↦ inl w.if-edition-eq-EDITION_10.false ]))
