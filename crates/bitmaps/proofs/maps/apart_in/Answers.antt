@@ -1,0 +1,64 @@
+-- `bitmaps::maps::apart_in` meets its contract. The loop's invariant: the join of the first k rows. A turn joins two more.
+use mathlib.Core.Path.{◌≡◌, refl}
+use Prim.Native.Nat.{◌+◌, ◌-◌}
+use native.Mathlib.Omega.{arith}
+use Rattle.bitmaps.specs.Rows.{gathered}
+use Rattle.bitmaps.specs.RowsLaws.{gathered_more}
+use Rattle.bitmaps.proofs.maps.apart_in.Goals as goal
+
+pub returns-then-used-eq0 : goal.returns-then-used-eq0
+unfolding gathered
+returns-then-used-eq0 c = rw c.if-used-eq0.true
+
+pub offset_bounds-maps-block : goal.offset_bounds-maps-block
+offset_bounds-maps-block c = omega (arith, c.requires.by_index 0 (omega arith))
+
+pub slice_bounds-words-count : goal.slice_bounds-words-count
+slice_bounds-words-count c = omega (arith, c.requires.by_index 0 (omega arith))
+
+pub slice_bounds-words-start : goal.slice_bounds-words-start
+slice_bounds-words-start c = omega (arith, c.requires.by_index 0 (omega arith))
+
+pub slice_bounds-words-end : goal.slice_bounds-words-end
+slice_bounds-words-end c = omega (arith, c.requires.by_index 0 (omega arith))
+
+pub loop-k-init : goal.loop-k-init
+unfolding gathered
+loop-k-init c = (omega arith, refl)
+
+pub offset_bounds-words-rows : goal.offset_bounds-words-rows
+offset_bounds-words-rows c = omega (arith, c.requires.by_index c.loop-k.k (omega arith))
+
+pub bounds-words-rows : goal.bounds-words-rows
+bounds-words-rows c = omega (arith, c.requires.by_index c.loop-k.k (omega arith))
+
+pub offset_bounds-words-rows-in-loop-k : goal.offset_bounds-words-rows-in-loop-k
+offset_bounds-words-rows-in-loop-k c = omega (arith, c.requires.by_index (c.loop-k.k + 1) c.loop-k-test.true)
+
+pub bounds-words-rows-in-loop-k : goal.bounds-words-rows-in-loop-k
+bounds-words-rows-in-loop-k c = omega (arith, c.requires.by_index (c.loop-k.k + 1) c.loop-k-test.true)
+
+pub loop-k-preserved : goal.loop-k-preserved
+loop-k-preserved c =
+    let l = c.loop-k in
+    let a = c.args in
+    let e : l.k + 1 + 1 ≡ l.k + 2 = omega arith in
+    (omega arith, rw e at (gathered_more a.maps.now a.rows.now a.block (l.k + 1) _ (gathered_more a.maps.now a.rows.now a.block l.k _ l.invariant.1)))
+
+pub offset_bounds-words-rows-then-k-used : goal.offset_bounds-words-rows-then-k-used
+offset_bounds-words-rows-then-k-used c = omega (arith, c.requires.by_index c.loop-k.k c.if-k-used.true)
+
+pub bounds-words-rows-then-k-used : goal.bounds-words-rows-then-k-used
+bounds-words-rows-then-k-used c = omega (arith, c.requires.by_index c.loop-k.k c.if-k-used.true)
+
+pub returns-then-k-used : goal.returns-then-k-used
+returns-then-k-used c =
+    let l = c.loop-k in
+    let a = c.args in
+    let k : a.used ≡ l.k + 1 = omega arith in
+    rw k (gathered_more a.maps.now a.rows.now a.block l.k _ l.invariant.1)
+
+pub returns-else-k-used : goal.returns-else-k-used
+returns-else-k-used c =
+    let k : c.args.used ≡ c.loop-k.k = omega arith in
+    rw k c.loop-k.invariant.1

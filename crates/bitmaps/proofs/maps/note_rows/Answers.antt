@@ -1,0 +1,45 @@
+-- `bitmaps::maps::note_rows` meets its contract. The loop's invariant: the maps with the first k rows noted.
+use mathlib.Core.Path.{◌≡◌, refl}
+use Prim.Native.Nat.{◌+◌, ◌-◌, ◌≤◌}
+use native.Mathlib.Omega.{arith}
+use lib.ListN.{length, get_or, length-set}
+use Rattle.bitmaps.specs.Rows.{noted}
+use Rattle.bitmaps.specs.RowsLaws.{noted_more}
+use Rattle.bitmaps.proofs.maps.note_rows.Goals as goal
+
+-- the row that a turn reads lies within the maps
+row : (c : tie.After-shared-slice-known2 invariant-loop decreases-loop)
+    → get_or c.before.before.before.before.before.args.own.now c.before.before.loop.k 0 + 16 ≤ length c.before.before.loop.maps
+row c =
+    let start = c.before.before.before.before.before in
+    let p = start.requires.1 c.before.before.loop.k c.before.loop-test.true in
+    let l = c.before.before.loop.invariant.1 in
+    omega arith
+
+pub loop-k-init : goal.loop-k-init
+unfolding noted
+loop-k-init c = (omega arith, refl, refl)
+
+pub overflow_add-at : goal.overflow_add-at
+overflow_add-at c = omega (arith, row c)
+
+pub offset_bounds-maps-at : goal.offset_bounds-maps-at
+offset_bounds-maps-at c = omega (arith, row c)
+
+pub bounds-maps-at : goal.bounds-maps-at
+bounds-maps-at c = omega (arith, row c.before)
+
+pub offset_bounds-maps-at-in-loop-k : goal.offset_bounds-maps-at-in-loop-k
+offset_bounds-maps-at-in-loop-k c = omega (arith, row c.before.before)
+
+pub bounds-maps-at-in-loop-k : goal.bounds-maps-at-in-loop-k
+bounds-maps-at-in-loop-k c = omega (arith, row c.before.before)
+
+pub loop-k-preserved : goal.loop-k-preserved
+loop-k-preserved c =
+    let l = c.loop-k in
+    let e = c.set_bit.ensures in
+    (omega arith, simp length-set l.invariant.1, rw e (noted_more _ _ _ _ l.k l.maps l.invariant.2))
+
+pub returns : goal.returns
+returns c = let l = c.loop-k.invariant.0 in let k : c.args.used ≡ c.loop-k.k = omega arith in rw k c.loop-k.invariant.2

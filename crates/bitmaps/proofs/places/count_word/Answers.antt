@@ -1,0 +1,41 @@
+-- `bitmaps::places::count_word` meets its contract.
+-- A turn asks a slot of the table, and the planes stay as many.
+use mathlib.Core.Path.{refl, ◌∙◌}
+use Prim.Native.Nat.{◌<◌}
+use native.Mathlib.Omega.{arith}
+use Rattle.bitmaps.specs.PlacesLaws.{less}
+use Rattle.bitmaps.proofs.places.count_word.Goals as goal
+
+-- the two tests of a turn
+turn : (c : tie.In-loop invariant-loop decreases-loop) → (0 < c.before.loop.left) × (c.before.loop.slot < c.before.before.slot-count.result)
+turn c = less 0 c.before.loop.left c.before.loop.slot c.before.before.slot-count.result c.loop-test.true
+
+pub slot_count-slots-requires : goal.slot_count-slots-requires
+slot_count-slots-requires c = c.requires.0
+
+pub loop-left-init : goal.loop-left-init
+loop-left-init c = (omega arith, refl, refl)
+
+pub value_word-value-requires : goal.value_word-value-requires
+value_word-value-requires c = let p = c.requires in (p.0, omega (arith, (turn c).1, c.slot_count-slots.ensures), p.2)
+
+pub count_bits-requires : goal.count_bits-requires
+count_bits-requires c = omega (arith, c.loop-left.invariant.1, c.requires.4)
+
+pub mask_word-requires : goal.mask_word-requires
+mask_word-requires c = let p = c.requires in (p.0, omega (arith, (turn c.before.before.before.before.before.before).1, c.slot_count-slots.ensures), p.2)
+
+pub count_bits-requires-in-loop-left : goal.count_bits-requires-in-loop-left
+count_bits-requires-in-loop-left c = omega (arith, c.loop-left.invariant.2, c.requires.5)
+
+pub overflow_add-slot : goal.overflow_add-slot
+overflow_add-slot c = omega (arith, (turn c.before.before.before.before.before.before.before.before.before.before).1, c.slot_count-slots.ensures)
+
+pub overflow_sub-left : goal.overflow_sub-left
+overflow_sub-left c = omega (arith, (turn c.before.before.before.before.before.before.before.before.before.before).0)
+
+pub loop-left-smaller : goal.loop-left-smaller
+loop-left-smaller c = omega (arith, (turn c.before.before.before.before.before.before.before.before.before.before).0)
+
+pub loop-left-preserved : goal.loop-left-preserved
+loop-left-preserved c = let inv = c.loop-left.invariant in (omega (arith, (turn c.before.before.before.before.before.before.before.before.before.before).0), c.count_bits.auto.0 ∙ inv.1, c.count_bits-in-loop-left.auto.0 ∙ inv.2)
