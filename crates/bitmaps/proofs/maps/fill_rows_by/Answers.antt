@@ -1,5 +1,5 @@
 -- `bitmaps::maps::fill_rows_by` meets its contract. The loop's invariant: the rows of the words passed, no more than places chosen in them.
-use mathlib.Core.Path.{◌≡◌, refl, ◌∙◌}
+use mathlib.Core.Path.{◌≡◌, refl}
 use Prim.Native.Nat.{◌-◌}
 use native.Mathlib.Omega.{arith}
 use Rattle.bitmaps.proofs.maps.fill_rows_by.Goals as goal
@@ -15,9 +15,8 @@ fill_word-used-requires c =
 
 pub loop-word-preserved : goal.loop-word-preserved
 loop-word-preserved c =
-    let fill = c.fill_word-used in
     let inv = c.loop-word.invariant in
-    (omega arith, fill.auto.1.1.1.1.1.1.1.0 ∙ inv.1, fill.auto.1.1.1.1.1.1.1.1.0 ∙ inv.2, fill.ensures.0, fill.ensures.1)
+    (omega arith, omega arith, omega arith, c.fill_word-used.ensures.0, c.fill_word-used.ensures.1)
 
 pub returns : goal.returns
 returns c =

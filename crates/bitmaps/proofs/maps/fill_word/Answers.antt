@@ -12,21 +12,20 @@ use Rattle.bitmaps.specs.RowsLaws.{filled_bit, shared_bit, total_more, walk_star
 use Rattle.bitmaps.proofs.maps.fill_word.Goals as goal
 
 -- the place of the bit that a turn is at is among those chosen, and its rows find room
-at-bit : (c : tie.After-top invariant-loop decreases-loop)
-    → let a = c.before.before.before.before.before.before.before.before.before.before.before.before.args in
-    let l = c.before.before.loop in
-    (get_or a.starts.now (64 * a.word + c.top.result) 0 < 32 * a.count) × (l.used < a.count)
+at-bit : (c : goal.After-top-t)
+    → let a = c.args in
+    let l = c.loop-left in
+    (get_or a.starts.now (64 * a.word + c.top-t.result) 0 < 32 * a.count) × (l.used < a.count)
 at-bit c =
-    let start = c.before.before.before.before.before.before.before.before.before.before.before.before in
-    let a = start.args in
-    let l = c.before.before.loop in
-    let t = c.top.result in
+    let a = c.args in
+    let l = c.loop-left in
+    let t = c.top-t.result in
     let asked = bit_and (mask a.width (slot_words a.width a.table.now a.slot) a.word) (get_or a.chosen.now a.word 0) in
-    let hit = (shared_bit (mask a.width (slot_words a.width a.table.now a.slot) a.word) (get_or a.chosen.now a.word 0) t (l.invariant.3.was t c.top.ensures.hit)).1 in
-    let found = start.requires.1.0.1 a.word t c.top.ensures.below hit in
-    let room = walk_room asked l.left l.used (total a.chosen.now (a.word + 1)) t l.invariant.3 c.top.ensures in
-    let most = total_more a.chosen.now (a.word + 1) a.width (omega (arith, start.requires.0.2)) in
-    (omega (arith, found.1, found.2), omega (arith, room, most, start.requires.1.0.0))
+    let hit = (shared_bit (mask a.width (slot_words a.width a.table.now a.slot) a.word) (get_or a.chosen.now a.word 0) t (l.invariant.3.was t c.top-t.ensures.hit)).1 in
+    let found = c.requires.width_bound.0.1 a.word t c.top-t.ensures.below hit in
+    let room = walk_room asked l.left l.used (total a.chosen.now (a.word + 1)) t l.invariant.3 c.top-t.ensures in
+    let most = total_more a.chosen.now (a.word + 1) a.width (omega (arith, c.requires.width.2)) in
+    (omega (arith, found.1, found.2), omega (arith, room, most, c.requires.width_bound.0.0))
 
 pub value_word-value-requires : goal.value_word-value-requires
 value_word-value-requires c = let p = c.requires.width in (p.0, p.1, p.2)
@@ -39,9 +38,8 @@ loop-left-init c =
     let a = c.args in
     let cares = mask a.width (slot_words a.width a.table.now a.slot) a.word in
     let chosen = get_or a.chosen.now a.word 0 in
-    let e = c.mask_word.ensures in
-    let small : bit_and cares chosen < 18446744073709551616 = omega (arith, and_le_l cares chosen, e, c.mask_word.type-inv) in
-    (refl, refl, c.requires.width_bound.1, rw e (walk_start a.chosen.now cares a.word a.before small c.requires.width.8))
+    let small : bit_and cares chosen < 18446744073709551616 = omega (arith, and_le_l cares chosen, c.mask_word.ensures, c.mask_word.type_inv) in
+    (refl, refl, c.requires.width_bound.1, rw c.mask_word.ensures (walk_start a.chosen.now cares a.word a.before small c.requires.width.8))
 
 pub digit-v-requires : goal.digit-v-requires
 digit-v-requires c = c.top-t.ensures.below
@@ -98,17 +96,16 @@ loop-left-preserved c =
     let a = c.args in
     let l = c.loop-left in
     let t = c.top-t in
-    let v = c.digit-v in
     let asked = bit_and (mask a.width (slot_words a.width a.table.now a.slot) a.word) (get_or a.chosen.now a.word 0) in
     let room = (at-bit c.before.before.before).1 in
     let others = l.invariant.0 in
     let own = l.invariant.1 in
-    let e : bit (slot_words a.width a.table.now a.slot a.word) t.result ≡ v.result =
-    sym (v.ensures.0 ∙ ap (λ (x : ℕ). bit x t.result) c.value_word-value.ensures) in (
+    let e : bit (slot_words a.width a.table.now a.slot a.word) t.result ≡ c.digit-v.result =
+    sym (c.digit-v.ensures.0 ∙ ap (λ (x : ℕ). bit x t.result) c.value_word-value.ensures) in (
       simp length-set others,
       simp length-set own,
-      filled_bit a.width a.table.now a.places.now a.count a.slot a.chosen.now a.starts.now l.others l.own a.word t.result v.result l.used
-          (omega arith) (omega arith) t.ensures.below v.ensures.1 c.requires.width_bound.0.1 (l.invariant.3.was t.result t.ensures.hit) e l.invariant.2,
+      filled_bit a.width a.table.now a.places.now a.count a.slot a.chosen.now a.starts.now l.others l.own a.word t.result c.digit-v.result l.used
+          (omega arith) (omega arith) t.ensures.below c.digit-v.ensures.1 c.requires.width_bound.0.1 (l.invariant.3.was t.result t.ensures.hit) e l.invariant.2,
       rw c.drop_bit-left.ensures (walk_on asked l.left l.used (total a.chosen.now (a.word + 1)) t.result l.invariant.3 t.ensures),
     )
 

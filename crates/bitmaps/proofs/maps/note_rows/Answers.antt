@@ -8,12 +8,11 @@ use Rattle.bitmaps.specs.RowsLaws.{noted_more}
 use Rattle.bitmaps.proofs.maps.note_rows.Goals as goal
 
 -- the row that a turn reads lies within the maps
-row : (c : tie.After-shared-slice-known2 invariant-loop decreases-loop)
-    → get_or c.before.before.before.before.before.args.own.now c.before.before.loop.k 0 + 16 ≤ length c.before.before.loop.maps
+row : (c : goal.After-shared_slice_known-in-loop-k-1)
+    → get_or c.args.own.now c.loop-k.k 0 + 16 ≤ length c.loop-k.maps
 row c =
-    let start = c.before.before.before.before.before in
-    let p = start.requires.1 c.before.before.loop.k c.before.loop-test.true in
-    let l = c.before.before.loop.invariant.1 in
+    let p = c.requires.by_index c.loop-k.k c.loop-k-test.true in
+    let l = c.loop-k.invariant.1 in
     omega arith
 
 pub loop-k-init : goal.loop-k-init
@@ -38,8 +37,7 @@ bounds-maps-at-in-loop-k c = omega (arith, row c.before.before)
 pub loop-k-preserved : goal.loop-k-preserved
 loop-k-preserved c =
     let l = c.loop-k in
-    let e = c.set_bit.ensures in
-    (omega arith, simp length-set l.invariant.1, rw e (noted_more _ _ _ _ l.k l.maps l.invariant.2))
+    (omega arith, simp length-set l.invariant.1, rw c.set_bit.ensures (noted_more _ _ _ _ l.k l.maps l.invariant.2))
 
 pub returns : goal.returns
 returns c = let l = c.loop-k.invariant.0 in let k : c.args.used ≡ c.loop-k.k = omega arith in rw k c.loop-k.invariant.2

@@ -1,14 +1,14 @@
 -- `bitmaps::places::count_word` meets its contract.
 -- A turn asks a slot of the table, and the planes stay as many.
-use mathlib.Core.Path.{refl, ◌∙◌}
+use mathlib.Core.Path.{refl}
 use Prim.Native.Nat.{◌<◌}
 use native.Mathlib.Omega.{arith}
 use Rattle.bitmaps.specs.PlacesLaws.{less}
 use Rattle.bitmaps.proofs.places.count_word.Goals as goal
 
 -- the two tests of a turn
-turn : (c : tie.In-loop invariant-loop decreases-loop) → (0 < c.before.loop.left) × (c.before.loop.slot < c.before.before.slot-count.result)
-turn c = less 0 c.before.loop.left c.before.loop.slot c.before.before.slot-count.result c.loop-test.true
+turn : (c : goal.In-loop-left) → (0 < c.loop-left.left) × (c.loop-left.slot < c.slot_count-slots.result)
+turn c = less 0 c.loop-left.left c.loop-left.slot c.slot_count-slots.result c.loop-left-test.true
 
 pub slot_count-slots-requires : goal.slot_count-slots-requires
 slot_count-slots-requires c = c.requires.0
@@ -38,4 +38,4 @@ pub loop-left-smaller : goal.loop-left-smaller
 loop-left-smaller c = omega (arith, (turn c.before.before.before.before.before.before.before.before.before.before).0)
 
 pub loop-left-preserved : goal.loop-left-preserved
-loop-left-preserved c = let inv = c.loop-left.invariant in (omega (arith, (turn c.before.before.before.before.before.before.before.before.before.before).0), c.count_bits.auto.0 ∙ inv.1, c.count_bits-in-loop-left.auto.0 ∙ inv.2)
+loop-left-preserved c = let inv = c.loop-left.invariant in (omega (arith, (turn c.before.before.before.before.before.before.before.before.before.before).0), omega arith, omega arith)

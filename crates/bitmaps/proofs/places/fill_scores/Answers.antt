@@ -1,6 +1,6 @@
 -- `bitmaps::places::fill_scores` meets its contract.
 -- The scores of the words passed are at most 256.
-use mathlib.Core.Path.{refl, ◌∙◌}
+use mathlib.Core.Path.{refl}
 use Prim.Native.Nat.{◌-◌}
 use native.Mathlib.Omega.{arith}
 use Rattle.bitmaps.proofs.places.fill_scores.Goals as goal
@@ -19,9 +19,8 @@ score_word-requires c = let p = c.requires in let inv = c.loop-word.invariant in
 
 pub loop-word-preserved : goal.loop-word-preserved
 loop-word-preserved c =
-    let called = c.score_word in
     let inv = c.loop-word.invariant in
-    (omega arith, inv.1, called.auto.1.0 ∙ inv.2, λ k h. called.ensures k (omega arith))
+    (omega arith, inv.1, omega arith, λ k h. c.score_word.ensures k (omega arith))
 
 pub returns : goal.returns
 returns c = λ k h. c.loop-word.invariant.3 k (omega arith)

@@ -14,10 +14,10 @@ pub loop-s-init : goal.loop-s-init
 loop-s-init c = (omega arith, refl, λ k h. c.requires.5 k (omega arith))
 
 pub count_at-requires : goal.count_at-requires
-count_at-requires c = (omega (arith, c.count_word.auto.1.1.1.0), omega arith)
+count_at-requires c = (omega (arith), omega arith)
 
 pub count_at-requires-in-loop-s : goal.count_at-requires-in-loop-s
-count_at-requires-in-loop-s c = (omega (arith, c.count_word.auto.1.1.1.1.0), omega arith)
+count_at-requires-in-loop-s c = (omega (arith), omega arith)
 
 pub overflow_mul-count_at : goal.overflow_mul-count_at
 overflow_mul-count_at c = omega (arith, product c.count_at.result c.count_at-in-loop-s.result c.count_at.ensures c.count_at-in-loop-s.ensures)

@@ -8,8 +8,8 @@ use Rattle.bitmaps.specs.RowsLaws.{spread_more, spread_none, total_with, total_n
 use Rattle.bitmaps.proofs.places.spread_places.Goals as goal
 
 -- the place that a turn reads
-place : (c : tie.In-loop invariant-loop decreases-loop) → get_or c.before.before.before.before.before.args.places.now c.before.loop.k 0 < 64 * c.before.before.before.before.before.args.width
-place c = c.before.before.before.before.before.requires.1.0 c.before.loop.k c.loop-test.true
+place : (c : goal.In-loop-k) → get_or c.args.places.now c.loop-k.k 0 < 64 * c.args.width
+place c = c.requires.below.0 c.loop-k.k c.loop-k-test.true
 
 pub loop-k-init : goal.loop-k-init
 loop-k-init c =
@@ -38,15 +38,14 @@ pub loop-k-preserved : goal.loop-k-preserved
 loop-k-preserved c =
     let l = c.loop-k in
     let a = c.args in
-    let e = c.set_bit.ensures in
     let h = place c.before.before.before in
     let chosen = l.invariant.1 in
     let starts = l.invariant.2 in (
       omega arith,
       simp length-set chosen,
       simp length-set starts,
-      rw e (omega (arith, total_with l.chosen (get_or a.places.now l.k 0 / 64) (get_or a.places.now l.k 0 % 64) a.width (omega arith), l.invariant.3)),
-      rw e (spread_more a.places.now l.chosen l.starts l.k (get_or a.places.now l.k 0) (omega arith) (omega arith) refl l.invariant.4),
+      rw c.set_bit.ensures (omega (arith, total_with l.chosen (get_or a.places.now l.k 0 / 64) (get_or a.places.now l.k 0 % 64) a.width (omega arith), l.invariant.3)),
+      rw c.set_bit.ensures (spread_more a.places.now l.chosen l.starts l.k (get_or a.places.now l.k 0) (omega arith) (omega arith) refl l.invariant.4),
     )
 
 pub returns : goal.returns

@@ -25,9 +25,8 @@ loop-level-smaller c =
 
 pub loop-level-preserved : goal.loop-level-preserved
 loop-level-preserved c =
-    let called = c.take_above-chosen in
     let inv = c.loop-level.invariant in
-    (omega arith, omega arith, omega (arith, called.auto.0, inv.2), omega (arith, called.auto.1.0, inv.3), called.ensures.2, called.ensures.3)
+    (omega arith, omega arith, omega (arith, inv.2), omega (arith, inv.3), c.take_above-chosen.ensures.2, c.take_above-chosen.ensures.3)
 
 pub returns : goal.returns
 returns c = (omega arith, c.loop-level.invariant.5)
