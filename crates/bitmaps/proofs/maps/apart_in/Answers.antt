@@ -1,6 +1,6 @@
 -- `bitmaps::maps::apart_in` meets its contract. The loop's invariant: the join of the first k rows. A turn joins two more.
 use mathlib.Core.Path.{◌≡◌, refl}
-use Prim.Native.Nat.{◌+◌, ◌-◌}
+use Prim.Native.Nat.{◌+◌}
 use native.Mathlib.Omega.{arith}
 use Rattle.bitmaps.specs.Rows.{gathered}
 use Rattle.bitmaps.specs.RowsLaws.{gathered_more}

@@ -1,6 +1,5 @@
 -- `bitmaps::maps::fill_rows_by` meets its contract. The loop's invariant: the rows of the words passed, no more than places chosen in them.
 use mathlib.Core.Path.{◌≡◌, refl}
-use Prim.Native.Nat.{◌-◌}
 use native.Mathlib.Omega.{arith}
 use Rattle.bitmaps.proofs.maps.fill_rows_by.Goals as goal
 
@@ -11,7 +10,11 @@ pub fill_word-used-requires : goal.fill_word-used-requires
 fill_word-used-requires c =
     let l = c.loop-word in
     let p = c.requires.width in
-    ((p.0, p.1, omega arith, p.2, p.3, p.4, omega (arith, l.invariant.1, p.5), omega (arith, l.invariant.2, p.6), l.invariant.3), (c.requires.width_bound, l.invariant.4))
+    record {
+      width = (p.0, p.1, omega arith, p.2, p.3, p.4, omega (arith, l.invariant.1, p.5), omega (arith, l.invariant.2, p.6), l.invariant.3);
+      width_bound = c.requires.width_bound;
+      rows_of = l.invariant.4;
+    }
 
 pub loop-word-preserved : goal.loop-word-preserved
 loop-word-preserved c =

@@ -3,7 +3,6 @@ use mathlib.Core.Path.{◌≡◌}
 use Prim.Native.Nat.{◌+◌}
 use lib.ListN.{length, get_or}
 use lib.Bits.{bit_and}
-use Rattle.ternary.specs.Bit.{bit}
 use Rattle.records.specs.Record.{slot_words, mask}
 use Rattle.bitmaps.specs.Rows.{RowsOf, total, Walk}
 use Rattle.bitmaps.proofs.maps.fill_word.Given as goal

@@ -1,6 +1,5 @@
 -- `bitmaps::places::count_bits` meets its contract: the planes stay as many.
 use mathlib.Core.Path.{refl}
-use Prim.Native.Nat.{◌-◌}
 use native.Mathlib.Omega.{arith}
 use borrow.Author.Rules.{rules}
 use Rattle.bitmaps.proofs.places.count_bits.Goals as goal

@@ -1,7 +1,6 @@
 -- `bitmaps::places::fill_scores` meets its contract.
 -- The scores of the words passed are at most 256.
 use mathlib.Core.Path.{refl}
-use Prim.Native.Nat.{◌-◌}
 use native.Mathlib.Omega.{arith}
 use Rattle.bitmaps.proofs.places.fill_scores.Goals as goal
 

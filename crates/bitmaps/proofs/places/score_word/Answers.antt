@@ -1,9 +1,9 @@
 -- `bitmaps::places::score_word` meets its contract.
 -- The scores of the places passed are at most 256.
 use mathlib.Core.Path.{refl, ◌∙◌}
-use Prim.Native.Nat.{◌+◌, ◌-◌, ◌*◌}
+use Prim.Native.Nat.{◌+◌, ◌*◌}
 use native.Mathlib.Omega.{arith}
-use lib.ListN.{length, length-set}
+use lib.ListN.{length-set}
 use Rattle.bitmaps.specs.PlacesLaws.{below_more, product}
 use Rattle.bitmaps.proofs.places.score_word.Goals as goal
 

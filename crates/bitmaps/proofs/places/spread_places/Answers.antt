@@ -1,15 +1,10 @@
 -- `bitmaps::places::spread_places` meets its contract. The loop's invariant: the first k places are spread.
 use mathlib.Core.Path.{◌≡◌, refl}
-use Prim.Native.Nat.{◌-◌, ◌*◌, ◌/◌, ◌%◌, ◌<◌}
+use Prim.Native.Nat.{◌*◌, ◌/◌, ◌%◌, ◌<◌}
 use native.Mathlib.Omega.{arith}
-use lib.ListN.{length, get_or, length-set}
-use Rattle.bitmaps.specs.Rows.{total}
+use lib.ListN.{get_or, length-set}
 use Rattle.bitmaps.specs.RowsLaws.{spread_more, spread_none, total_with, total_none}
 use Rattle.bitmaps.proofs.places.spread_places.Goals as goal
-
--- the place that a turn reads
-place : (c : goal.In-loop-k) → get_or c.args.places.now c.loop-k.k 0 < 64 * c.args.width
-place c = c.requires.below.0 c.loop-k.k c.loop-k-test.true
 
 pub loop-k-init : goal.loop-k-init
 loop-k-init c =
@@ -17,28 +12,28 @@ loop-k-init c =
     (omega arith, refl, refl, omega (arith, total_none a.chosen.now c.requires.below.1 a.width), spread_none a.places.now 0 a.chosen.now a.starts.now c.requires.below.1)
 
 pub offset_bounds-chosen-word : goal.offset_bounds-chosen-word
-offset_bounds-chosen-word c = omega (arith, place c.before)
+offset_bounds-chosen-word c = omega (arith, (let it : get_or c.args.places.now c.loop-k.k 0 < 64 * c.args.width = c.requires.below.0 c.loop-k.k c.loop-k-test.true in it))
 
 pub bounds-chosen-word : goal.bounds-chosen-word
-bounds-chosen-word c = omega (arith, place c.before.before)
+bounds-chosen-word c = omega (arith, (let it : get_or c.args.places.now c.loop-k.k 0 < 64 * c.args.width = c.requires.below.0 c.loop-k.k c.loop-k-test.true in it))
 
 pub offset_bounds-chosen-word-in-loop-k : goal.offset_bounds-chosen-word-in-loop-k
-offset_bounds-chosen-word-in-loop-k c = omega (arith, place c.before.before.before)
+offset_bounds-chosen-word-in-loop-k c = omega (arith, (let it : get_or c.args.places.now c.loop-k.k 0 < 64 * c.args.width = c.requires.below.0 c.loop-k.k c.loop-k-test.true in it))
 
 pub bounds-chosen-word-in-loop-k : goal.bounds-chosen-word-in-loop-k
-bounds-chosen-word-in-loop-k c = omega (arith, place c.before.before.before)
+bounds-chosen-word-in-loop-k c = omega (arith, (let it : get_or c.args.places.now c.loop-k.k 0 < 64 * c.args.width = c.requires.below.0 c.loop-k.k c.loop-k-test.true in it))
 
 pub offset_bounds-starts-place : goal.offset_bounds-starts-place
-offset_bounds-starts-place c = omega (arith, place c.before.before.before)
+offset_bounds-starts-place c = omega (arith, (let it : get_or c.args.places.now c.loop-k.k 0 < 64 * c.args.width = c.requires.below.0 c.loop-k.k c.loop-k-test.true in it))
 
 pub bounds-starts-place : goal.bounds-starts-place
-bounds-starts-place c = omega (arith, place c.before.before.before)
+bounds-starts-place c = omega (arith, (let it : get_or c.args.places.now c.loop-k.k 0 < 64 * c.args.width = c.requires.below.0 c.loop-k.k c.loop-k-test.true in it))
 
 pub loop-k-preserved : goal.loop-k-preserved
 loop-k-preserved c =
     let l = c.loop-k in
     let a = c.args in
-    let h = place c.before.before.before in
+    let h = (let it : get_or c.args.places.now c.loop-k.k 0 < 64 * c.args.width = c.requires.below.0 c.loop-k.k c.loop-k-test.true in it) in
     let chosen = l.invariant.1 in
     let starts = l.invariant.2 in (
       omega arith,

@@ -15,7 +15,7 @@ pub take_above-chosen-requires : goal.take_above-chosen-requires
 take_above-chosen-requires c =
     let p = c.requires in
     let inv = c.loop-level.invariant in
-    ((p.0, omega arith, omega arith, inv.0, inv.1), (inv.4, inv.5))
+    record { width = (p.0, omega arith, omega arith, inv.0, inv.1); below = (inv.4, inv.5) }
 
 pub loop-level-smaller : goal.loop-level-smaller
 loop-level-smaller c =
