@@ -94,7 +94,7 @@ fn fill_scores(table: &[u64], scores: &mut [u16], width: usize)
 }
 
 // Places taken so far, and of 2^30 pairs how many they are expected to leave together.
-#[derive(Drop)]
+#[derive(Clone, Copy)]
 pub struct Chosen {
     pub left: u32,
     pub count: usize,

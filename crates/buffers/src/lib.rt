@@ -9,34 +9,34 @@ ghost use Rattle.buffers.specs.Buffers.{plan_told, insert_answer_told, without_c
 use records::Cause;
 
 // What a plan that was written tells: how many words it has.
-#[derive(Drop)]
+#[derive(Clone, Copy)]
 pub struct PlanInfo {
     pub count: u32,
 }
 
 // What a planning call answers.
-#[derive(Drop)]
+#[derive(Clone, Copy)]
 pub enum PlanAnswer {
     Planned(PlanInfo),
     Refused(Cause, u32),
 }
 
 // What a plan of an insert tells that was written: how many words it has, and the slot of the rule that covers the new one, or none.
-#[derive(Drop)]
+#[derive(Clone, Copy)]
 pub struct InsertInfo {
     pub count: u32,
     pub covered: u32,
 }
 
 // What the planning of an insert answers.
-#[derive(Drop)]
+#[derive(Clone, Copy)]
 pub enum InsertAnswer {
     Planned(InsertInfo),
     Refused(Cause, u32),
 }
 
 // What a plan tells that was made with a neighbour list: the same, and whether the list was worked out afresh.
-#[derive(Drop)]
+#[derive(Clone, Copy)]
 pub struct ListedInfo {
     pub count: u32,
     pub covered: u32,
@@ -44,7 +44,7 @@ pub struct ListedInfo {
 }
 
 // What the planning of an insert with a neighbour list answers.
-#[derive(Drop)]
+#[derive(Clone, Copy)]
 pub enum ListedAnswer {
     Planned(ListedInfo),
     Refused(Cause, u32),

@@ -5,13 +5,13 @@
 use records::Cause;
 
 // What a step that wrote tells: how many writes are done now.
-#[derive(Drop)]
+#[derive(Clone, Copy)]
 pub struct StepInfo {
     pub done: u32,
 }
 
 // What a step answers.
-#[derive(Drop)]
+#[derive(Clone, Copy)]
 pub enum StepAnswer {
     Wrote(StepInfo),
     Finished,

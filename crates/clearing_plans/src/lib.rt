@@ -37,14 +37,14 @@ use table_checks::check_listed;
 use windows::end_down;
 
 // What the plan of a clearing tells that was made with a neighbour list: how many words it has, and whether the list was worked out afresh.
-#[derive(Drop)]
+#[derive(Clone, Copy)]
 pub struct ListedPlanInfo {
     pub count: u32,
     pub refreshed: bool,
 }
 
 // What the planning of a clearing with a neighbour list answers.
-#[derive(Drop)]
+#[derive(Clone, Copy)]
 pub enum ListedPlanAnswer {
     Planned(ListedPlanInfo),
     Refused(Cause, u32),

@@ -8,20 +8,20 @@ pub mod sizes;
 use records::Cause;
 
 // What a save tells: how many bytes the image has.
-#[derive(Drop)]
+#[derive(Clone, Copy)]
 pub struct SaveInfo {
     pub bytes: u32,
 }
 
 // What a save answers.
-#[derive(Drop)]
+#[derive(Clone, Copy)]
 pub enum SaveAnswer {
     Saved(SaveInfo),
     Refused(Cause, u32),
 }
 
 // What a load answers.
-#[derive(Drop)]
+#[derive(Clone, Copy)]
 pub enum LoadAnswer {
     Loaded,
     Refused(Cause, u32),

@@ -19,14 +19,14 @@ use records::{Cause, Check, Mode, check_rule};
 use step_checks::next_step;
 
 // What a step that wrote tells: how many writes are done now, and whether the list was worked out afresh before the write.
-#[derive(Drop)]
+#[derive(Clone, Copy)]
 pub struct ListedStepInfo {
     pub done: u32,
     pub refreshed: bool,
 }
 
 // What a step with a list answers.
-#[derive(Drop)]
+#[derive(Clone, Copy)]
 pub enum ListedStepAnswer {
     Wrote(ListedStepInfo),
     Finished,

@@ -7,7 +7,7 @@ pub mod lookup;
 use records::Cause;
 
 // What a lookup that hits tells.
-#[derive(Drop)]
+#[derive(Clone, Copy)]
 pub struct Hit {
     pub slot: u32,
     pub id: u32,
@@ -15,7 +15,7 @@ pub struct Hit {
 }
 
 // What a lookup answers.
-#[derive(Drop)]
+#[derive(Clone, Copy)]
 pub enum LookupAnswer {
     Found(Hit),
     Miss,

@@ -92,7 +92,7 @@ pub fn spread_listed(
 }
 
 // The writes done after a step, and its answer as one number.
-#[derive(Drop)]
+#[derive(Clone, Copy)]
 pub struct Carried {
     pub done: u32,
     pub result: u64,

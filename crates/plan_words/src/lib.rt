@@ -6,7 +6,7 @@ ghost use Rattle.std.specs.Prelude.{◌≡◌, ◌<◌};
 ghost use Rattle.plan_words.specs.PlanWords.{emptying, word_of, write_word, write_of, write_meant, SlotsBelow};
 
 // A write of a plan: a copy from one slot to another, the new rule put into a slot, or a slot emptied.
-#[derive(Drop)]
+#[derive(Clone, Copy)]
 pub enum PlanWrite {
     Copy(u32, u32),
     PutIn(u32),

@@ -16,21 +16,21 @@ use plan_words::{PlanWrite, word_of};
 use positions::slot_at;
 
 // Slots from the one number up to, not including, the other.
-#[derive(Drop)]
+#[derive(Clone, Copy)]
 pub struct SlotRange {
     pub from: usize,
     pub to: usize,
 }
 
 // The least cost among some positions, and the first position that has it.
-#[derive(Drop)]
+#[derive(Clone, Copy)]
 pub struct Best {
     pub cost: usize,
     pub position: usize,
 }
 
 // The direction taken, the moves to make, and the position from which the chain starts.
-#[derive(Drop)]
+#[derive(Clone, Copy)]
 pub struct PositionChoice {
     pub up: bool,
     pub cost: usize,

@@ -43,7 +43,7 @@ pub const NO_SLOT: u32 = 65535;
 pub const NO_NUMBER: u16 = 65535;
 
 // How a call reads its tables: how many words a value has, and whether the table is one without counters, in which only rules of different actions are ordered.
-#[derive(Drop)]
+#[derive(Clone, Copy)]
 pub struct Mode {
     pub width: usize,
     pub uncounted: bool,
@@ -58,7 +58,7 @@ pub fn record_words(width: usize) -> usize
 }
 
 // Document 01's rule at two words: value and mask, high word first.
-#[derive(Drop)]
+#[derive(Clone, Copy)]
 pub struct Rule {
     pub id: u32,
     pub priority: u32,
@@ -69,7 +69,7 @@ pub struct Rule {
 
 // Why a call declines: the causes of document 01 and, from Uncrossed on, those of document 02, in the order of their numbers. Of the latter
 // Edition alone is returned by a call as yet.
-#[derive(Drop)]
+#[derive(Clone, Copy)]
 pub enum Cause {
     Shape,
     Record,
@@ -96,7 +96,7 @@ pub enum Cause {
 }
 
 // What a check of a table answers: it passes, or fails with its cause and spot.
-#[derive(Drop)]
+#[derive(Clone, Copy)]
 pub enum Check {
     Pass,
     Fail(Cause, u32),

@@ -21,7 +21,7 @@ use script_commands::{Command, NewTable, inserted_rule, key_of, parse};
 use script_operations::{LineAnswer, delete_line, insert_line, look_up, refuse};
 
 // What a line came to: the slots of the table afterwards, how many bytes the answer has, and the answer.
-#[derive(Drop)]
+#[derive(Clone, Copy)]
 pub struct Ran {
     pub slots: usize,
     pub length: usize,

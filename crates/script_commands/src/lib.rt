@@ -12,19 +12,19 @@ use script_fields::{TwoWords, is_symbol_field, number_in, symbol_words};
 use script_text::part_end;
 
 // What a T line tells: the slots of the new table.
-#[derive(Drop)]
+#[derive(Clone, Copy)]
 pub struct NewTable {
     pub slots: u32,
 }
 
 // What a D line tells: the id to delete.
-#[derive(Drop)]
+#[derive(Clone, Copy)]
 pub struct Deletion {
     pub id: u32,
 }
 
 // What an I line tells: the rule to insert, in numbers, since no enum may hold an array.
-#[derive(Drop)]
+#[derive(Clone, Copy)]
 pub struct Insertion {
     pub id: u32,
     pub priority: u32,
@@ -34,13 +34,13 @@ pub struct Insertion {
 }
 
 // What an L line tells: the key to look up.
-#[derive(Drop)]
+#[derive(Clone, Copy)]
 pub struct Query {
     pub key: TwoWords,
 }
 
 // What a line says.
-#[derive(Drop)]
+#[derive(Clone, Copy)]
 pub enum Command {
     Table(NewTable),
     Insert(Insertion),

@@ -7,7 +7,7 @@ ghost use Rattle.script_text.specs.Decimal.{every, digit, decimal};
 ghost use Rattle.script_fields.specs.Fields.{symbol, number_in, symbol_field, one_if, bit_of, symbol_word, symbol_words};
 
 // 128 bits as two words.
-#[derive(Drop)]
+#[derive(Clone, Copy)]
 pub struct TwoWords {
     pub high: u64,
     pub low: u64,

@@ -10,7 +10,7 @@ ghost use Rattle.script_lines.specs.Held.{room, taken_of, held_line, standing};
 use script_text::part_end;
 
 // What taking bytes out of a block came to: the bytes of the line that are held, the place after those taken, and whether the line is complete.
-#[derive(Drop)]
+#[derive(Clone, Copy)]
 pub struct Taken {
     pub held: usize,
     pub next: usize,

@@ -23,7 +23,7 @@ use script_commands::NewTable;
 use steps::whole::carry_whole;
 
 // What a line is answered: the slots of the new table, a plan's count, a hit or a miss, or a refusal.
-#[derive(Drop)]
+#[derive(Clone, Copy)]
 pub enum LineAnswer {
     Made(NewTable),
     Planned(PlanInfo),
@@ -33,7 +33,7 @@ pub enum LineAnswer {
 }
 
 // How many bytes an answer has, and the answer.
-#[derive(Drop)]
+#[derive(Clone, Copy)]
 pub struct Said {
     pub length: usize,
     pub answer: LineAnswer,

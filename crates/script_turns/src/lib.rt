@@ -14,7 +14,7 @@ use script::{run_line, slots_present};
 use script_lines::{line_stands, next_number, take_bytes};
 
 // What is held between turns: the slots of the table, the bytes held of a line, and the line's number.
-#[derive(Drop)]
+#[derive(Clone, Copy)]
 pub struct Place {
     pub slots: usize,
     pub held: usize,
@@ -22,7 +22,7 @@ pub struct Place {
 }
 
 // What a turn came to: the place after it, where to go on in the block, and how many bytes its answer has.
-#[derive(Drop)]
+#[derive(Clone, Copy)]
 pub struct Turn {
     pub place: Place,
     pub next: usize,

@@ -8,7 +8,7 @@ use marshalling::{carry, carry_listed};
 
 // How far a plan is carried out: writes done, writes in all.
 #[repr(C)]
-#[derive(Drop)]
+#[derive(Clone, Copy)]
 pub struct Progress {
     pub done: u32,
     pub total: u32,

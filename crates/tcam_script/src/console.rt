@@ -4,7 +4,7 @@ ghost use Rattle.std.specs.Prelude.{◌≡◌, false, true, ◌+◌, ◌≤◌, 
 ghost use Rattle.tcam_script.specs.Checksum.{checksum_on, block_of};
 
 // What reading came to: what the last read answered, how many reads were made, and the checksum of all their bytes.
-#[derive(Drop)]
+#[derive(Clone, Copy)]
 pub struct Got {
     number: isize,
     reads: u64,
@@ -12,7 +12,7 @@ pub struct Got {
 }
 
 // What writing came to: how many bytes were handed over in all, their checksum, and whether all of them were written.
-#[derive(Drop)]
+#[derive(Clone, Copy)]
 pub struct Sent {
     bytes: u64,
     checksum: u64,

@@ -14,14 +14,14 @@ use records::NARROW_TABLE;
 use script_turns::{Place, last_turn, take_turn};
 
 // What a block came to: what is held after it, and what writing came to.
-#[derive(Drop)]
+#[derive(Clone, Copy)]
 pub struct TakenBlock {
     pub place: Place,
     pub sent: Sent,
 }
 
 // What reading came to so far: what is held, what writing and the last read came to, whether there may be more input, and whether all went well.
-#[derive(Drop)]
+#[derive(Clone, Copy)]
 pub struct Went {
     pub place: Place,
     pub sent: Sent,

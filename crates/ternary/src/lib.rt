@@ -8,7 +8,7 @@ ghost use Rattle.ternary.specs.Word.{agree, both, inside, ones};
 ghost use Rattle.ternary.specs.Comparison.{masks_compared, not_apart, first_covers};
 
 // What two patterns are to each other: no key matches both, or the one matches every key of the other, or neither. Equal ones count as the first covering.
-#[derive(Drop)]
+#[derive(Clone, Copy)]
 pub enum Comparison {
     Apart,
     Overlapping,
