@@ -1,6 +1,5 @@
 -- `writes::clear_slot` meets its contract.
 -- The front of a record of zeros is an empty slot's record.
--- at two words and at five
 use mathlib.Core.Path.{◌≡◌, ap, ◌∙◌}
 use mathlib.Core.Logic.{◌⊎◌}
 use mathlib.Core.Logic.◌⊎◌.{inl, inr}
@@ -11,6 +10,7 @@ use Rattle.records.specs.Entries.{vacant}
 use Rattle.records.specs.Widths.{Width}
 use Rattle.writes.proofs.clear_slot.Goals as goal
 
+-- at two words and at five
 front : (w r : ℕ) → Width w → r ≡ record_words w → take {A = ℕ} (r - 0) (replicate 12 0) ≡ vacant w
 front w r known f = by known.2
   where
