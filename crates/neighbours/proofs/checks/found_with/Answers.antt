@@ -1,0 +1,28 @@
+-- `neighbours::checks::found_with` meets its contract.
+-- The rule that is replaced decides; where there is none, 8 and 9 do.
+use mathlib.Core.Path.{refl, sym}
+use Prim.{tt}
+use Rattle.records.specs.Record.{slot_words}
+use Rattle.neighbours.specs.NeighboursLaws.{search_found, search_none}
+use Rattle.neighbours.proofs.checks.found_with.Goals as goal
+
+pub returns-then-slot-slot_count : goal.returns-then-slot-slot_count
+returns-then-slot-slot_count c =
+    let a = c.args in
+    let one = search_found a.mode.width a.mode.uncounted a.table.now (slot_words a.mode.width a.new.now 0)
+    (rw (c.replaced_slot-slot.ensures, c.slot_count.ensures) at c.if-slot-slot_count.true) in
+    record { result_value = rw one refl; found_in = (c.replaced_slot-slot.ensures, one) }
+
+pub returns-in-Pass : goal.returns-in-Pass
+returns-in-Pass c =
+    let a = c.args in
+    let none = search_none a.mode.width a.mode.uncounted a.table.now (slot_words a.mode.width a.new.now 0)
+    (rw (c.replaced_slot-slot.ensures, c.slot_count.ensures) at c.if-slot-slot_count.false) in
+    record { result_value = rw none (sym c.in-Pass.is); found_in = none }
+
+pub returns-in-Fail : goal.returns-in-Fail
+returns-in-Fail c =
+    let a = c.args in
+    let none = search_none a.mode.width a.mode.uncounted a.table.now (slot_words a.mode.width a.new.now 0)
+    (rw (c.replaced_slot-slot.ensures, c.slot_count.ensures) at c.if-slot-slot_count.false) in
+    record { result_value = rw none (sym c.in-Fail.is); found_in = tt }

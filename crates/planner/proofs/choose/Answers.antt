@@ -1,0 +1,9 @@
+-- `planner::choose` meets its contract.
+-- Each range is cut to the slots there are, and the range going up is turned to positions.
+use Rattle.planner.specs.ChoiceLaws.{choice_found}
+use Rattle.planner.proofs.choose.Goals as goal
+
+pub returns : goal.returns
+returns c =
+    choice_found _ _ _ _ _ _ _ _ _ _ _ c.lesser-end.ensures c.slots_from-start.ensures
+    c.slots_from-past.ensures c.best_between-best_down.ensures c.best_between-best_up.ensures c.prefer.ensures
