@@ -2,7 +2,6 @@
 -- Ranks first; then whether the rules overlap and are compared.
 use native.Mathlib.Omega.{arith}
 use borrow.Author.Tests.{le-ltb}
-use borrow.Author.Rules.{rules}
 use Rattle.records.specs.Record.{slot_words}
 use Rattle.records.specs.Order.{precedes}
 use Rattle.records.specs.OrderLaws.{pair_ranked}

@@ -1,7 +1,7 @@
 -- `list_updates::search_along` meets its contract.
 -- No slot before the loop's position bounds the slot.
 use mathlib.Core.Path.{sym, ap, ◌∙◌}
-use Prim.Native.Nat.{ℕ, ◌-◌}
+use Prim.Native.Nat.{ℕ}
 use native.Mathlib.Omega.{arith}
 use Rattle.search.specs.SearchLaws.{none_from_start}
 use Rattle.positions.specs.Positions.{slot_at}

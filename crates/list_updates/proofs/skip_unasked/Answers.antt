@@ -1,6 +1,6 @@
 -- `list_updates::skip_unasked` meets its contract.
 use mathlib.Core.Path.{sym, ap, ap₂, ◌∙◌}
-use Prim.Native.Nat.{ℕ, ◌-◌}
+use Prim.Native.Nat.{ℕ}
 use native.Mathlib.Omega.{arith}
 use lib.ListN.{get_or}
 use Rattle.search.specs.SearchLaws.{none_from_start}
@@ -52,9 +52,12 @@ returns-then-asks c =
     let a = c.args in
     let inv = c.loop-position.invariant in
     let at = c.slot_at-slot.ensures ∙ ap (λ (n : ℕ). slot_at n a.up c.loop-position.position) inv.0 in
-    let asked = sym c.asks.ensures ∙ c.if-asks.true in record { none_from = inv.2; result_value = λ l.
+    let asked = sym c.asks.ensures ∙ c.if-asks.true in record {
+      none_from = inv.2;
+      result_value = λ l.
           ap₂ (λ (place slot : ℕ). asks_number a.width a.table.now (get_or a.list.now place 0) slot a.written a.vacant a.up)
-          (ap (place_along a.up) (sym at) ∙ sym c.place_along.ensures) (sym at) ∙ asked }
+          (ap (place_along a.up) (sym at) ∙ sym c.place_along.ensures) (sym at) ∙ asked;
+    }
 
 pub loop-position-preserved : goal.loop-position-preserved
 loop-position-preserved c =

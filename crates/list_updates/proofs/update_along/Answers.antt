@@ -1,9 +1,9 @@
 -- `list_updates::update_along` meets its contract.
 -- The slots at positions below the loop's have their numbers, the others are as they were; the position's slot is asked.
 use mathlib.Core.Path.{◌≡◌, refl, sym, ap, ◌∙◌, subst}
-use Prim.Native.Nat.{ℕ, ◌-◌}
+use Prim.Native.Nat.{ℕ}
 use native.Mathlib.Omega.{arith}
-use lib.ListN.{length, length-set}
+use lib.ListN.{length-set}
 use Rattle.positions.specs.Positions.{slot_at}
 use Rattle.positions.specs.PositionsLaws.{slot_below}
 use Rattle.records.specs.Order.{slots as slots_of}
@@ -20,8 +20,7 @@ skip_unasked-position-requires c =
 pub loop-position-init : goal.loop-position-init
 loop-position-init c =
     let a = c.args in
-    let last = c.slot_at-end.ensures ∙ ap (λ (m : ℕ). slot_at m a.up a.written) c.slot_count-slots.ensures in
-    (
+    let last = c.slot_at-end.ensures ∙ ap (λ (m : ℕ). slot_at m a.up a.written) c.slot_count-slots.ensures in (
       c.slot_count-slots.ensures,
       last,
       c.slot_vacant-vacant.ensures,
@@ -88,11 +87,14 @@ number_after-requires c =
     let below = slot_below n a.up p (omega (arith, inv.1, last)) in
     let at = c.slot_at-slot.ensures ∙ ap (λ (m : ℕ). slot_at m a.up p) inv.0 in
     let place = c.place_along-place.ensures ∙ ap (place_along a.up) at in
-    let reaches = asked_reaches a.mode.width a.table.now _ (slot_at n a.up p) a.written _ a.up (omega (arith, c.requires.width.1, c.requires.width.2)) (inv.6 (omega arith)) in record { width = (c.requires.width.0, c.requires.width.1, omega (arith, at, below), c.requires.width.2, c.requires.width.3); slot_bound = (
+    let reaches = asked_reaches a.mode.width a.table.now _ (slot_at n a.up p) a.written _ a.up (omega (arith, c.requires.width.1, c.requires.width.2)) (inv.6 (omega arith)) in record {
+      width = (c.requires.width.0, c.requires.width.1, omega (arith, at, below), c.requires.width.2, c.requires.width.3);
+      slot_bound = (
         rw at (omega (arith, slot_turns n a.up p (omega (arith, inv.1, last)), inv.1)),
         rw place reaches,
         rw (place, at) (number_before a.mode.width a.mode.uncounted a.table.now a.up a.written c.requires.width.1 c.requires.width.2 a.list.now c.requires.along_before _ p p inv.5 (omega arith) (omega (arith, inv.1, last))),
-      ) }
+      );
+    }
 
 pub offset_bounds-list-place-in-loop-position : goal.offset_bounds-list-place-in-loop-position
 offset_bounds-list-place-in-loop-position c =
@@ -200,7 +202,7 @@ returns c =
     let stored = updated_set a.mode.width a.mode.uncounted a.table.now a.up a.list.now c.loop-position.list g c.own_number.result
     (subst (Updated a.mode.width a.mode.uncounted a.table.now a.up a.list.now c.loop-position.list) done inv.5) last c.requires.width.4
     (c.own_number.ensures ∙ ap (number_along a.mode.width a.mode.uncounted a.table.now a.up) (sym turned)) in
-    rw place (
-      updated_all a.mode.width a.mode.uncounted a.table.now a.up a.written c.requires.width.1 c.requires.width.2 a.list.now c.requires.along_before _ stored,
-      stored.other,
-    )
+    record {
+      listed_along = rw place (updated_all a.mode.width a.mode.uncounted a.table.now a.up a.written c.requires.width.1 c.requires.width.2 a.list.now c.requires.along_before _ stored);
+      by_index = rw place stored.other;
+    }

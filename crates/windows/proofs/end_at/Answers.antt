@@ -21,12 +21,12 @@ returns-then-slot_vacant c =
 pub overflow_cast-result : goal.overflow_cast-result
 overflow_cast-result c =
     let a = c.args in
-    omega (arith, rw c.slot_count-slots.ensures at c.window_end_lem.ensures, listed_window a.mode.width a.mode.uncounted a.table.now a.near.now c.requires.table_value.0 c.requires.table_value.1 a.up a.position (omega arith), window_high a.mode.width a.mode.uncounted a.table.now a.up a.position)
+    omega (arith, rw c.slot_count-slots.ensures at c.window_end.ensures, listed_window a.mode.width a.mode.uncounted a.table.now a.near.now c.requires.table_value.0 c.requires.table_value.1 a.up a.position (omega arith), window_high a.mode.width a.mode.uncounted a.table.now a.up a.position)
 
 pub returns : goal.returns
 returns c =
     let a = c.args in
-    rw c.slot_count-slots.ensures at c.window_end_lem.ensures
+    rw c.slot_count-slots.ensures at c.window_end.ensures
     ∙ (listed_window a.mode.width a.mode.uncounted a.table.now a.near.now c.requires.table_value.0 c.requires.table_value.1 a.up a.position (omega arith)
     ∙ sym (end_window a.mode.width a.mode.uncounted a.table.now a.up a.position
     (rw (c.slot_at-slot.ensures, c.slot_count-slots.ensures) at (sym c.slot_vacant.ensures ∙ c.if-slot_vacant.false))))

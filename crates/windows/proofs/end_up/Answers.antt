@@ -1,6 +1,5 @@
 -- `windows::end_up` meets its contract.
 -- A number that is no slot's stands for no preceding rule.
-use Prim.Native.Nat.{◌-◌}
 use Rattle.windows.specs.WindowsLaws.{end_before_slot, end_before_none}
 use Rattle.windows.proofs.end_up.Goals as goal
 

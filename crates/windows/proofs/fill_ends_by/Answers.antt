@@ -2,9 +2,9 @@
 -- The positions below the loop's have their numbers, and the rest of the array is as it was.
 use mathlib.Core.Path.{◌≡◌, refl, ap, ap₂, ◌∙◌}
 use mathlib.Core.List.{List, ◌++◌}
-use Prim.Native.Nat.{ℕ, ◌-◌}
+use Prim.Native.Nat.{ℕ}
 use native.Mathlib.Omega.{arith}
-use lib.ListN.{length, drop, set, length-set}
+use lib.ListN.{drop, set, length-set}
 use Rattle.records.specs.Record.{listed}
 use Rattle.records.specs.Order.{slots}
 use Rattle.windows.specs.Windows.{end_at}

@@ -5,7 +5,6 @@ use mathlib.Core.List.{◌++◌}
 use Prim.Native.Nat.{◌-◌, ◌≤◌}
 use lib.ListN.{length, drop}
 use Rattle.records.specs.Record.{listed}
-use Rattle.records.specs.Order.{slots}
 use Rattle.windows.specs.Windows.{end_at}
 use Rattle.windows.proofs.fill_ends_by.Given as goal
 
