@@ -1,0 +1,29 @@
+-- `script_text::part_end` meets its contract.
+-- The loop's place and the rest of the part after it always make the same end.
+use native.Mathlib.Omega.{arith}
+use mathlib.Core.Path.{◌≡◌, refl, ap}
+use mathlib.Core.List.{[]}
+use lib.ListN.{length, drop, drop_of_length-le}
+use Rattle.script_text.specs.Parts.{first_part}
+use Rattle.script_text.specs.PartsLaws.{first_here, first_on}
+use Rattle.script_text.proofs.part_end.Goals as goal
+
+pub loop-at-init : goal.loop-at-init
+loop-at-init c = refl
+
+pub returns-then-text-at : goal.returns-then-text-at
+returns-then-text-at c =
+    let e = first_here c.args.separator c.args.text.now c.loop-at.at (omega arith) c.if-text-at.true in
+    omega (arith, ap length e, c.loop-at.invariant)
+
+pub loop-at-preserved : goal.loop-at-preserved
+loop-at-preserved c =
+    omega (arith, first_on c.args.separator c.args.text.now c.loop-at.at (omega arith) c.if-text-at.false, c.loop-at.invariant)
+
+pub returns : goal.returns
+unfolding first_part
+returns c =
+    let x = c.args.text.now in
+    let at = c.loop-at.at in
+    let e : first_part c.args.separator (drop at x) ≡ [] = rw (drop_of_length-le x {i = at} (omega arith)) in
+    omega (arith, ap length e, c.loop-at.invariant)
