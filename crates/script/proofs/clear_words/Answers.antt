@@ -4,7 +4,7 @@ use Prim.Native.Nat.{◌-◌, ◌<◌}
 use mathlib.Core.Path.{refl, ◌∙◌}
 use native.Mathlib.Omega.{arith}
 use lib.ListN.{length, length-set}
-use Rattle.script.specs.ScriptLaws.{zero_more, zeros}
+use Rattle.script.proofs.ScriptLaws.{zero_more, zeros}
 use Rattle.script.proofs.clear_words.Goals as goal
 
 pub loop-at-init : goal.loop-at-init

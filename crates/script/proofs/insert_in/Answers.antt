@@ -6,7 +6,7 @@ use Prim.Native.Nat.{◌*◌}
 use lib.ListN.{length, take}
 use lib.Seq.{length-take-le}
 use borrow.Author.Rules.{rules}
-use Rattle.script.specs.ScriptLaws.{left_changed}
+use Rattle.script.proofs.ScriptLaws.{left_changed}
 use Rattle.script.proofs.insert_in.Goals as goal
 
 pub slice_bounds-insert_line-end-2 : goal.slice_bounds-insert_line-end-2

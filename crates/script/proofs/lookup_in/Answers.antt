@@ -3,7 +3,7 @@
 use mathlib.Core.Path.{refl, sym}
 use native.Mathlib.Omega.{arith}
 use lib.Seq.{length-take-le}
-use Rattle.script.specs.ScriptLaws.{left_kept}
+use Rattle.script.proofs.ScriptLaws.{left_kept}
 use Rattle.script.proofs.lookup_in.Goals as goal
 
 pub slice_bounds-look_up-end : goal.slice_bounds-look_up-end

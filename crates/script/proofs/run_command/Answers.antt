@@ -9,7 +9,7 @@ use Rattle.script_operations.specs.Told.{insert_told, looked_told}
 use Rattle.script_operations.specs.Outcomes.{insert_outcome}
 use Rattle.script.specs.Told.{command_told}
 use Rattle.script.specs.Script.{lookup_outcome, command_outcome, table_in}
-use Rattle.script.specs.ScriptLaws.{left_is, left_malformed}
+use Rattle.script.proofs.ScriptLaws.{left_is, left_malformed}
 use Rattle.script.proofs.run_command.Goals as goal
 
 pub returns-in-Table : goal.returns-in-Table
@@ -44,5 +44,8 @@ pub returns-in-Malformed : goal.returns-in-Malformed
 returns-in-Malformed c =
     let t = table_in c.args.memory.now c.args.present in
     let same = sym c.in-Malformed.is in
-    record { left = left_is (ap (command_outcome t c.args.number) same)
-          (left_malformed c.args.memory.now c.args.present c.args.number c.requires.0 c.requires.1 c.malformed.result c.malformed.ensures.slots_value.0 c.malformed.ensures.slots_value.1); answer_value = c.malformed.ensures.answer_value ∙ ap (command_told t c.args.number) same }
+    record {
+      left = left_is (ap (command_outcome t c.args.number) same)
+          (left_malformed c.args.memory.now c.args.present c.args.number c.requires.0 c.requires.1 c.malformed.result c.malformed.ensures.slots_value.0 c.malformed.ensures.slots_value.1);
+      answer_value = c.malformed.ensures.answer_value ∙ ap (command_told t c.args.number) same;
+    }

@@ -8,7 +8,7 @@ use borrow.Author.Rules.{rules}
 use Rattle.script_commands.specs.declared.Command.{Command}
 use Rattle.script.specs.Script.{command_outcome, table_in}
 use Rattle.script.specs.Told.{command_told}
-use Rattle.script.specs.ScriptLaws.{left_is, table_present}
+use Rattle.script.proofs.ScriptLaws.{left_is, table_present}
 use Rattle.script.proofs.run_line.Goals as goal
 
 pub returns : goal.returns

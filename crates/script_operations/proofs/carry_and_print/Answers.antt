@@ -6,7 +6,7 @@ use lib.ListN.{length, length-take}
 use lib.Seq.{length-take-le}
 use Rattle.records.specs.Checks.{Told}
 use Rattle.buffers.specs.Buffers.{plan_told}
-use Rattle.script_operations.specs.OutcomesLaws.{changed_planned, changed_refused}
+use Rattle.script_operations.proofs.OutcomesLaws.{changed_planned, changed_refused}
 use Rattle.script_operations.specs.Outcomes.{WithinRoom}
 use Rattle.script_operations.proofs.carry_and_print.Goals as goal
 

@@ -3,7 +3,7 @@
 use mathlib.Core.Path.{◌∙◌}
 use native.Mathlib.Omega.{arith}
 use Rattle.records.specs.Widths.{known, check_width}
-use Rattle.script_operations.specs.OutcomesLaws.{delete_is, delete_told_lem, changed_is}
+use Rattle.script_operations.proofs.OutcomesLaws.{delete_is, delete_told_lem, changed_is}
 use Rattle.script_operations.proofs.delete.Goals as goal
 
 pub carry_and_print-length-requires : goal.carry_and_print-length-requires

@@ -2,11 +2,11 @@
 -- The answer is the lookup's, and is printed.
 use mathlib.Core.Path.{ap, ◌∙◌}
 use borrow.Author.Rules.{rules}
-use Rattle.records.specs.WidthsLaws.{two}
-use Rattle.lookups.specs.WidthsLaws.{lookup_at}
+use Rattle.records.proofs.WidthsLaws.{two}
+use Rattle.lookups.proofs.WidthsLaws.{lookup_at}
 use Rattle.script_operations.specs.Outcomes.{lookup_bytes}
 use Rattle.script_operations.specs.Told.{looked_told}
-use Rattle.script_operations.specs.OutcomesLaws.{shown_is}
+use Rattle.script_operations.proofs.OutcomesLaws.{shown_is}
 use Rattle.script_operations.proofs.look_up.Goals as goal
 
 pub returns : goal.returns

@@ -4,7 +4,7 @@ use mathlib.Core.Path.{sym, ap, ◌∙◌}
 use Rattle.lookups.specs.declared.LookupAnswer.{LookupAnswer}
 use Rattle.lookups.specs.Lookup.{lookup_told}
 use Rattle.script_operations.specs.Told.{looked_told}
-use Rattle.script_operations.specs.ToldLaws.{looked_refused}
+use Rattle.script_operations.proofs.ToldLaws.{looked_refused}
 use Rattle.script_operations.proofs.of_lookup.Goals as goal
 
 pub returns-in-Found : goal.returns-in-Found

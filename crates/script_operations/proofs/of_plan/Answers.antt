@@ -4,7 +4,7 @@ use mathlib.Core.Path.{sym, ap, ◌∙◌}
 use Rattle.buffers.specs.declared.PlanAnswer.{PlanAnswer}
 use Rattle.buffers.specs.Buffers.{plan_told}
 use Rattle.script_operations.specs.Told.{planned_told}
-use Rattle.script_operations.specs.ToldLaws.{planned_refused}
+use Rattle.script_operations.proofs.ToldLaws.{planned_refused}
 use Rattle.script_operations.proofs.of_plan.Goals as goal
 
 pub returns-in-Planned : goal.returns-in-Planned

@@ -3,7 +3,7 @@
 use mathlib.Core.Path.{sym, ap, ◌∙◌}
 use Rattle.lookups.specs.Lookup.{lookup_told}
 use Rattle.script_operations.specs.Outcomes.{lookup_bytes}
-use Rattle.script_operations.specs.OutcomesLaws.{shown_is, bytes_refused}
+use Rattle.script_operations.proofs.OutcomesLaws.{shown_is, bytes_refused}
 use Rattle.script_operations.proofs.print_lookup.Goals as goal
 
 pub returns-in-Found : goal.returns-in-Found

@@ -3,7 +3,7 @@
 use mathlib.Core.Path.{ap}
 use Prim.Native.Nat.{ℕ}
 use Rattle.script_answers.specs.Answers.{refusal_bytes}
-use Rattle.script_operations.specs.OutcomesLaws.{shown_is}
+use Rattle.script_operations.proofs.OutcomesLaws.{shown_is}
 use Rattle.script_operations.proofs.refuse.Goals as goal
 
 pub returns : goal.returns

@@ -1,6 +1,6 @@
 -- `script_turns::slots_in` meets its contract.
 -- The memory has room for 1,024 slots.
-use Rattle.script.specs.ScriptLaws.{slots_present}
+use Rattle.script.proofs.ScriptLaws.{slots_present}
 use Rattle.script_turns.proofs.slots_in.Goals as goal
 
 pub returns : goal.returns
