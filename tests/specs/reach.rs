@@ -29,6 +29,7 @@ pub fn ends(tree: &Tree) -> BTreeSet<usize> {
 pub fn contracts(tree: &Tree, ghost: bool) -> BTreeSet<usize> {
     let mut found = BTreeSet::new();
     for source in &tree.sources {
+        found.extend(source.hints.iter().filter(|_| ghost).filter_map(|hint| tree.at(hint)));
         for function in &source.functions {
             for text in function.contracts().chain(function.ghost.iter().filter(|_| ghost)) {
                 let mentions = of_text(text, &function.arguments);
