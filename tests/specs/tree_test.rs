@@ -168,6 +168,21 @@ fn a_place_settles_a_name() {
     assert_eq!(promised("item", "`step`\n"), ["high/Top step"]);
     assert!(promised("code", "`step` (low)\n").is_empty());
     assert!(promised("file", "`step` (low::lib)\n").is_empty());
+    assert_eq!(promised("crate", "`twice` (high)\n"), ["high/Top twice"]);
+}
+
+#[test]
+fn a_crate_alone_means_its_code() {
+    let of = |test: &str, page: &str| {
+        let tree = changed(test, |root| {
+            write(root.join("crates/low/src/lib.rt"), SOURCE.replace("fn step", "fn twice")).unwrap();
+            write(root.join("docs/PROMISES.md"), page).unwrap();
+        });
+        promises(&tree).len()
+    };
+    assert_eq!(of("own_code", "`twice` (low)\n"), 0);
+    assert_eq!(of("own_file", "`twice` (low/Base)\n"), 1);
+    assert_eq!(of("own_both", "`twice` (low, low/Base)\n"), 1);
 }
 
 #[test]
