@@ -143,10 +143,10 @@ impl Walker<'_> {
         }
     }
 
-    /// Binds the pattern of a case of an `elim`, behind its `[` or `|`, and returns the place of its `↦`. Where there is no case it
-    /// returns that of the `[`.
+    /// Binds the pattern of a case of an `elim`, behind its `[` or `|`, and returns the place of its `↦`. Where no pattern stands there
+    /// it returns that of the `[`: before the `|` of a first case, or where there is no case.
     fn case(&mut self, tokens: &[Token], before: usize) -> usize {
-        let end = (before + 1..tokens.len()).find(|&at| tokens[at].is_name("↦") || tokens[at].is_name("]"));
+        let end = (before + 1..tokens.len()).find(|&at| ["↦", "]", "|"].iter().any(|end| tokens[at].is_name(end)));
         let Some(end) = end.filter(|&end| tokens[end].is_name("↦")) else { return before };
         // as in round brackets: a name with others behind it is a constructor
         let bracket = |text: &str| Token { kind: Kind::Mark, text: text.to_string(), ..tokens[before].clone() };

@@ -48,6 +48,7 @@ fn cases() {
     let text = "f : t\nf = elim g [ Some b ↦ elim b [ (a, Some c) ↦ c b | a → d ↦ a d ] | e ∷ c ↦ e c b ] d";
     assert_eq!(mentioned(text), ["Some", "b", "d", "elim", "g", "t"]);
     assert_eq!(mentioned("f : t\nf = (elim g [ ], λ a. elim a [ other b ↦ b ], a)"), ["a", "elim", "g", "other", "t"]);
+    assert_eq!(mentioned("f : t\nf = elim g [\n  | other b ↦ b\n  | c ↦ c\n  ]"), ["elim", "g", "other", "t"]);
 }
 
 #[test]
