@@ -1,4 +1,4 @@
-// The C interface: each call on numbers and lent buffers only. include/tcam.h declares it and says what a caller owes.
+// The C interface: each call on numbers and lent buffers only. The crate `tcam_c` exports them; include/tcam.h declares them and says what a caller owes.
 // A call that can decline returns 0 or the number of the cause; data goes to lent cells.
 #![tactic(auto)]
 
