@@ -15,8 +15,7 @@ pub struct Progress {
 }
 
 // The next write of a plan, "finished", or a refusal: the record is advanced by a write that is done.
-#[unsafe(no_mangle)]
-pub extern "C" fn tcam_carry_out(
+pub fn tcam_carry_out(
     table: &mut [u64],
     width: u32,
     rule: &[u64],
@@ -34,8 +33,7 @@ pub extern "C" fn tcam_carry_out(
 }
 
 // The same with a neighbour list lent, which a write leaves as that of the table after it; `refreshed` tells whether it was not that of the table before.
-#[unsafe(no_mangle)]
-pub extern "C" fn tcam_carry_out_listed(
+pub fn tcam_carry_out_listed(
     table: &mut [u64],
     width: u32,
     uncounted: u32,

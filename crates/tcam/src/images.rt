@@ -9,8 +9,7 @@ use records::{Mode, cause_number};
 use saves::save;
 
 // The image of a table, into the lent buffer: its bytes, or a refusal.
-#[unsafe(no_mangle)]
-pub extern "C" fn tcam_save(
+pub fn tcam_save(
     table: &[u64],
     width: u32,
     uncounted: u32,
@@ -40,14 +39,7 @@ pub extern "C" fn tcam_save(
 }
 
 // The table of an image, into the lent table, or a refusal.
-#[unsafe(no_mangle)]
-pub extern "C" fn tcam_load(
-    image: &[u8],
-    table: &mut [u64],
-    width: u32,
-    uncounted: u32,
-    spot: &mut u32,
-) -> u32
+pub fn tcam_load(image: &[u8], table: &mut [u64], width: u32, uncounted: u32, spot: &mut u32) -> u32
     ensures { LoadLeft width (flag_of uncounted) image.now result table.old table.new spot.old spot.new }
 {
     match load(

@@ -1,4 +1,4 @@
-// The C interface: each call on numbers and lent buffers only. include/tcam.h declares it and says what a caller owes.
+// The C interface: each call on numbers and lent buffers only. The crate `tcam_c` exports them; include/tcam.h declares them and says what a caller owes.
 // A call that can decline returns 0 or the number of the cause; data goes to lent cells.
 #![tactic(auto)]
 
@@ -18,8 +18,7 @@ use marshalling::{spread, spread_insert, spread_listed};
 use records::{Mode, cause_number};
 
 // Slot, id and action of the lowest-numbered slot that matches a key; all 0 for a miss.
-#[unsafe(no_mangle)]
-pub extern "C" fn tcam_lookup(
+pub fn tcam_lookup(
     table: &[u64],
     width: u32,
     key: &[u64],
@@ -51,8 +50,7 @@ pub extern "C" fn tcam_lookup(
 }
 
 // A slot's record as a part of the table: its number of words, and in `first` the index of its first word.
-#[unsafe(no_mangle)]
-pub extern "C" fn tcam_slot_record(table: &[u64], width: u32, slot: u32, first: &mut u32) -> u32
+pub fn tcam_slot_record(table: &[u64], width: u32, slot: u32, first: &mut u32) -> u32
     ensures value { result ≡ part_length_call width table.now slot }
     ensures first_after { first.new ≡ part_start_call width table.now slot }
 {
@@ -67,8 +65,7 @@ pub extern "C" fn tcam_slot_record(table: &[u64], width: u32, slot: u32, first: 
 }
 
 // The shortest plan of an insert, into the lent buffer: its count and the slot of the rule that covers the new one, or a refusal.
-#[unsafe(no_mangle)]
-pub extern "C" fn tcam_plan_insert(
+pub fn tcam_plan_insert(
     table: &[u64],
     width: u32,
     uncounted: u32,
@@ -91,8 +88,7 @@ pub extern "C" fn tcam_plan_insert(
 }
 
 // The same with a neighbour list lent, which is that of the table after a success; `refreshed` tells whether it was not before.
-#[unsafe(no_mangle)]
-pub extern "C" fn tcam_plan_insert_listed(
+pub fn tcam_plan_insert_listed(
     table: &[u64],
     width: u32,
     uncounted: u32,
@@ -116,8 +112,7 @@ pub extern "C" fn tcam_plan_insert_listed(
 }
 
 // The plan of a delete, into the lent buffer: its count, or a refusal.
-#[unsafe(no_mangle)]
-pub extern "C" fn tcam_plan_delete(
+pub fn tcam_plan_delete(
     table: &[u64],
     width: u32,
     uncounted: u32,

@@ -1,2 +1,0 @@
--- What the proofs of both calls that carry a plan out cite.
-mod Records
