@@ -1,3 +1,4 @@
 -- What holds of the definitions of specs/.
 pub mod ChecksumLaws
+pub mod StreamsLaws
 pub mod ReadsLaws

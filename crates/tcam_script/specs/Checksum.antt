@@ -1,6 +1,6 @@
 -- The checksum by which bytes are tied to a read or a write: bytes as one number in base 256, after a 1, kept small by a modulus at each byte.
 -- The modulus is 2^56 − 5, so that a step fits 64 bits.
-use Rattle.std.specs.Prelude.{List, [], ◌∷◌, ℕ, ◌+◌, ◌*◌, ◌%◌, take, ℤ, pos, negsuc}
+use Rattle.std.specs.Prelude.{List, [], ◌∷◌, ℕ, ◌+◌, ◌*◌, ◌%◌, take, Option, None, Some}
 
 abbrev pub modulus : ℕ
 modulus = 72057594037927931
@@ -14,7 +14,7 @@ checksum_on sum (byte ∷ bytes) = checksum_on (sum % modulus * 256 + byte) byte
 abbrev pub checksum_of : List ℕ → ℕ
 checksum_of bytes = checksum_on 1 bytes
 
--- the bytes of a read by what it answered: so many at the buffer's start, none for less than 0
-abbrev pub block_of : ℤ → List ℕ → List ℕ
-block_of (pos k) buffer = take k buffer
-block_of (negsuc k) buffer = []
+-- the bytes of a read by what it answered: so many at the buffer's start, none where it failed
+abbrev pub block_of : Option ℕ → List ℕ → List ℕ
+block_of (Some k) buffer = take k buffer
+block_of None buffer = []

@@ -1,4 +1,6 @@
 -- What the program makes of the answers of its reads and writes.
--- Which bytes are read and written is the C library's, and no contract tells it: a checksum of what C is lent stands for them (Checksum).
+-- Which bytes the system gives and takes no contract tells: a checksum of those lent to it stands for them (Checksum). Of a reader and a writer whose
+-- bytes are known, the bytes themselves are told (Streams).
 pub mod Checksum
+pub mod Streams
 pub mod Reads
