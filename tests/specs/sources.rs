@@ -4,7 +4,7 @@ use crate::code::{closing, words, Word};
 use crate::comments::without_code_comments;
 use crate::disk::stem;
 use crate::tokens::{tokens, Token};
-use crate::uses::{imports, Import};
+use crate::uses::{imports, Import, PARTS};
 use std::collections::{BTreeSet, HashMap};
 use std::path::Path;
 
@@ -44,7 +44,7 @@ pub struct Source {
     /// For the names that its other `use` lines bring in, the crate.
     pub uses: HashMap<String, String>,
     pub functions: Vec<Function>,
-    /// What its attributes for the checker name of specifications, as `using(crate::specs::Laws::first)`: crate, module and name.
+    /// What its attributes for the checker name, as `using(crate::specs::Laws::first)`: crate, folder, module and name.
     pub hints: Vec<Vec<String>>,
     /// Functions and the names of their clauses, types with their fields and variants, constants and modules.
     pub declared: BTreeSet<String>,
@@ -208,8 +208,8 @@ impl Reader<'_> {
             }
             steps
         });
-        let hints: Vec<_> = paths.filter(|steps| steps.len() > 3 && steps[1] == "specs").collect();
-        self.source.hints.extend(hints.into_iter().map(|steps| [&steps[..1], &steps[2..]].concat()));
+        let hints: Vec<_> = paths.filter(|steps| steps.len() > 3 && PARTS.contains(&steps[1].as_str())).collect();
+        self.source.hints.extend(hints);
         close
     }
 

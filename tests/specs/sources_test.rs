@@ -26,7 +26,7 @@ pub enum Kind {
 
 pub struct Both(pub u32, u32);
 
-#[tactic(auto, unfolding(high::specs::Base::seventh))]
+#[tactic(auto, unfolding(high::proofs::Base::seventh))]
 pub fn one(x: u32) -> u32 ensures { result ≡ first x } { x }
 
 #[unsafe(no_mangle)] pub extern \"C\" fn two<'a>(key: &'a [u8], mut at: other::Kind) -> [u64; 2]
@@ -77,7 +77,8 @@ fn other_lines_for_the_checker() {
 
 #[test]
 fn what_attributes_name() {
-    assert_eq!(read().hints, [["low", "Laws", "sixth"], ["high", "Base", "seventh"]]);
+    let hints: Vec<String> = read().hints.iter().map(|hint| hint.join(" ")).collect();
+    assert_eq!(hints, ["low specs Laws sixth", "std proofs lemmas Grind common_steps", "high proofs Base seventh"]);
 }
 
 #[test]

@@ -7,11 +7,11 @@ use crate::mentions::{of_item, of_text, Mention};
 use crate::promises::PROMISES;
 use crate::sources::{source, Source};
 use crate::tokens::tokens;
-use crate::uses::{imports, own_path, Import};
+use crate::uses::{imports, own_path, Import, PARTS};
 use std::collections::{BTreeSet, HashMap};
 use std::path::Path;
 
-/// A file of specifications.
+/// A file of specifications, or of laws that stand directly in the folder of proofs.
 pub struct Module {
     pub crate_name: String,
     pub name: String,
@@ -56,7 +56,8 @@ pub struct Tree {
     /// The items that the proofs mention.
     pub proved_with: BTreeSet<usize>,
     pub promises: String,
-    places: HashMap<(String, String), usize>,
+    /// The modules by crate, folder and name.
+    places: HashMap<[String; 3], usize>,
 }
 
 /// What a path names: one of the file's imports, an item of the tree, or both.
@@ -83,9 +84,11 @@ impl Tree {
             places: HashMap::new(),
         };
         for name in &crates {
-            tree.read_specs(root, name);
+            for part in PARTS {
+                tree.read_items(root, name, part);
+            }
         }
-        tree.join_specs();
+        tree.join_items();
         for name in &crates {
             tree.read_proofs(root, name);
             tree.read_sources(root, name);
@@ -93,13 +96,16 @@ impl Tree {
         tree
     }
 
-    fn read_specs(&mut self, root: &Path, crate_name: &str) {
-        let folder = root.join("crates").join(crate_name).join("specs");
-        for path in files(&folder, "antt") {
+    fn read_items(&mut self, root: &Path, crate_name: &str, part: &str) {
+        let folder = root.join("crates").join(crate_name).join(part);
+        for path in files(&folder, "antt").into_iter().filter(|path| part != "proofs" || path.parent() == Some(&folder)) {
             let (path, name, text) = (shown(root, &path), stem(&path), read(&path));
             let module = self.modules.len();
-            let other = self.places.insert((crate_name.to_string(), name.clone()), module);
-            assert!(other.is_none(), "{path}: the crate has another file of this name");
+            // each folder has a Lib, which only names its files
+            let place = |part: &str| [crate_name, part, &name].map(String::from);
+            let another = PARTS.iter().any(|part| name != "Lib" && self.places.contains_key(&place(part)));
+            assert!(!another, "{path}: the crate has another file of this name");
+            self.places.insert(place(part), module);
             let mut entries = Vec::new();
             for item in items_of(&path, &text) {
                 entries.push(self.entries.len());
@@ -119,7 +125,7 @@ impl Tree {
     }
 
     /// With all items known, what each mentions.
-    fn join_specs(&mut self) {
+    fn join_items(&mut self) {
         for module in 0..self.modules.len() {
             let imports = self.modules[module].imports.clone();
             let mut mentioned = vec![false; imports.len()];
@@ -134,8 +140,10 @@ impl Tree {
         }
     }
 
+    /// What stands in the folders of functions: answers, invariants, and what only these use.
     fn read_proofs(&mut self, root: &Path, crate_name: &str) {
-        for path in files(&root.join("crates").join(crate_name).join("proofs"), "antt") {
+        let folder = root.join("crates").join(crate_name).join("proofs");
+        for path in files(&folder, "antt").into_iter().filter(|path| path.parent() != Some(&folder)) {
             let (path, text) = (shown(root, &path), read(&path));
             let imports = imports(&without_comments(&path, &text, 1), "");
             let mut mentioned = vec![false; imports.len()];
@@ -197,10 +205,11 @@ impl Tree {
         Found { import, entry }
     }
 
-    /// The item at a path of crate, module and name.
+    /// The item at a path of crate, folder, module and name.
     pub fn at(&self, steps: &[String]) -> Option<usize> {
-        let module = &self.modules[*self.places.get(&(steps.first()?.clone(), steps.get(1)?.clone()))?];
-        let name = steps.get(2)?;
+        let place: [String; 3] = steps.get(..3)?.to_vec().try_into().ok()?;
+        let module = &self.modules[*self.places.get(&place)?];
+        let name = steps.get(3)?;
         let passed_on = || module.imports.iter().find(|import| import.public && import.local == *name);
         module.names.get(name).copied().or_else(|| self.at(passed_on()?.origin.as_ref()?))
     }

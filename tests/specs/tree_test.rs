@@ -79,6 +79,15 @@ const PROOF: &str =
     "use Rattle.low.specs.Base.{below, some_below}\n\npub returns : goal.returns\nreturns c = some_below c.args\n";
 const PROMISED: &str = "The `low` crate; `promised` and `twice x` (high/Top), `some::below`.\n";
 
+const LAWS: &str = "\
+-- What holds of numbers.
+use Rattle.low.specs.Base.{twice}
+use Rattle.high.proofs.TopLaws.{law}
+
+pub twice_law : (n : ℕ) → twice n ≡ n
+twice_law n = law n
+";
+
 const FILES: [(&str, &str); 6] = [
     ("crates.txt", "# the crates\nlow:\nhigh: low\n"),
     ("docs/PROMISES.md", PROMISED),
@@ -213,6 +222,32 @@ fn what_attributes_name_is_reached_and_not_believed() {
     let tree = changed("hint", |root| write(root.join("crates/low/src/lib.rt"), SOURCE.replace("pub fn step", hint)).unwrap());
     assert!(names(&tree, ends(&tree)).contains(&"couple"));
     assert_eq!(names(&tree, contracts(&tree, false)), ["moved"]);
+}
+
+#[test]
+fn laws_in_the_folder_of_proofs() {
+    let with_laws = |root: &Path| {
+        write(root.join("crates/low/proofs/BaseLaws.antt"), LAWS).unwrap();
+        write(root.join("crates/low/proofs/Lib.antt"), "pub mod BaseLaws\n").unwrap();
+        write(root.join("crates/low/specs/Lib.antt"), "pub mod Base\n").unwrap();
+        create_dir_all(root.join("crates/high/proofs")).unwrap();
+        write(root.join("crates/high/proofs/TopLaws.antt"), "pub law : (n : ℕ) → n ≡ n\nlaw n = refl\n").unwrap();
+        write(root.join("docs/PROMISES.md"), "`twice_law` (low/BaseLaws)\n").unwrap();
+    };
+    let tree = changed("laws", with_laws);
+    assert_eq!(names(&tree, promises(&tree)), ["twice_law"]);
+    let reached = closure(&promises(&tree), |entry| &tree.entries[entry].whole);
+    assert_eq!(names(&tree, reached), ["Numbers", "twice", "twice_law", "law"]);
+    assert!(!names(&tree, tree.proved_with.iter().copied()).contains(&"law"));
+    let law = names(&tree, 0..tree.entries.len()).iter().position(|name| *name == "twice_law").unwrap();
+    assert_eq!(tree.modules[tree.entries[law].module].path, "low/proofs/BaseLaws.antt");
+    assert!(!Kinds::new(&tree).is_definition(law));
+}
+
+#[test]
+#[should_panic(expected = "low/proofs/Base.antt: the crate has another file of this name")]
+fn a_file_of_one_name_in_both_folders() {
+    changed("one_name", |root| write(root.join("crates/low/proofs/Base.antt"), "law : t\nlaw = x\n").unwrap());
 }
 
 #[test]

@@ -1,10 +1,13 @@
 // What the `use` lines of a file bring in.
 
+/// The folders of a crate whose files have items.
+pub const PARTS: [&str; 2] = ["specs", "proofs"];
+
 /// One name that a `use` line brings.
 #[derive(Clone, Debug)]
 pub struct Import {
     pub local: String,
-    /// Of the library's own: crate, module and the names below it. Of another library nothing is known.
+    /// Of the library's own: crate, `specs` or `proofs`, module and the names below it. Of another library nothing is known.
     pub origin: Option<Vec<String>>,
     /// The path as it is written, with the name.
     pub written: String,
@@ -59,10 +62,8 @@ fn brought(text: &str, public: bool, line: usize) -> Vec<Import> {
     }
 }
 
-/// `Rattle.records.specs.Checks.Told`, in its own crate and in others: crate, module and name.
+/// `Rattle.records.specs.Checks.Told`, in its own crate and in others: crate, `specs` or `proofs`, module and name.
 pub fn own_path(steps: &[&str]) -> Option<Vec<String>> {
-    match steps {
-        ["Rattle", name, "specs", rest @ ..] => Some([name].iter().copied().chain(rest).map(|step| step.to_string()).collect()),
-        _ => None,
-    }
+    let own = steps.len() > 2 && steps[0] == "Rattle" && PARTS.contains(&steps[2]);
+    own.then(|| steps[1..].iter().map(|step| step.to_string()).collect())
 }
