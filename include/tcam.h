@@ -203,8 +203,9 @@
  *     assembler code that calls has to do so itself. SSE2 registers and the red zone are used: an interrupt
  *     handler saves those registers if it uses them or calls the library, and steps over the 128 bytes below the
  *     stack pointer if it runs on the same stack;
- *   - the program has a memset and a memmove, as in C's string.h: the planning calls, tcam_save, tcam_load and both
- *     calls that carry out call memset, and the two that carry out memmove too;
+ *   - the program has a memset, a memcpy and a memmove, as in C's string.h: the planning calls, tcam_save, tcam_load
+ *     and both calls that carry out call memset, the two that plan an insert memcpy too, and the two that carry out
+ *     memmove too;
  *   - there is stack enough, as told below.
  *
  * No call but tcam_carry_out, tcam_carry_out_listed and tcam_load changes the table, and none keeps anything for later.
