@@ -1,7 +1,6 @@
 /*
- * tcam.h: looking up keys in a table of ternary rules, planning how rules are put in, cleared out of the way and taken
- * out, carrying the plans out write by write, keeping lists of the rules' neighbours meanwhile, and saving and loading
- * tables.
+ * tcam.h: looking up keys in a table of ternary rules, planning how rules are put in and taken out, carrying
+ * the plans out write by write, keeping lists of the rules' neighbours meanwhile, and saving and loading tables.
  *
  * THE WIDTH of a table is the number of 64-bit words of a value, of a mask and of a key: 2 (TCAM_WIDTH_128, keys of
  * 128 bits) or 5 (TCAM_WIDTH_320, keys of 320 bits, room for IPv6 addresses, ports and protocol). It is given with
@@ -52,10 +51,10 @@
  * and tcam_load for an image of one; the other calls do not.
  *
  * THE FLAG names a table as counted or as uncounted: 0 (TCAM_COUNTED) is counted, and any other number, 1
- * (TCAM_UNCOUNTED) or another, is uncounted. It is given, behind the width, with each call that compares rules: all
- * five planning calls, tcam_carry_out_listed, tcam_save and tcam_load. A counted table is for a caller who counts
- * frames for each rule: every key is promised the id of its highest-ranked match. An uncounted table is for one who
- * counts nothing and sees the action alone:
+ * (TCAM_UNCOUNTED) or another, is uncounted. It is given, behind the width, with each call that compares rules:
+ * tcam_plan_insert, tcam_plan_insert_listed, tcam_plan_delete, tcam_carry_out_listed, tcam_save and tcam_load. A
+ * counted table is for a caller who counts frames for each rule: every key is promised the id of its highest-ranked
+ * match. An uncounted table is for one who counts nothing and sees the action alone:
  *
  *   - rules of one action are not ordered, whatever their ranks are, so that a plan may have fewer writes, and an
  *     insert may be planned that a counted table declines with TCAM_TIE or TCAM_CROSSED;
@@ -76,12 +75,11 @@
  *     from 65534 (TCAM_EMPTY)   empties slot `to`
  *     any other from            copies slot `from` to slot `to`, and leaves slot `from` as it is
  *
- * The planning calls, whose names begin with tcam_plan_, draw plans. tcam_carry_out, or tcam_carry_out_listed, makes
- * one write of a plan per call; the caller may make the writes itself instead, and then puts the new rule in with its
- * rank. What follows holds where the writes of a plan are made one at a time, from the first word to the last, on the
- * table it was drawn for, and those of an insert's plan, the only one that puts a rule in, with the rule and the
- * edition it was drawn for. A key's reply is id and action, or a miss; in an uncounted table it is the action alone, or
- * a miss. Its slot may change as rules move.
+ * The planning calls draw plans. tcam_carry_out, or tcam_carry_out_listed, makes one write of a plan per call; the
+ * caller may make the writes itself instead, and then puts the new rule in with its rank. What follows holds where the
+ * writes of a plan are made one at a time, from the first word to the last, on the table it was drawn for, with the
+ * rule and the edition it was drawn for. A key's reply is id and action, or a miss; in an uncounted table it is the
+ * action alone, or a miss. Its slot may change as rules move.
  *
  * A RULE SENT AGAIN. Two rules are equal when they have the same value, mask and rank; ids and actions are not looked
  * at, and an empty slot is equal to no rule. As in OpenFlow, an insert of a rule of a new id that is equal to one
@@ -101,28 +99,6 @@
  * A delete's plan is one write. It empties the slot of a rule that has no other copy. Before it every key has
  * its old reply. After it the table is in order, each other rule stands in its one slot as before, and every
  * key has the reply of these rules: that of the highest-ranked match among them, or a miss.
- *
- * A CROSSED INSERT. A new rule belongs after all rules that precede it and before all that depend on it. Where one that
- * depends on it stands before one that precedes it, no slot is right, and tcam_plan_insert declines with TCAM_CROSSED.
- * Let A be the highest slot with a rule that precedes the new one. A blocker is a rule in a slot before A that depends
- * on the new rule, directly or through others: on the new rule itself, or on another rule that does. tcam_plan_clearing
- * takes the same new rule and plans how the blocker in the highest slot is copied to where no rule that precedes the
- * new one comes after it, and its older copy emptied. Of such a plan no write puts a rule in, and none goes over or
- * empties a rule that has no other copy. The table is in order after each write, and every key keeps its reply at every
- * write, the last one too. In the middle of the plan one rule may stand in two slots, as in that of an insert; after
- * it the table has the rules that it had, each in one slot.
- *
- * Each clearing that is carried out leaves fewer blockers, at least one less, and once none is left the insert is not
- * crossed. So where nothing else changes the table this loop ends, after at most as many rounds as there were blockers:
- *
- *     while ((number = tcam_plan_insert(.. rule ..)) == TCAM_CROSSED) {
- *         if ((number = tcam_plan_clearing(.. the same rule ..)) != TCAM_OK)
- *             break;
- *         .. this plan is carried out, to its end ..
- *     }
- *
- * With buffers of as many words as the table has slots no clearing in it is declined, and the insert is planned at its
- * end. The writes of a clearing are not claimed to be the fewest that would do, nor the clearings.
  *
  * COVER. A rule covers another when the other cares for every bit that it cares for, with the same value: then every
  * key that matches the other matches it too. Two rules of one value and mask cover each other. Ids, actions and the
@@ -147,17 +123,17 @@
  * rules has one list with either flag: a table in order, one half-way through a plan, and also one out of order, or
  * with overlapping rules of equal rank, which are no neighbours of each other.
  *
- * tcam_plan_insert_listed, tcam_plan_clearing_listed and tcam_carry_out_listed are tcam_plan_insert, tcam_plan_clearing
- * and tcam_carry_out with a list lent. A success leaves the table's list there: of the table that was planned for, or
- * of the table after the write. *refreshed is 1 where the list was another than the table's at the call's start, so
- * that it was worked out afresh, and 0 where it was the table's. So from the first success on a list is right between
- * calls, where only tcam_carry_out_listed changes its table, nothing but these three calls changes the list, and all of
- * them are given one flag. It may start with any numbers; and where tcam_carry_out, tcam_load or the caller has changed
- * the table meanwhile, the next success with the list puts it right, and tells so where a number had changed. No number
- * of a lent list is trusted: whatever stands there, the result, spot, plan, count, covering slot, table and progress
- * record are those of the call without a list. Only a list of another length is refused, with TCAM_SHAPE. A refused
- * call, and one that answers TCAM_FINISHED, leaves every number of the list and *refreshed as they were. No call only
- * works a list out: a table for which nothing can be planned gets its list with the next write.
+ * tcam_plan_insert_listed and tcam_carry_out_listed are tcam_plan_insert and tcam_carry_out with a list lent. A success
+ * leaves the table's list there: of the table that was planned for, or of the table after the write. *refreshed is 1
+ * where the list was another than the table's at the call's start, so that it was worked out afresh, and 0 where it was
+ * the table's. So from the first success on a list is right between calls, where only these two calls, with one flag,
+ * change its table and nothing else changes the list. It may start with any numbers; and where tcam_carry_out,
+ * tcam_load or the caller has changed the table meanwhile, the next success with the list puts it right, and tells so
+ * where a number had changed. No number of a lent list is trusted: whatever stands there, the result, spot, plan,
+ * count, covering slot, table and progress record are those of the call without a list. Only a list of another length
+ * is refused, with TCAM_SHAPE. A refused call, and one that answers TCAM_FINISHED, leaves every number of the list and
+ * *refreshed as they were. No call only works a list out: a table into which nothing can be planned gets its list with
+ * the next write.
  *
  * A list pays where it is read: for a caller who draws the dependencies of the rules, or checks them, or plans moves of
  * its own, between any two writes. It makes no call faster. Since no lent number is trusted, each call with a list
@@ -175,9 +151,8 @@
  *
  * At worst the rule that is taken out or written over is the only neighbour of all others, and no other two can be told
  * apart by their first words: each then looks through the rest for its next one. So a caller who reads no list calls
- * tcam_plan_insert, tcam_plan_clearing and tcam_carry_out; and one who reads it once for each plan, not after each
- * write, carries out with tcam_carry_out and lends the list to the planning calls only, where an old list costs no more
- * than a right one.
+ * tcam_plan_insert and tcam_carry_out; and one who reads it once for each plan, not after each write, carries out with
+ * tcam_carry_out and lends the list to the planning calls only, where an old list costs no more than a right one.
  *
  * AN IMAGE is a table as bytes, to be kept and loaded again. Its numbers are big-endian:
  *
@@ -215,9 +190,8 @@
  *     two slots at width 2 and one at width 5: the same words are then read as another table;
  *   - a table that was named as uncounted in one call is named so in every later one, and so is each image of it: a
  *     call that names it as counted may decline it, and nothing is promised to its keys from then on;
- *   - the plan of an insert is carried out with the rule and the edition that it was drawn for. With another sound
- *     rule, or the other edition, each write that fits is made all the same, and what is said above of replies and of
- *     order does not hold. The plans of a clearing and of a delete are carried out with any;
+ *   - a plan is carried out with the rule and the edition that it was drawn for. With another sound rule, or the other
+ *     edition, each write that fits is made all the same, and what is said above of replies and of order does not hold;
  *   - until a call returns, nothing else changes what it is lent: a table, a rule, a key, a plan buffer, a list, an
  *     image buffer, a progress record or a cell;
  *   - no other call is made on the table while tcam_carry_out, tcam_carry_out_listed or tcam_load runs, not from an
@@ -249,16 +223,13 @@
  *     tcam_carry_out_listed       24,400    24,400
  *     tcam_plan_insert            31,008    31,008, or 10,848 and 96 for each word of the plan, where that is more
  *     tcam_plan_insert_listed     31,056    31,056, or 10,896 and 96 for each word of the plan, where that is more
- *     tcam_plan_clearing            XXXX      XXXX, or XXXX and 96 for each word of the plan, where that is more
- *     tcam_plan_clearing_listed     XXXX      XXXX, or XXXX and 96 for each word of the plan, where that is more
  *     tcam_save                   24,704    24,704
  *     tcam_load                   74,112   123,264
  *
- * The longest plan, of 1,024 words, takes 109,152 bytes, 106.6 KiB, and with a list 109,200; that of a clearing, of
- * 1,024 words too, takes XXXX bytes, and with a list XXXX. A plan that does not fit its buffer is not written out, so
- * that a buffer of n words bounds the stack of an insert at 10,848 + 96 * n bytes, or at 31,008 where that is more;
- * with a list at 10,896 + 96 * n, or at 31,056; and that of a clearing likewise, at XXXX + 96 * n, or at XXXX, and with
- * a list at XXXX + 96 * n, or at XXXX. tcam_load builds the whole table on the stack before it writes the lent one.
+ * The longest plan, of 1,024 words, takes 109,152 bytes, 106.6 KiB, and with a list 109,200. A plan that does not fit
+ * its buffer is not written out, so that a buffer of n words bounds the stack at 10,848 + 96 * n bytes, or at 31,008
+ * where that is more; with a list at 10,896 + 96 * n, or at 31,056. tcam_load builds the whole table on the stack
+ * before it writes the lent one.
  */
 #ifndef TCAM_H
 #define TCAM_H
@@ -319,30 +290,30 @@ extern "C" {
 #define TCAM_NONE 65535u
 
 /*
- * Why a call declines, and the calls that return it, without their tcam_: of plan_insert, plan_clearing and carry_out
- * the calls with a list return the same. Where none is named, no call declared here returns it: TCAM_LINE is the script
- * program's, and TCAM_PLAN, TCAM_DAMAGE and all from TCAM_OPEN on are for calls to come.
+ * Why a call declines, and the calls that return it, without their tcam_. What plan_insert and carry_out return,
+ * plan_insert_listed and carry_out_listed return too. Where none is named, no call declared here returns it: TCAM_LINE
+ * is the script program's, and the others are for calls to come.
  */
 enum tcam_cause {
     TCAM_OK = 0,         /* not a refusal */
     TCAM_SHAPE = 1,      /* no such width, or not its words, or not the numbers of a list. All that decline */
-    TCAM_RECORD = 2,     /* a slot neither empty nor a sound rule. All that decline but load */
-    TCAM_TWICE = 3,      /* a slot's id stands in an earlier one too. The planning calls, save, load */
-    TCAM_ORDER = 4,      /* an earlier rule ordered with it has no higher rank. The planning calls, save, load */
-    TCAM_RULE = 5,       /* the rule given is unsound, or the id to delete is 0. The planning calls, carry_out */
-    TCAM_KNOWN = 6,      /* the new rule's id is present. plan_insert, plan_clearing */
+    TCAM_RECORD = 2,     /* a slot neither empty nor a sound rule. lookup, plan_insert, plan_delete, carry_out, save */
+    TCAM_TWICE = 3,      /* a slot's id stands in an earlier one too. plan_insert, plan_delete, save, load */
+    TCAM_ORDER = 4,      /* an earlier rule ordered with it has no higher rank. plan_insert, plan_delete, save, load */
+    TCAM_RULE = 5,       /* the rule given is unsound: plan_insert, carry_out. The id to delete is 0: plan_delete */
+    TCAM_KNOWN = 6,      /* the id to insert is present. plan_insert */
     TCAM_UNKNOWN = 7,    /* the id to delete is absent. plan_delete */
-    TCAM_TIE = 8,        /* the rule is ordered with one of equal rank, and replaces none. plan_insert, plan_clearing */
-    TCAM_FULL = 9,       /* no slot is empty, and the rule replaces none. plan_insert, plan_clearing */
+    TCAM_TIE = 8,        /* the rule is ordered with one of equal rank, and replaces none. plan_insert */
+    TCAM_FULL = 9,       /* no slot is empty, and the rule replaces none. plan_insert */
     TCAM_CROSSED = 10,   /* a rule that depends on the new one stands before one that precedes it. plan_insert */
-    TCAM_SHORT = 11,     /* the plan or image buffer is too short. The planning calls, save */
+    TCAM_SHORT = 11,     /* the plan or image buffer is too short. plan_insert, plan_delete, save */
     TCAM_WRITE = 12,     /* the progress record or the next write does not fit. carry_out */
     TCAM_LINE = 13,      /* a line of a script is malformed */
     TCAM_IMAGE = 14,     /* the image is wrong. load */
-    TCAM_UNCROSSED = 15, /* the rule that crossed rules are to be cleared away for is not crossed. plan_clearing */
+    TCAM_UNCROSSED = 15, /* the rule that crossed rules are to be cleared away for is not crossed */
     TCAM_PLAN = 16,      /* a plan that came by wire fails */
     TCAM_DAMAGE = 17,    /* the table to mend has other damage than one rule that stands twice */
-    TCAM_EDITION = 18,   /* the edition is neither 10 nor 13. plan_insert, plan_clearing, carry_out */
+    TCAM_EDITION = 18,   /* the edition is neither 10 nor 13. plan_insert, carry_out */
     TCAM_OPEN = 19,      /* the session is open already */
     TCAM_SESSION = 20,   /* the session is not open, or 64 are open already */
     TCAM_ABSENT = 21,    /* no image is stored under this number */
@@ -441,8 +412,8 @@ uint32_t tcam_slot_record(const uint64_t *table, size_t words, uint32_t width, u
  *   TCAM_TIE      a rule of the table is ordered with the new one and has its rank. *spot is the lowest slot of one.
  *   TCAM_FULL     no slot is empty. *spot is 0.
  *   TCAM_CROSSED  a rule that depends on the new one stands before a rule that precedes the new one. It is
- *                 refused even where some sequence of writes would do: tcam_plan_clearing plans the writes that
- *                 clear the way. *spot is the highest slot with a rule that precedes the new one.
+ *                 refused even where some sequence of writes would do. *spot is the highest slot with a rule
+ *                 that precedes the new one.
  *   TCAM_SHORT    plan_words is less than the count. *spot is the count: the words needed.
  * TCAM_TIE, TCAM_FULL and TCAM_CROSSED are asked only of a rule that replaces none.
  */
@@ -469,72 +440,6 @@ uint32_t tcam_plan_insert_listed(const uint64_t *table, size_t words, uint32_t w
                                  const uint64_t *rule, size_t rule_words, uint32_t edition, uint16_t *list,
                                  size_t list_numbers, uint32_t *plan, size_t plan_words, uint32_t *count,
                                  uint32_t *covered, uint32_t *refreshed, uint32_t *spot);
-
-/*
- * Plans a clearing: the writes that take one rule out of the way of a new rule whose insert is crossed, as words of a
- * plan. The new rule is not put in: for that its insert is planned anew, once the plan is carried out.
- *
- *   table, words      the table and its length in words
- *   width             its width
- *   uncounted         its flag: 0 is counted, any other number uncounted
- *   rule, rule_words  the new rule's record and its length in words, which is TCAM_RECORD_WORDS(width). Its last word
- *                     is the rule's priority
- *   edition           10 or 13, which gives the rule its rank
- *   plan, plan_words  buffer for the plan and its length in words
- *   count             cell for the number of words that the call wrote
- *   spot              cell for a refusal's spot
- *
- * Result TCAM_OK: the plan is the words 0 to *count - 1 of the buffer. It is carried out as any other, with any rule of
- * the width's words and any edition, as with tcam_no_rule and TCAM_EDITION_13, since no write of it puts a rule in.
- *
- * The rule that is moved is the blocker in the highest slot: the highest before A with a rule that depends on the new
- * one, directly or through others, where A is the highest slot with a rule that precedes the new one. It goes to one of
- * the slots from A + 1 to that of its own nearest dependant, or to the last where it has none, with a chain toward
- * higher slots as for an insert; or it goes to slot A, with a chain toward lower ones. The shorter chain is taken,
- * toward higher slots if equal; and where slots are equally good the lowest, or in a chain toward lower slots the
- * highest. The plan copies the rules of the chain, the far end first; then the blocker to its new slot, from the slot
- * that it holds by then, which is another than before where the chain has moved the blocker itself; and the last word
- * empties the slot that it was copied from.
- *
- * *count is at least 2 and at most the number of slots, so that a buffer of as many words as the table has slots always
- * does. It is not claimed to be the least number of writes, nor is it claimed that an insert takes the fewest
- * clearings; each that is carried out leaves at least one blocker less.
- *
- * Refusals, in the order of checks:
- *   TCAM_SHAPE, TCAM_RECORD, TCAM_TWICE, TCAM_ORDER, TCAM_RULE, TCAM_EDITION, TCAM_KNOWN, TCAM_TIE, TCAM_FULL
- *                   as for tcam_plan_insert, in this order.
- *   TCAM_UNCROSSED  the rule's insert is not crossed: no rule that depends on it stands before one that precedes it,
- *                   or it replaces a rule. *spot is 0.
- *   TCAM_SHORT      plan_words is less than the count. *spot is the count: the words needed.
- * TCAM_TIE and TCAM_FULL are asked only of a rule that replaces none: one that replaces a rule is refused with
- * TCAM_UNCROSSED, in a table without an empty slot too.
- *
- * Left as it was: always the table and the rule; on success the words of the buffer from *count on, and *spot; on a
- * refusal all but *spot.
- */
-uint32_t tcam_plan_clearing(const uint64_t *table, size_t words, uint32_t width, uint32_t uncounted,
-                            const uint64_t *rule, size_t rule_words, uint32_t edition, uint32_t *plan,
-                            size_t plan_words, uint32_t *count, uint32_t *spot);
-
-/*
- * Plans a clearing with a neighbour list lent: as tcam_plan_clearing, and the list is the table's afterwards.
- *
- *   list, list_numbers  the list and its length in numbers, which is TCAM_LIST_NUMBERS(slots)
- *   refreshed           cell for whether the list was worked out afresh: 1, or 0
- * and all others as for tcam_plan_clearing.
- *
- * Result TCAM_OK: plan and *count are those of tcam_plan_clearing, whatever the list was. The list is that of the
- * table, which the call does not change, with this flag. *refreshed is 1 if a number of the list was another before the
- * call, and 0 if none was.
- *
- * Refusals: those of tcam_plan_clearing, in the same order, with the same spots, and also
- *   TCAM_SHAPE    list_numbers is not TCAM_LIST_NUMBERS(slots), where table and rule pass this check. *spot is 0.
- * A refusal, TCAM_UNCROSSED and TCAM_SHORT too, leaves every number of the list as it was, and *refreshed.
- */
-uint32_t tcam_plan_clearing_listed(const uint64_t *table, size_t words, uint32_t width, uint32_t uncounted,
-                                   const uint64_t *rule, size_t rule_words, uint32_t edition, uint16_t *list,
-                                   size_t list_numbers, uint32_t *plan, size_t plan_words, uint32_t *count,
-                                   uint32_t *refreshed, uint32_t *spot);
 
 /*
  * Plans a delete: the one write that empties a rule's slot.
@@ -570,7 +475,7 @@ typedef struct tcam_progress {
 #define TCAM_FINISHED 0xFFFFFFFFu
 
 /*
- * A record of zeros, for the carrying out of a plan that puts no rule in, a clearing's or a delete's: tcam_no_rule,
+ * A record of zeros, for the carrying out of a delete and of any plan that puts no rule in: tcam_no_rule,
  * TCAM_RECORD_WORDS(width). It has the words of the greater width, and serves at either. It is no sound rule, so that
  * a plan that does put one in is refused with it.
  */
@@ -587,8 +492,8 @@ static const uint64_t tcam_no_rule[TCAM_RECORD_WORDS(TCAM_WIDTH_320)] = {0};
  *   plan, plan_words  the plan and its length in words: its count, or the length of its whole buffer
  *   progress          the progress record, lent: writes done, writes in all
  *
- * The rule and the edition are looked at only where the next write puts the rule in: the plans of a clearing and of a
- * delete are carried out with any, as with tcam_no_rule and TCAM_EDITION_13. The rule's length is always looked at.
+ * The rule and the edition are looked at only where the next write puts the rule in: the plan of a delete is carried
+ * out with any, as with tcam_no_rule and TCAM_EDITION_13. The rule's length is always looked at.
  *
  * Result TCAM_WROTE: the write is made, in this one slot, and progress->done is one more. A rule that is put in stands
  * there as it was given, but for its last word, which is its rank.
@@ -609,9 +514,9 @@ static const uint64_t tcam_no_rule[TCAM_RECORD_WORDS(TCAM_WIDTH_320)] = {0};
  *                value, mask and rank of the one that is put in, whatever its id and action. An emptying write
  *                fits if the slot exists and is not empty.
  *
- * What is said of plans above asks for a plan that is carried out from its start, with its own rule and edition where
- * it puts one in, on the table it was drawn for. Of any other plan, rule, edition or progress record no more is said
- * than stands here: one write that fits, or nothing.
+ * What is said of plans above asks for a plan that is carried out from its start, with its own rule and edition, on the
+ * table it was drawn for. Of any other plan, rule, edition or progress record no more is said than stands here: one
+ * write that fits, or nothing.
  *
  * Left as it was, always: the rule, the plan, progress->total, and every slot but the one that a write goes to.
  */

@@ -7,7 +7,7 @@ use std::collections::BTreeSet;
 use std::path::Path;
 
 /// Words of contracts, which the page explains.
-const CONTRACTS: [&str; 5] = ["now", "entry", "exit", "requires", "ensures"];
+const CONTRACTS: [&str; 6] = ["now", "old", "new", "result", "requires", "ensures"];
 /// Functions of C, of whose answers the page speaks.
 const C: [&str; 2] = ["read", "write"];
 /// The program that proves and builds, as in `rt check`.

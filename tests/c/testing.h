@@ -211,12 +211,6 @@ static inline int ordered(const uint64_t *a, const uint64_t *b)
     return (uncounted == TCAM_COUNTED || !same_action(a, b)) && overlap(a, b);
 }
 
-/* Whether the first of two rules precedes the second: they are ordered and it has the higher rank. Copies of one id are not compared. */
-static inline int precedes(const uint64_t *a, const uint64_t *b)
-{
-    return !is_empty(a) && !is_empty(b) && id_of(a) != id_of(b) && rank_of(a) > rank_of(b) && ordered(a, b);
-}
-
 /* Whether two slots hold rules of the same value, mask and rank; an empty slot is equal to nothing. */
 static inline int equal(const uint64_t *a, const uint64_t *b)
 {

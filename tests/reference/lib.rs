@@ -3,7 +3,6 @@
 
 pub mod bits;
 pub mod carry;
-pub mod clearing;
 pub mod cover;
 pub mod given;
 pub mod image;
@@ -13,8 +12,6 @@ pub mod plan;
 pub mod script;
 pub mod table;
 
-#[cfg(test)]
-mod clearing_test;
 #[cfg(test)]
 mod cover_test;
 #[cfg(test)]

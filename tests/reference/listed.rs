@@ -1,4 +1,4 @@
-// Neighbour lists, and two of the calls that a list is lent to, by the definition: each number is looked for over all slots of the table.
+// Neighbour lists, and the two calls that a list is lent to, by the definition: each number is looked for over all slots of the table.
 // Nothing here brings a list up to date: the list after a write is that of the table after it, from nothing.
 
 use crate::carry::{carry_out, Carried, Progress};
@@ -45,7 +45,7 @@ pub fn list_of(words: &[u64], width: usize, uncounted: bool) -> Result<Vec<u16>,
 }
 
 /// Check 1 of a call with a list: "one of another length is SHAPE", beside the table's words and the rule's.
-pub fn check_lent(words: &[u64], width: usize, rule: &[u64], list: &[u16]) -> Result<(), Refusal> {
+fn check_lent(words: &[u64], width: usize, rule: &[u64], list: &[u16]) -> Result<(), Refusal> {
     let slots = check_shape(words.len(), width)?;
     check_words(rule, record_words(width))?;
     if list.len() == list_numbers(slots) {
@@ -55,16 +55,8 @@ pub fn check_lent(words: &[u64], width: usize, rule: &[u64], list: &[u16]) -> Re
     }
 }
 
-/// Makes a list that of the table, and tells whether it was another: "a list that doesn't agree with the table at the call's start is
-/// worked out afresh and the reply says so".
-pub fn refresh(list: &mut [u16], words: &[u64], width: usize, uncounted: bool) -> Result<bool, Refusal> {
-    let fresh = list_of(words, width, uncounted)?;
-    let refreshed = list != fresh;
-    list.copy_from_slice(&fresh);
-    Ok(refreshed)
-}
-
-/// What an insert tells that is planned with a list: "plans from the list equal plans without it".
+/// What an insert tells that is planned with a list: "plans from the list equal plans without it", and "a list that doesn't agree with
+/// the table at the call's start is worked out afresh and the reply says so".
 #[derive(Clone, Debug, PartialEq, Eq)]
 pub struct ListedPlan {
     pub planned: Planned,
@@ -82,7 +74,10 @@ pub fn plan_insert_listed(
 ) -> Result<ListedPlan, Refusal> {
     check_lent(words, width, rule, list)?;
     let planned = plan_insert(words, width, uncounted, rule, edition, room)?;
-    Ok(ListedPlan { planned, refreshed: refresh(list, words, width, uncounted)? })
+    let fresh = list_of(words, width, uncounted)?;
+    let refreshed = list != fresh;
+    list.copy_from_slice(&fresh);
+    Ok(ListedPlan { planned, refreshed })
 }
 
 /// What a carrying out with a list answers.

@@ -7,7 +7,6 @@ use crate::table::{
     check_shape, check_words, read_sound_table, record_words, refuse, Refusal, Rule, Slot, CROSSED, FULL, KNOWN, RULE, SHORT,
     TIE, UNKNOWN,
 };
-use std::ops::RangeInclusive;
 
 pub const PUT_IN: u32 = 65_535;
 pub const EMPTYING: u32 = 65_534;
@@ -120,12 +119,11 @@ pub fn neighbours(slots: &[Slot], new: &Rule, uncounted: bool) -> (i64, i64) {
     (highest_preceding, lowest_dependant)
 }
 
-/// Where a rule goes and the chain of slots behind it: to the slot of least down cost in one range or of least up cost in the other,
-/// "within 0 to N - 1", and "the smaller of these two wins, down if equal".
-pub fn chain_of(slots: &[Slot], uncounted: bool, down_range: RangeInclusive<i64>, up_range: RangeInclusive<i64>) -> Vec<usize> {
+/// Where the new rule goes and the chain of slots behind it, for a rule that passes checks 1 to 10.
+fn insert_chain(slots: &[Slot], uncounted: bool, a: i64, b: i64) -> Vec<usize> {
     let within = |slot: &i64| (0..slots.len() as i64).contains(slot);
-    let down_range: Vec<usize> = down_range.filter(within).map(|slot| slot as usize).collect();
-    let up_range: Vec<usize> = up_range.rev().filter(within).map(|slot| slot as usize).collect();
+    let down_range: Vec<usize> = (a + 1..=b).filter(within).map(|slot| slot as usize).collect();
+    let up_range: Vec<usize> = (a..=b - 1).rev().filter(within).map(|slot| slot as usize).collect();
     let down = down_costs(slots, uncounted);
     let up = up_costs(slots, uncounted);
     let chain_down = |start| chain_from(slots, start, &down, |slot, rule| down_window(slots, slot, rule, uncounted));
@@ -134,13 +132,18 @@ pub fn chain_of(slots: &[Slot], uncounted: bool, down_range: RangeInclusive<i64>
         (Some((start, down_cost)), Some((_, up_cost))) if down_cost <= up_cost => chain_down(start),
         (_, Some((start, _))) => chain_up(start),
         (Some((start, _)), None) => chain_down(start),
-        (None, None) => panic!("there is a slot of finite cost when one slot is empty"),
+        (None, None) => panic!("an uncrossed rule has a slot of finite cost when one slot is empty"),
     }
 }
 
-/// The copies of a chain, "the far end of its chain first".
-pub fn copies_of_chain(chain: &[usize]) -> Vec<u32> {
-    (1..chain.len()).rev().map(|link| write_word(chain[link - 1] as u32, chain[link])).collect()
+/// The writes of an insert: "a plan lists the far end of its chain first, the new rule last".
+fn writes_of_chain(chain: &[usize]) -> Vec<u32> {
+    let mut writes = Vec::new();
+    for link in (1..chain.len()).rev() {
+        writes.push(write_word(chain[link - 1] as u32, chain[link]));
+    }
+    writes.push(write_word(PUT_IN, chain[0]));
+    writes
 }
 
 /// What an accepted insert tells: its plan, and "the lowest slot of a higher-priority rule that alone covers the new one in the table
@@ -151,45 +154,7 @@ pub struct Planned {
     pub covered: Option<usize>,
 }
 
-/// A sound table and a sound rule that pass checks 1 to 9, and the slot of the rule that the new one replaces.
-pub struct Passed {
-    pub slots: Vec<Slot>,
-    pub new: Rule,
-    pub replaced: Option<usize>,
-}
-
-/// Checks 1 to 9, 18 after 5; the new rule is a record. "When an unknown id has a present rule's value, mask and priority", 8 and 9
-/// aren't asked; in an uncounted table one of another action "gives 8".
-pub fn check_new_rule(words: &[u64], width: usize, uncounted: bool, rule: &[u64], edition: u32) -> Result<Passed, Refusal> {
-    check_shape(words.len(), width)?;
-    check_words(rule, record_words(width))?;
-    let slots = read_sound_table(words, width, uncounted)?;
-    let new = Given::of_record(rule, width).ranked(width, edition)?;
-    let slot_where = |test: &dyn Fn(&Rule) -> bool| slots.iter().position(|entry| entry.as_ref().is_some_and(test));
-    if let Some(slot) = slot_where(&|rule| rule.id == new.id) {
-        return refuse(KNOWN, slot);
-    }
-    let replaced = replaced_slot(&slots, &new, uncounted);
-    if replaced.is_none() {
-        if let Some(slot) = slot_where(&|rule| rule.ties_with(&new, uncounted)) {
-            return refuse(TIE, slot);
-        }
-        if slots.iter().all(|entry| entry.is_some()) {
-            return refuse(FULL, 0);
-        }
-    }
-    Ok(Passed { slots, new, replaced })
-}
-
-/// Check 11: `room` is the length of the lent plan buffer, in words.
-pub fn check_room(writes: &[u32], room: usize) -> Result<(), Refusal> {
-    if writes.len() > room {
-        return refuse(SHORT, writes.len());
-    }
-    Ok(())
-}
-
-/// Checks 1 to 11, 18 after 5, and what an insert that passes them tells.
+/// Checks 1 to 11, 18 after 5, and what an insert that passes them tells; the new rule is a record, `room` is the length of the lent plan buffer, in words.
 pub fn plan_insert(
     words: &[u64],
     width: usize,
@@ -198,10 +163,15 @@ pub fn plan_insert(
     edition: u32,
     room: usize,
 ) -> Result<Planned, Refusal> {
-    let passed = check_new_rule(words, width, uncounted, rule, edition)?;
-    let writes = insert_writes(&passed, uncounted)?;
-    check_room(&writes, room)?;
-    Ok(Planned { writes, covered: covering_slot(&passed.slots, &passed.new) })
+    check_shape(words.len(), width)?;
+    check_words(rule, record_words(width))?;
+    let slots = read_sound_table(words, width, uncounted)?;
+    let new = Given::of_record(rule, width).ranked(width, edition)?;
+    let writes = insert_writes(&slots, &new, uncounted)?;
+    if writes.len() > room {
+        return refuse(SHORT, writes.len());
+    }
+    Ok(Planned { writes, covered: covering_slot(&slots, &new) })
 }
 
 /// The slot of the rule that a new one replaces: the lowest that holds an equal one, in an uncounted table one of the same action. A
@@ -210,20 +180,27 @@ pub fn replaced_slot(slots: &[Slot], new: &Rule, uncounted: bool) -> Option<usiz
     slots.iter().position(|entry| entry.is_some_and(|rule| rule.is_replaced_by(new, uncounted)))
 }
 
-/// Check 10 and the plan's words: of a rule sent again "the plan is one put-in at that slot"; any other goes where its chain starts, the
-/// new rule last.
-fn insert_writes(Passed { slots, new, replaced }: &Passed, uncounted: bool) -> Result<Vec<u32>, Refusal> {
-    if let Some(slot) = replaced {
-        return Ok(vec![write_word(PUT_IN, *slot)]);
+/// Checks 6 to 10 and the plan's words, for a sound table and a sound rule. "When an unknown id has a present rule's value, mask and
+/// priority, the plan is one put-in at that slot", and 8 to 10 aren't asked; in an uncounted table one of another action "gives 8".
+fn insert_writes(slots: &[Slot], new: &Rule, uncounted: bool) -> Result<Vec<u32>, Refusal> {
+    let slot_where = |test: &dyn Fn(&Rule) -> bool| slots.iter().position(|entry| entry.as_ref().is_some_and(test));
+    if let Some(slot) = slot_where(&|rule| rule.id == new.id) {
+        return refuse(KNOWN, slot);
+    }
+    if let Some(slot) = replaced_slot(slots, new, uncounted) {
+        return Ok(vec![write_word(PUT_IN, slot)]);
+    }
+    if let Some(slot) = slot_where(&|rule| rule.ties_with(new, uncounted)) {
+        return refuse(TIE, slot);
+    }
+    if slots.iter().all(|entry| entry.is_some()) {
+        return refuse(FULL, 0);
     }
     let (a, b) = neighbours(slots, new, uncounted);
     if a > b {
         return refuse(CROSSED, a as usize);
     }
-    let chain = chain_of(slots, uncounted, a + 1..=b, a..=b - 1);
-    let mut writes = copies_of_chain(&chain);
-    writes.push(write_word(PUT_IN, chain[0]));
-    Ok(writes)
+    Ok(writes_of_chain(&insert_chain(slots, uncounted, a, b)))
 }
 
 /// Checks 1 to 4, 5, 7 and 11: "a delete is one emptying write".

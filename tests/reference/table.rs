@@ -22,7 +22,6 @@ pub const SHORT: u32 = 11;
 pub const WRITE: u32 = 12;
 pub const LINE: u32 = 13;
 pub const IMAGE: u32 = 14;
-pub const UNCROSSED: u32 = 15;
 pub const EDITION: u32 = 18;
 
 /// Why a call declines: document 01's number, and the spot it names (0 where none is named).

@@ -118,10 +118,6 @@ fn asked_at(tree: &Tree, place: Place) -> Vec<(Place, Vec<String>)> {
 
 /// The parts of a clause that `×` joins, without the brackets around them, each by its words.
 pub fn clauses(clause: &[Token]) -> Vec<Vec<String>> {
-    let clause = match clause {
-        [first, inner @ .., last] if first.is_name("⌜") && last.is_name("⌝") => inner,
-        _ => clause,
-    };
     let parts = parted(clause, |token| token.is_name("×"));
     if parts.len() > 1 {
         return parts.into_iter().flat_map(clauses).collect();

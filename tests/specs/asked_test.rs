@@ -10,16 +10,16 @@ const LOW: &str = "\
 pub mod deep;
 
 pub fn within(at: usize, many: usize)
-    requires { ⌜ at < many ⌝ }
+    requires { at < many }
 {
     deep::within_both(at)
 }
 
 fn passed_on(at: usize)
-    requires { ⌜ (at < 4) × sound at ≡ true ⌝ }
+    requires { (at < 4) × sound at ≡ true }
 {
     within(at, 4);
-    let text = ⌜ called (at) ⌝;
+    let text = b\"called (at)\";
 }
 
 pub fn called(at: usize) {
@@ -29,7 +29,8 @@ pub fn called(at: usize) {
 
 const DEEP: &str = "\
 pub fn within_both(at: usize) -> bool
-    requires { ⌜ (at < 4) × ((now at ≡ (4)) × (at < 5)) ⌝ }
+    requires low { (at < 4) × ((at.now ≡ (4)) × (at < 5)) }
+    ensures low { result ≡ true }
 {
     Some(at).called(at)
 }
@@ -50,11 +51,11 @@ fn through_a_module(at: usize) {
     deeper::own(at)
 }
 
-#[no_mangle]
+#[unsafe(no_mangle)]
 pub extern \"C\" fn third(at: u32) { own(within_both(at)) }
 
 fn own(at: bool)
-    requires { ⌜ at < 2 ⌝ }
+    requires { at < 2 }
 {}
 ";
 
@@ -67,7 +68,7 @@ an index is low
 
 it is sound
     sound _ ≡ true
-    now at ≡ _
+    at.now ≡ _
 ";
 
 fn tree(test: &str, top: &str) -> Tree {
@@ -105,7 +106,7 @@ fn a_clause_of_no_form_and_a_form_of_no_clause() {
     let tree = tree("forms", TOP);
     let wrong = Asked::read("kinds", "nothing: top\nlow\n    at < _\nnever\n    at ≡ _\n").wrong(&tree);
     let expected = [
-        "low/src/deep.rt: within_both: no plain words for now at ≡ ( 4 )",
+        "low/src/deep.rt: within_both: no plain words for at .now ≡ ( 4 )",
         "low/src/lib.rt: passed_on: no plain words for sound at ≡ true",
         "kinds:5: no function asks this",
     ];
@@ -114,10 +115,10 @@ fn a_clause_of_no_form_and_a_form_of_no_clause() {
 
 #[test]
 fn public_functions_that_ask() {
-    let top = TOP.replace("(at: usize) { within", "(at: usize) requires { ⌜ at < 1 ⌝ } { within");
+    let top = TOP.replace("(at: usize) { within", "(at: usize) requires { at < 1 } { within");
     let wrong = Asked::read("kinds", KINDS).wrong(&tree("public", &top));
     assert_eq!(wrong, ["top/src/lib.rt: first is public, and has a requires"]);
-    let top = TOP.replace("(at: u32) {", "(at: u32) requires { ⌜ at < 1 ⌝ } {");
+    let top = TOP.replace("(at: u32) {", "(at: u32) requires low { at < 1 } {");
     let wrong = Asked::read("kinds", &KINDS.replace("nothing: top\n", "")).wrong(&tree("exported", &top));
     assert_eq!(wrong, ["top/src/lib.rt: third is public, and has a requires"]);
 }
@@ -137,10 +138,10 @@ fn a_call_of_what_is_not_found() {
 #[test]
 fn parts_of_a_clause() {
     let parts = |text: &str| clauses(&tokens("test", text, 1)).iter().map(|part| part.join(" ")).collect::<Vec<_>>();
-    assert_eq!(parts(" ⌜ a ≤ b ⌝ "), ["a ≤ b"]);
-    assert_eq!(parts("⌜ (a < b) × ((c ≡ (d × e)) × (r .few)) ⌝"), ["a < b", "c ≡ ( d × e )", "r .few"]);
-    assert_eq!(parts("⌜ ((k : ℕ) → f k) ⌝"), ["( k : ℕ ) → f k"]);
-    assert_eq!(parts("⌜ (a) < (b) ⌝"), ["( a ) < ( b )"]);
+    assert_eq!(parts(" a ≤ b "), ["a ≤ b"]);
+    assert_eq!(parts("(a < b) × ((c ≡ (d × e)) × (r.few))"), ["a < b", "c ≡ ( d × e )", "r .few"]);
+    assert_eq!(parts("((k : ℕ) → f k)"), ["( k : ℕ ) → f k"]);
+    assert_eq!(parts("(a) < (b)"), ["( a ) < ( b )"]);
 }
 
 #[test]
@@ -149,12 +150,13 @@ fn forms() {
         let words = |text: &str| clauses(&tokens("test", text, 1)).remove(0);
         fits(&words(form), &words(clause))
     };
-    assert!(fits("_ ≤ length (now _)", "at + 4 * n ≤ length (now out)"));
-    assert!(!fits("_ ≤ length (now _)", "at ≤ length (now out) / 6"));
+    assert!(fits("_ ≤ length _.now", "at + 4 * n ≤ length out.now"));
+    assert!(!fits("_ ≤ length _.now", "at ≤ length out.now / 6"));
+    assert!(!fits("_ ≤ length _.now", "at ≤ length a.now + f (b)"));
+    assert!(fits("_ ≤ length _.now / 6", "at ≤ length out.now / 6"));
     assert!(!fits("_ ≤ length (now _)", "at ≤ length (now a) + f (b)"));
-    assert!(fits("_ ≤ length (now _) / 6", "at ≤ length (now out) / 6"));
-    assert!(fits("f _", "f (x) {y} .z") && !fits("f _", "f"));
-    assert!(fits("choice .cost < _", "choice .cost < 3") && !fits("choice .cost < _", "choice cost < 3"));
+    assert!(fits("f _", "f (x) {y}.z") && !fits("f _", "f"));
+    assert!(fits("choice.cost < _", "choice.cost < 3") && !fits("choice.cost < _", "choice cost < 3"));
 }
 
 #[test]

@@ -29,7 +29,7 @@ fn none_in_a_specification() {
 
 #[test]
 fn of_code() {
-    assert_eq!(code("a // ⌜ b ⌝\nc"), "a         \nc");
+    assert_eq!(code("a // { b }\nc"), "a         \nc");
     assert_eq!(code("a /* b /* c */ d */ e"), "a                   e");
     for text in ["b\"// a\"", "b'\"' / b'\\''", "a / b", "&'a [u8]"] {
         assert_eq!(code(text), text);

@@ -1,6 +1,6 @@
 // The items of a specification: what each is called, its type, its clauses and what is local to them.
 
-use crate::tokens::{closing, places, Kind, Token};
+use crate::tokens::{closing, parted, places, Kind, Token};
 
 #[derive(Clone, Copy, PartialEq, Eq, Debug)]
 pub enum Form {
@@ -51,7 +51,7 @@ pub struct Clause {
 }
 
 const MARKS: [&str; 4] = ["unfoldable", "abbrev", "pub", "axiom"];
-/// What begins a line that declares no item and mentions none. (`open` and `ruleset` do, and are not read.)
+/// What begins a line that declares no item and mentions none.
 const HEADER: [&str; 5] = ["use", "mod", "infix", "infixl", "infixr"];
 
 /// The items of a file.
@@ -72,6 +72,8 @@ fn items_in(path: &str, tokens: &[Token], around: &Around) -> Vec<Item> {
             "record" => found.push(type_item(path, rest, around, Form::Record)),
             "data" => found.push(type_item(path, rest, around, Form::Data)),
             "unfolding" => add(path, &mut found, chunk, |item| item.unfolding.extend_from_slice(&rest[1..])),
+            "ruleset" => found.push(ruleset(path, rest, around)),
+            "open" => found.extend(opened(path, rest, around)),
             word if HEADER.contains(&word) => {}
             _ if colon(rest).is_some() => found.push(value_item(rest, around)),
             _ => add_clause(path, &mut found, chunk),
@@ -111,9 +113,9 @@ fn add_clause(path: &str, found: &mut [Item], chunk: &[Token]) {
     add(path, found, chunk, |item| item.clauses.push(clause(path, chunk, usize::from(named))));
 }
 
-/// Whether this stands before the `=` of a clause: `x + y` for `_+_`.
+/// Whether this stands before the `=` of a clause: `x + y` for `◌+◌`.
 fn is_infix(head: &[Token], name: &str) -> bool {
-    let part = |token: &Token| name.contains('_') && token.kind == Kind::Name && name.split('_').any(|part| part == token.text);
+    let part = |token: &Token| name.contains('◌') && token.kind == Kind::Name && name.split('◌').any(|part| part == token.text);
     head.iter().any(part) && places(head, |token| token.is_name(":")).is_empty()
 }
 
@@ -144,6 +146,25 @@ fn mutual(path: &str, tokens: &[Token], around: &Around) -> Vec<Item> {
         item.unfolding.extend(first.iter().skip(1).cloned());
     }
     found
+}
+
+/// `ruleset name = (law, ← other)`: a name for a list of others.
+fn ruleset(path: &str, tokens: &[Token], around: &Around) -> Item {
+    let Some(name) = tokens.get(1).filter(|_| tokens.get(2).is_some_and(|token| token.is_name("="))) else {
+        unread(path, &tokens[0])
+    };
+    let mut item = new_item(tokens, Form::Value, &name.text, around, &[]);
+    item.clauses.push(Clause { patterns: Vec::new(), body: tokens[3..].to_vec(), locals: Vec::new() });
+    item
+}
+
+/// `open r use {f, g as h}`: the fields of a value by names of their own, each of which has what `r` mentions.
+fn opened(path: &str, tokens: &[Token], around: &Around) -> Vec<Item> {
+    let brought = |at: &usize| tokens.get(at + 1).is_some_and(|token| token.is_mark("{"));
+    let Some(at) = places(tokens, |token| token.is_name("use")).into_iter().find(brought) else { unread(path, &tokens[0]) };
+    let fields = parted(&tokens[at + 2..closing(tokens, at + 1)], |token| token.is_mark(","));
+    let names = fields.iter().filter_map(|field| field.last());
+    names.map(|name| new_item(tokens, Form::Value, &name.text, around, &tokens[1..at])).collect()
 }
 
 fn value_item(tokens: &[Token], around: &Around) -> Item {

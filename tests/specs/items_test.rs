@@ -94,8 +94,8 @@ fn a_name_in_a_comment_is_no_item() {
 
 #[test]
 fn clauses_of_operators() {
-    let found = read("_+_ : ℕ → ℕ → ℕ\nzero + n = n\n_+_ (suc m) n = suc (m + n)\n\nelims : t\nelims = elim n [\n  a ↦ b\n]\n");
-    assert_eq!(names(&found), ["_+_", "elims"]);
+    let found = read("◌+◌ : ℕ → ℕ → ℕ\nzero + n = n\n◌+◌ (suc m) n = suc (m + n)\n\nelims : t\nelims = elim n [\n  a ↦ b\n]\n");
+    assert_eq!(names(&found), ["◌+◌", "elims"]);
     assert_eq!(texts(&found[0].clauses[0].patterns), ["zero", "+", "n"]);
     assert_eq!(texts(&found[0].clauses[1].patterns), ["(", "suc", "m", ")", "n"]);
 }
@@ -109,7 +109,7 @@ fn an_unknown_mark() {
 #[test]
 #[should_panic(expected = "Test.antt:3: opaque begins neither")]
 fn an_unknown_mark_behind_an_operator() {
-    read("_+_ : t\n_+_ = x\nopaque g : (n : ℕ) → n + 0 ≡ n\ng n = refl\n");
+    read("◌+◌ : t\n◌+◌ = x\nopaque g : (n : ℕ) → n + 0 ≡ n\ng n = refl\n");
 }
 
 #[test]
@@ -131,9 +131,41 @@ fn an_unknown_mark_among_locals() {
 }
 
 #[test]
-#[should_panic(expected = "Test.antt:2: open begins neither")]
+fn clauses_of_a_name_that_an_operator_is_in() {
+    assert_eq!(names(&read("a_b : ℕ → ℕ\na_b zero = zero\na_b (suc n) = n\n\nb : t\nb = a_b\n")), ["a_b", "b"]);
+}
+
+#[test]
+#[should_panic(expected = "Test.antt:3: a begins neither")]
+fn a_part_of_a_name_is_no_operator() {
+    read("a_b : t\na_b = x\na = y\n");
+}
+
+#[test]
 fn names_opened() {
+    let found = read("f : t\nopen R f use {x, y as z}\n");
+    assert_eq!(names(&found), ["f", "x", "z"]);
+    assert_eq!(texts(&found[2].signature), ["R", "f"]);
+}
+
+#[test]
+#[should_panic(expected = "Test.antt:2: open begins neither")]
+fn names_opened_in_another_way() {
     read("f : t\nopen R f using (x)\n");
+}
+
+#[test]
+fn rule_sets() {
+    let found = read("f : t\nf = x\n\npub ruleset laws = (f, ← g, others)\n");
+    assert_eq!(names(&found), ["f", "laws"]);
+    assert_eq!(texts(&found[1].clauses[0].body), ["(", "f", ",", "←", "g", ",", "others", ")"]);
+    assert!(found[1].public);
+}
+
+#[test]
+#[should_panic(expected = "Test.antt:1: ruleset begins neither")]
+fn a_rule_set_of_another_form() {
+    read("ruleset laws where f g\n");
 }
 
 #[test]

@@ -30,9 +30,10 @@ pub fn of_item(item: &Item, constructor: &dyn Fn(&str) -> bool) -> Mentioned {
     Mentioned { statement: whole[..statement].to_vec(), whole }
 }
 
-/// The names that a contract's text mentions, the names of the function's arguments being bound.
+/// The names that a contract's text mentions, the names of the function's arguments and of its result being bound.
 pub fn of_text(tokens: &[Token], arguments: &[String]) -> Vec<Mention> {
-    let mut walker = Walker { bound: arguments.to_vec(), found: Vec::new(), constructor: &|_| false };
+    let bound = arguments.iter().cloned().chain(["result".to_string()]).collect();
+    let mut walker = Walker { bound, found: Vec::new(), constructor: &|_| false };
     walker.term(tokens);
     walker.found
 }
@@ -103,6 +104,8 @@ impl Walker<'_> {
     fn open_term(&mut self, tokens: &[Token]) {
         // for each `let` that awaits its `in`: how many names were bound before it, and the names that it binds
         let mut lets: Vec<(usize, Vec<String>)> = Vec::new();
+        // for each `elim` in whose cases this is: how many names were bound before them
+        let mut elims: Vec<usize> = Vec::new();
         let mut at = 0;
         while at < tokens.len() {
             let token = &tokens[at];
@@ -125,11 +128,30 @@ impl Walker<'_> {
                     self.bound.truncate(before);
                     self.bound.extend(names);
                 }
+            } else if token.is_name("[") {
+                elims.push(self.bound.len());
+                at = self.case(tokens, at);
+            } else if token.is_name("|") && !elims.is_empty() {
+                self.bound.truncate(elims[elims.len() - 1]);
+                at = self.case(tokens, at);
+            } else if token.is_name("]") {
+                self.bound.truncate(elims.pop().unwrap_or(self.bound.len()));
             } else if token.kind == Kind::Name {
                 self.mention(tokens, at);
             }
             at += 1;
         }
+    }
+
+    /// Binds the pattern of a case of an `elim`, behind its `[` or `|`, and returns the place of its `↦`. Where no pattern stands there
+    /// it returns that of the `[`: before the `|` of a first case, or where there is no case.
+    fn case(&mut self, tokens: &[Token], before: usize) -> usize {
+        let end = (before + 1..tokens.len()).find(|&at| ["↦", "]", "|"].iter().any(|end| tokens[at].is_name(end)));
+        let Some(end) = end.filter(|&end| tokens[end].is_name("↦")) else { return before };
+        // as in round brackets: a name with others behind it is a constructor
+        let bracket = |text: &str| Token { kind: Kind::Mark, text: text.to_string(), ..tokens[before].clone() };
+        self.pattern(&[&[bracket("(")], &tokens[before + 1..end], &[bracket(")")]].concat());
+        end
     }
 
     /// What stands in brackets: binders with their type, the fields of a record, an implicit argument by name, or terms.

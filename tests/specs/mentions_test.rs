@@ -34,8 +34,21 @@ fn terms() {
     assert_eq!(mentioned("f : t\nf = (λ a (b : p). g a b, a)"), ["a", "g", "p", "t"]);
     assert_eq!(mentioned("f : t\nf = let a : (b : p) → q = b in g a b"), ["b", "g", "p", "q", "t"]);
     assert_eq!(mentioned("f : t\nf = let a = λ b. b in a b"), ["b", "t"]);
-    assert_eq!(mentioned("f : t\nf = record { a = b; c = λ d. d .e }"), ["b", "t"]);
-    assert_eq!(mentioned("f : t\nf = g {a = b} .c -- d"), ["b", "g", "t"]);
+    assert_eq!(mentioned("f : t\nf = record { a = b; c = λ d. d.e }"), ["b", "t"]);
+    assert_eq!(mentioned("f : t\nf = (g {a = b}).c -- d"), ["b", "g", "t"]);
+    assert_eq!(mentioned("f : t\nf = g.c (h a).b"), ["a", "g.c", "h", "t"]);
+}
+
+#[test]
+fn cases() {
+    assert_eq!(
+        mentioned("f : t\nf = elim g as (λ a. p a) [ Some b ↦ h b | c ↦ c b ] c"),
+        ["Some", "as", "b", "c", "elim", "g", "h", "p", "t"]
+    );
+    let text = "f : t\nf = elim g [ Some b ↦ elim b [ (a, Some c) ↦ c b | a → d ↦ a d ] | e ∷ c ↦ e c b ] d";
+    assert_eq!(mentioned(text), ["Some", "b", "d", "elim", "g", "t"]);
+    assert_eq!(mentioned("f : t\nf = (elim g [ ], λ a. elim a [ other b ↦ b ], a)"), ["a", "elim", "g", "other", "t"]);
+    assert_eq!(mentioned("f : t\nf = elim g [\n  | other b ↦ b\n  | c ↦ c\n  ]"), ["elim", "g", "other", "t"]);
 }
 
 #[test]

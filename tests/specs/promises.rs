@@ -8,10 +8,10 @@ pub const PROMISES: &str = "docs/PROMISES.md";
 #[derive(Debug)]
 pub struct Quoted {
     pub text: String,
-    /// The first name: `word l` names `word`, `Demand2 .kept` names `Demand2`, and `Order.Laws` names `Laws`. A path of the code
-    /// (`records::Rule`) or of a file names nothing.
+    /// The first name: `word l` names `word`, `Demand2.kept` names `Demand2`, and `Order.Laws`, an item of a module, names `Laws`. A
+    /// path of the code (`records::Rule`) or of a file names nothing.
     pub name: Option<String>,
-    /// The field behind it: `kept` in `Demand2 .kept`, and in `.kept` alone.
+    /// The field behind it, which begins with a small letter: `kept` in `Demand2.kept`, and in `.kept` alone.
     pub field: Option<String>,
     /// Where it stands, by the text: the module before its dot, or what is given for its group.
     pub places: Vec<Place>,
@@ -123,10 +123,11 @@ fn quoted(text: &str, line: usize, block: &Block, crates: &[String]) -> Quoted {
     let run = |from: &str| from.chars().take_while(|&character| in_name(character)).collect::<String>();
     let head = run(text);
     let rest = &text[head.len()..];
-    let step = rest.strip_prefix('.').map(run).filter(|step| !head.is_empty() && !step.is_empty());
-    let field = rest.trim_start().strip_prefix('.').map(run).filter(|field| step.is_none() && !field.is_empty());
     let path = text.contains("::") || text.contains('/') || text.ends_with(".antt");
-    let places = step.iter().filter(|_| !path).flat_map(|_| resolved(std::slice::from_ref(&head), block, crates)).collect();
+    let behind = rest.trim_start().strip_prefix('.').map(run).filter(|behind| !path && !behind.is_empty());
+    let is_step = !head.is_empty() && rest.starts_with('.') && behind.iter().any(|behind| behind.starts_with(char::is_uppercase));
+    let (step, field) = if is_step { (behind, None) } else { (None, behind) };
+    let places = step.iter().flat_map(|_| resolved(std::slice::from_ref(&head), block, crates)).collect();
     let name = Some(step.unwrap_or(head)).filter(|name| !name.is_empty() && !path);
     Quoted { text: text.to_string(), name, field, places, line }
 }

@@ -62,11 +62,11 @@ as `top`.
 
 #[test]
 fn fields_and_paths() {
-    let found = groups("- `Demand2 .kept`, `.made`, `low::Kind`, `docs/x`, `X.antt`\n- `a`", &[]);
+    let found = groups("- `Demand2.kept`, `.made`, `Order.Laws`, `low::Kind`, `docs/x`, `X.antt`, `x.antt`\n- `a`", &[]);
     let fields: Vec<Option<&str>> = found[0].quoted.iter().map(|quoted| quoted.field.as_deref()).collect();
-    assert_eq!(fields, [Some("kept"), Some("made"), None, None, None]);
+    assert_eq!(fields, [Some("kept"), Some("made"), None, None, None, None, None]);
     let names: Vec<Option<&str>> = found[0].quoted.iter().map(|quoted| quoted.name.as_deref()).collect();
-    assert_eq!(names, [Some("Demand2"), None, None, None, None]);
+    assert_eq!(names, [Some("Demand2"), None, Some("Laws"), None, None, None, None]);
     assert_eq!((found.len(), found[1].quoted[0].line), (2, 2));
 }
 

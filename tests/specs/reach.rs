@@ -29,6 +29,7 @@ pub fn ends(tree: &Tree) -> BTreeSet<usize> {
 pub fn contracts(tree: &Tree, ghost: bool) -> BTreeSet<usize> {
     let mut found = BTreeSet::new();
     for source in &tree.sources {
+        found.extend(source.hints.iter().filter(|_| ghost).filter_map(|hint| tree.at(hint)));
         for function in &source.functions {
             for text in function.contracts().chain(function.ghost.iter().filter(|_| ghost)) {
                 let mentions = of_text(text, &function.arguments);
@@ -46,12 +47,19 @@ pub fn promises(tree: &Tree) -> BTreeSet<usize> {
 }
 
 /// The items of a name: those at the places given, or all that are public, or all. A crate's name means the crate, and a name
-/// that the code has at a place given means the code, unless an item of that name stands at such a place.
+/// that the code has at a place given means the code, as in a crate that is given alone, unless an item of that name stands in a
+/// file of specifications that is given.
 pub fn named_items(tree: &Tree, quoted: &Quoted) -> Vec<usize> {
     let Some(name) = &quoted.name else { return Vec::new() };
     let all: Vec<usize> = (0..tree.entries.len()).filter(|&entry| tree.entries[entry].item.name == *name).collect();
-    let there: Vec<usize> = all.iter().copied().filter(|&entry| stands_at(tree, entry, &quoted.places)).collect();
-    if !there.is_empty() || tree.crates.contains(name) || code_stands_at(tree, name, &quoted.places) {
+    let at = |places: &[Place]| all.iter().copied().filter(|&entry| stands_at(tree, entry, places)).collect::<Vec<usize>>();
+    let files: Vec<Place> = quoted.places.iter().filter(|place| place.module.is_some()).cloned().collect();
+    let in_files = at(&files);
+    if !in_files.is_empty() || tree.crates.contains(name) || code_stands_at(tree, name, &quoted.places) {
+        return in_files;
+    }
+    let there = at(&quoted.places);
+    if !there.is_empty() {
         return there;
     }
     let public: Vec<usize> = all.iter().copied().filter(|&entry| tree.entries[entry].item.public).collect();

@@ -44,6 +44,8 @@ pub struct Source {
     /// For the names that its other `use` lines bring in, the crate.
     pub uses: HashMap<String, String>,
     pub functions: Vec<Function>,
+    /// What its attributes for the checker name of specifications, as `using(crate::specs::Laws::first)`: crate, module and name.
+    pub hints: Vec<Vec<String>>,
     /// Functions and the names of their clauses, types with their fields and variants, constants and modules.
     pub declared: BTreeSet<String>,
 }
@@ -57,6 +59,7 @@ pub fn source(path: &str, crate_name: &str, text: &str) -> Source {
         imports: imports(&text, "ghost "),
         uses: HashMap::new(),
         functions: Vec::new(),
+        hints: Vec::new(),
         declared: BTreeSet::new(),
     };
     let characters: Vec<char> = text.chars().collect();
@@ -80,6 +83,7 @@ impl Reader<'_> {
                 "fn" if named => self.function(at),
                 "use" if at == 0 || self.text(at - 1) != "ghost" => self.code_use(at),
                 "struct" | "enum" if named => self.type_names(at),
+                "tactic" if self.text(at + 1) == "(" => self.tactic(at + 1),
                 "const" | "type" | "mod" if named => {
                     self.source.declared.insert(self.text(at + 1).to_string());
                     at + 1
@@ -135,6 +139,7 @@ impl Reader<'_> {
         let mut at = from;
         loop {
             match self.text(at) {
+                "ghost" => panic!("{}:{}: a ghost value in a contract", self.path, self.words[at].line),
                 clause @ ("requires" | "ensures") => {
                     let kind = if clause == "requires" { &mut found.requires } else { &mut found.ensures };
                     let open = self.find(at, "{");
@@ -166,16 +171,15 @@ impl Reader<'_> {
         let end = next.map_or(self.characters.len(), |at| self.words[at].start);
         let text: String = self.characters[first.start..end].iter().collect();
         let lines = text.lines().enumerate().map(|(number, line)| (first.line + number, line.trim_start()));
-        let ghost = lines.filter(|(_, line)| line.contains('⌜') || line.starts_with("ghost ") && !line.starts_with("ghost use "));
+        let ghost = lines.filter(|(_, line)| line.starts_with("ghost ") && !line.starts_with("ghost use "));
         ghost.map(|(number, line)| tokens(self.path, line, number)).collect()
     }
 
-    /// The calls in the body that begins here, if it is one. What stands between `⌜` and `⌝` calls nothing.
+    /// The calls in the body that begins here, if it is one.
     fn calls(&self, body: usize) -> Vec<Call> {
         let mut found = Vec::new();
         let end = if self.text(body) == "{" { self.closing(body) } else { body };
-        let mut at = body;
-        while at < end {
+        for at in body..end {
             if self.words[at].is_name() && self.text(at + 1) == "(" && self.text(at - 1) != "." {
                 let mut first = at;
                 while self.text(first - 1) == ":" && self.text(first - 2) == ":" {
@@ -184,9 +188,29 @@ impl Reader<'_> {
                 let path = (first < at).then(|| self.text(first).to_string());
                 found.push(Call { path, name: self.text(at).to_string() });
             }
-            at = if self.text(at) == "⌜" { self.find(at, "⌝") } else { at + 1 };
         }
         found
+    }
+
+    /// The paths in an attribute such as `#[tactic(auto, using(crate::specs::Laws::first))]`. Returns the place of its end.
+    fn tactic(&mut self, open: usize) -> usize {
+        let close = self.closing(open);
+        let begins = |at: &usize| self.words[*at].is_name() && self.text(at - 1) != ":";
+        let paths = (open + 1..close).filter(begins).map(|first| {
+            let mut steps = vec![self.text(first).to_string()];
+            let mut at = first + 1;
+            while self.text(at) == ":" && self.text(at + 1) == ":" {
+                steps.push(self.text(at + 2).to_string());
+                at += 3;
+            }
+            if steps[0] == "crate" {
+                steps[0] = self.source.crate_name.clone();
+            }
+            steps
+        });
+        let hints: Vec<_> = paths.filter(|steps| steps.len() > 3 && steps[1] == "specs").collect();
+        self.source.hints.extend(hints.into_iter().map(|steps| [&steps[..1], &steps[2..]].concat()));
+        close
     }
 
     /// The names of a line such as `use slots::slot_word;`, each of the crate that stands first. Returns the place of its end.

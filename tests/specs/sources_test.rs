@@ -5,13 +5,14 @@ use crate::sources::{source, Function, Source};
 use crate::tokens::Token;
 
 const SOURCE: &str = "\
-// A comment: ⌜ commented ⌝, fn none() ensures { ⌜ none ⌝ }
-ghost use Rattle·low·specs.specs.Base.{first, second};
+// A comment: fn none() ensures { none }
+#![tactic(auto, using(crate::specs::Laws::sixth, std::proofs::lemmas::Grind::common_steps))]
+ghost use Rattle.low.specs.Base.{first, second};
 pub mod other;
 
 pub const MOST: u32 = 4;
 
-/* pub fn nothing() requires { ⌜ commented ⌝ } {} */
+/* pub fn nothing() requires { commented } {} */
 pub struct Pair {
     pub left: [u64; 2],
     right: other::Kind,
@@ -25,14 +26,15 @@ pub enum Kind {
 
 pub struct Both(pub u32, u32);
 
-pub fn one(x: u32) -> u32 ensures { λ r. ⌜ r ≡ first x ⌝ } { x }
+#[tactic(auto, unfolding(high::specs::Base::seventh))]
+pub fn one(x: u32) -> u32 ensures { result ≡ first x } { x }
 
-#[no_mangle] pub extern \"C\" fn two<'a>(key: &'a [u8], mut at: other::Kind) -> [u64; 2]
-    requires { ⌜ second at ⌝ } ensures kept { λ r.
-        ⌜ third (now (key .entry)) {x = fourth} ⌝ } // ⌜ commented ⌝
+#[unsafe(no_mangle)] pub extern \"C\" fn two<'a>(key: &'a [u8], mut at: other::Kind) -> [u64; 2]
+    requires { second at.now } ensures kept { let
+        r = result in third r (key.now) {x = fourth} } // commented
 {
-    // ⌜ commented ⌝
-    let text = b\"fn three() requires { ⌜ quoted ⌝ }\";
+    // ghost commented
+    let text = b\"fn three() requires { quoted }\";
     ghost fifth;
     [0; 2]
 }
@@ -59,8 +61,8 @@ fn contracts() {
     assert_eq!(functions.iter().map(|function| function.exported).collect::<Vec<_>>(), [false, true, false]);
     assert_eq!(mentioned(&functions[0], &functions[0].ensures), ["first"]);
     assert_eq!(mentioned(&functions[1], &functions[1].requires), ["second"]);
-    assert_eq!(mentioned(&functions[1], &functions[1].ensures), ["third", "now", "fourth"]);
-    assert_eq!(functions[1].contracts().map(|text| text[0].line).collect::<Vec<_>>(), [24, 24]);
+    assert_eq!(mentioned(&functions[1], &functions[1].ensures), ["third", "fourth"]);
+    assert_eq!(functions[1].contracts().map(|text| text[0].line).collect::<Vec<_>>(), [26, 26]);
     assert!(functions[0].requires.is_empty() && functions[2].contracts().next().is_none());
 }
 
@@ -71,6 +73,11 @@ fn other_lines_for_the_checker() {
     assert!(found.contains(&"fifth".to_string()));
     assert!(!found.iter().any(|name| name == "commented" || name == "quoted"));
     assert!(functions[0].ghost.is_empty() && functions[2].ghost.is_empty());
+}
+
+#[test]
+fn what_attributes_name() {
+    assert_eq!(read().hints, [["low", "Laws", "sixth"], ["high", "Base", "seventh"]]);
 }
 
 #[test]
@@ -85,12 +92,12 @@ fn names_declared() {
 
 #[test]
 fn calls_and_what_use_lines_bring() {
-    let text = "use low::one;\nuse crate::file::two;\nghost use high.{three};\n\
-                fn four() { one(low::deep::two(3)); if x.len() < ⌜ one (2) ⌝ { crate::four() } }\n";
+    let text = "use low::{one, deep::five};\nuse crate::file::two;\nghost use high.{three};\n\
+                fn four() { one(low::deep::two(3)); if x.len() < b\"one (2)\"[0] { crate::four() } }\n";
     let found = source("test.rt", "own", text);
     let calls = found.functions[0].calls.iter().map(|call| (call.path.as_deref(), call.name.as_str()));
     assert_eq!(calls.collect::<Vec<_>>(), [(None, "one"), (Some("low"), "two"), (Some("crate"), "four")]);
-    assert_eq!((found.uses["one"].as_str(), found.uses["two"].as_str()), ("low", "own"));
+    assert_eq!((found.uses["one"].as_str(), found.uses["five"].as_str(), found.uses["two"].as_str()), ("low", "low", "own"));
     assert!(!found.uses.contains_key("three"));
 }
 
@@ -103,17 +110,23 @@ fn a_name_brought_in_as_another() {
 #[test]
 #[should_panic(expected = "test.rt: a requires that stands at no function")]
 fn a_requires_behind_a_clause_of_another_kind() {
-    source("test.rt", "own", "fn one() other { x } requires { ⌜ first ⌝ } {}\n");
+    source("test.rt", "own", "fn one() other { x } requires { first } {}\n");
 }
 
 #[test]
 #[should_panic(expected = "test.rt:2: a bracket that nothing closes")]
 fn a_clause_without_an_end() {
-    source("test.rt", "low", "fn one()\n    ensures { ⌜ first ⌝\n");
+    source("test.rt", "low", "fn one()\n    ensures { first\n");
 }
 
 #[test]
 #[should_panic(expected = "test.rt:2: a comment in a contract")]
 fn a_comment_in_a_clause() {
-    source("test.rt", "low", "fn one()\n    ensures { ⌜ first -- }\n      second ⌝ }\n{}\n");
+    source("test.rt", "low", "fn one()\n    ensures { first -- }\n      second }\n{}\n");
+}
+
+#[test]
+#[should_panic(expected = "test.rt:2: a ghost value in a contract")]
+fn a_ghost_value() {
+    source("test.rt", "low", "fn one()\n    ghost top: { first } ensures { first top }\n{}\n");
 }

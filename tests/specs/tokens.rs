@@ -6,9 +6,9 @@ use crate::comments::{quoted_end, without_comments};
 pub enum Kind {
     /// A name, a numeral or a word of the language.
     Name,
-    /// `x` in `r .x`: a field of what stands before it.
+    /// `x` in `(f r).x`: a field of what stands before it.
     Field,
-    /// `x` in `M.x`: one step further down a path.
+    /// `x` in `M.x` or `r.x`: one step further down a path, or a field of the one name before it.
     Step,
     /// A bracket, a comma, a semicolon, or the dot after the binders of a λ.
     Mark,

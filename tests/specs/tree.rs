@@ -198,7 +198,7 @@ impl Tree {
     }
 
     /// The item at a path of crate, module and name.
-    fn at(&self, steps: &[String]) -> Option<usize> {
+    pub fn at(&self, steps: &[String]) -> Option<usize> {
         let module = &self.modules[*self.places.get(&(steps.first()?.clone(), steps.get(1)?.clone()))?];
         let name = steps.get(2)?;
         let passed_on = || module.imports.iter().find(|import| import.public && import.local == *name);
@@ -208,7 +208,7 @@ impl Tree {
     fn is_constructor(&self, imports: &[Import], own: Option<usize>, name: &str) -> bool {
         let path = [name.to_string()];
         let found = self.resolve(imports, own, &path);
-        let variant = found.import.is_some_and(|import| imports[import].written.contains(".the-variants."));
+        let variant = found.import.is_some_and(|import| imports[import].written.contains(".TheVariants."));
         let built = found.entry.is_some_and(|entry| {
             let item = &self.entries[entry].item;
             item.form == Form::Data && item.members.iter().any(|member| names(&member.name, name))
@@ -222,9 +222,9 @@ impl Tree {
     }
 }
 
-/// Whether a word mentions the name: a part of an operator, as in `x ≡ y` for `_≡_`, does.
+/// Whether a word mentions the name: a part of an operator, as in `x ≡ y` for `◌≡◌`, does.
 pub fn names(name: &str, word: &str) -> bool {
-    name == word || name.contains('_') && name.split('_').any(|part| !part.is_empty() && part == word.trim_matches('_'))
+    name == word || name.contains('◌') && name.split('◌').any(|part| !part.is_empty() && part == word.trim_matches('◌'))
 }
 
 fn names_of(all: &[Entry], entries: &[usize]) -> HashMap<String, usize> {
@@ -238,7 +238,7 @@ fn names_of(all: &[Entry], entries: &[usize]) -> HashMap<String, usize> {
     // an item comes before a constructor of its name
     for &entry in entries {
         let name = &all[entry].item.name;
-        found.extend(name.split('_').filter(|part| !part.is_empty()).map(|part| (part.to_string(), entry)));
+        found.extend(name.split('◌').filter(|part| !part.is_empty()).map(|part| (part.to_string(), entry)));
         found.insert(name.clone(), entry);
     }
     found

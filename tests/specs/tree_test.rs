@@ -1,7 +1,7 @@
 // A small tree of two crates: what its items are, what is reached, and which imports are idle; and trees that cannot be read.
 
 use crate::kinds::Kinds;
-use crate::reach::{closure, ends, promises};
+use crate::reach::{closure, contracts, ends, promises};
 use crate::tree::Tree;
 use std::fs::{create_dir_all, remove_dir_all, remove_file, write};
 use std::panic::{catch_unwind, resume_unwind};
@@ -9,9 +9,8 @@ use std::path::Path;
 
 const BASE: &str = "\
 -- Numbers.
-use mathlib.Core.Path.{_≡_, refl}
-use mathlib.Core.List.{List, []}
-use Prim.Native.Nat.{ℕ, suc, _<_}
+use Rattle.std.specs.Prelude.{◌≡◌, refl, List, []}
+use Prim.Native.Nat.{ℕ, suc, ◌<◌}
 
 pub record Couple : Type 0 where
   pub left : ℕ
@@ -39,8 +38,8 @@ below n = record { less = less n }
     less : (n : ℕ) → n < suc n
     less n = twice
 
-pub some-below : (n : ℕ) × (n < 1)
-some-below = (0, below 0 .less)
+pub some_below : (n : ℕ) × (n < 1)
+some_below = (0, (below 0).less)
 
 module _ (couple : ℕ) where
   pub moved : Step → ℕ
@@ -50,9 +49,9 @@ module _ (couple : ℕ) where
 
 const TOP: &str = "\
 -- Uses of numbers.
-use Rattle·low.specs.Base.{Step, up as upward, below}
-use Rattle·low.specs.Base as base
-use Rattle·low.specs.declared.Kind.the-variants.{Plain}
+use Rattle.low.specs.Base.{Step, up as upward, below}
+use Rattle.low.specs.Base as base
+use Rattle.low.specs.declared.Kind.TheVariants.{Plain}
 
 alone : Step
 alone = upward 1
@@ -65,18 +64,19 @@ promised = alone
 ";
 
 const SOURCE: &str = "\
-ghost use Rattle·low·specs.specs.Base.{moved, twice};
+ghost use Rattle.low.specs.Base.{moved, twice};
 
 pub fn step(
     twice: u32,
 ) -> u32
-    ensures named { λ r. ⌜ r ≡ moved twice ⌝ }
+    ensures named { result ≡ moved twice }
 {
     twice
 }
 ";
 
-const PROOF: &str = "use Rattle·low·specs.specs.Base.{below, some-below}\n\ngoal : t\ngoal = some-below\n";
+const PROOF: &str =
+    "use Rattle.low.specs.Base.{below, some_below}\n\npub returns : goal.returns\nreturns c = some_below c.args\n";
 const PROMISED: &str = "The `low` crate; `promised` and `twice x` (high/Top), `some::below`.\n";
 
 const FILES: [(&str, &str); 6] = [
@@ -84,7 +84,7 @@ const FILES: [(&str, &str); 6] = [
     ("docs/PROMISES.md", PROMISED),
     ("crates/low/specs/Base.antt", BASE),
     ("crates/low/src/lib.rt", SOURCE),
-    ("crates/low/proofs/step/Proof.antt", PROOF),
+    ("crates/low/proofs/step/Answers.antt", PROOF),
     ("crates/high/specs/Top.antt", TOP),
 ];
 
@@ -114,7 +114,7 @@ fn definitions_and_laws() {
     let tree = tree("kinds");
     let kinds = Kinds::new(&tree);
     let laws = (0..tree.entries.len()).filter(|&entry| !kinds.is_definition(entry));
-    assert_eq!(names(&tree, laws), ["below", "some-below"]);
+    assert_eq!(names(&tree, laws), ["below", "some_below"]);
     assert!(kinds.unknown.take().is_empty());
 }
 
@@ -122,7 +122,7 @@ fn definitions_and_laws() {
 fn what_is_reached() {
     let tree = tree("reach");
     assert_eq!(names(&tree, promises(&tree)), ["twice", "promised"]);
-    assert_eq!(names(&tree, ends(&tree)), ["twice", "some-below", "moved", "promised"]);
+    assert_eq!(names(&tree, ends(&tree)), ["twice", "some_below", "moved", "promised"]);
     let reached = closure(&ends(&tree), |entry| &tree.entries[entry].whole);
     let unreached = (0..tree.entries.len()).filter(|entry| !reached.contains(entry));
     assert_eq!(names(&tree, unreached), ["couple", "plain"]);
@@ -137,10 +137,10 @@ fn idle_imports() {
         idle.extend(unused.map(|(import, _)| format!("{}:{}: {}", user.path, import.line, import.local)));
     }
     let expected = [
-        "low/specs/Base.antt:2: _≡_",
+        "low/specs/Base.antt:2: ◌≡◌",
         "low/specs/Base.antt:2: refl",
         "high/specs/Top.antt:2: below",
-        "low/proofs/step/Proof.antt:1: below",
+        "low/proofs/step/Answers.antt:1: below",
         "low/src/lib.rt:1: twice",
     ];
     assert_eq!(idle, expected);
@@ -168,6 +168,21 @@ fn a_place_settles_a_name() {
     assert_eq!(promised("item", "`step`\n"), ["high/Top step"]);
     assert!(promised("code", "`step` (low)\n").is_empty());
     assert!(promised("file", "`step` (low::lib)\n").is_empty());
+    assert_eq!(promised("crate", "`twice` (high)\n"), ["high/Top twice"]);
+}
+
+#[test]
+fn a_crate_alone_means_its_code() {
+    let of = |test: &str, page: &str| {
+        let tree = changed(test, |root| {
+            write(root.join("crates/low/src/lib.rt"), SOURCE.replace("fn step", "fn twice")).unwrap();
+            write(root.join("docs/PROMISES.md"), page).unwrap();
+        });
+        promises(&tree).len()
+    };
+    assert_eq!(of("own_code", "`twice` (low)\n"), 0);
+    assert_eq!(of("own_file", "`twice` (low/Base)\n"), 1);
+    assert_eq!(of("own_both", "`twice` (low, low/Base)\n"), 1);
 }
 
 #[test]
@@ -183,13 +198,21 @@ fn worked_examples_are_told_by_their_first_line() {
 
 #[test]
 fn a_contract_beside_its_function_and_a_comment() {
-    let source = "ghost use Rattle·low·specs.specs.Base.{moved, twice, couple};\n// ⌜ couple ⌝\n\
-                  pub fn step(x: u32) -> u32 ensures { λ r. ⌜ moved r ⌝ } { x } // ⌜ twice ⌝\n";
+    let source = "ghost use Rattle.low.specs.Base.{moved, twice, couple};\n// ensures { couple }\n\
+                  pub fn step(x: u32) -> u32 ensures { moved result } { x } // twice\n";
     let tree = changed("contract", |root| {
         write(root.join("crates/low/src/lib.rt"), source).unwrap();
         write(root.join("docs/PROMISES.md"), "").unwrap();
     });
-    assert_eq!(names(&tree, ends(&tree)), ["some-below", "moved"]);
+    assert_eq!(names(&tree, ends(&tree)), ["some_below", "moved"]);
+}
+
+#[test]
+fn what_attributes_name_is_reached_and_not_believed() {
+    let hint = "#[tactic(auto, using(crate::specs::Base::couple))]\npub fn step";
+    let tree = changed("hint", |root| write(root.join("crates/low/src/lib.rt"), SOURCE.replace("pub fn step", hint)).unwrap());
+    assert!(names(&tree, ends(&tree)).contains(&"couple"));
+    assert_eq!(names(&tree, contracts(&tree, false)), ["moved"]);
 }
 
 #[test]
@@ -229,10 +252,10 @@ fn a_source_that_is_no_text() {
 }
 
 #[test]
-#[should_panic(expected = "low/proofs/step/Proof.antt: No such file")]
+#[should_panic(expected = "low/proofs/step/Answers.antt: No such file")]
 fn a_proof_that_is_elsewhere() {
     changed("no_proof", |root| {
-        let path = root.join("crates/low/proofs/step/Proof.antt");
+        let path = root.join("crates/low/proofs/step/Answers.antt");
         remove_file(&path).unwrap();
         std::os::unix::fs::symlink("nowhere", path).unwrap();
     });

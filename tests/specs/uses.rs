@@ -59,12 +59,10 @@ fn brought(text: &str, public: bool, line: usize) -> Vec<Import> {
     }
 }
 
-/// `Rattle·records·specs.specs.Checks.Told`, or without `·specs` from another crate: crate, module and name.
+/// `Rattle.records.specs.Checks.Told`, in its own crate and in others: crate, module and name.
 pub fn own_path(steps: &[&str]) -> Option<Vec<String>> {
-    let library = steps.first()?.strip_prefix("Rattle·")?;
-    let name = library.strip_suffix("·specs").unwrap_or(library);
-    if name.contains('·') || *steps.get(1)? != "specs" {
-        return None;
+    match steps {
+        ["Rattle", name, "specs", rest @ ..] => Some([name].iter().copied().chain(rest).map(|step| step.to_string()).collect()),
+        _ => None,
     }
-    Some([name].iter().chain(&steps[2..]).map(|step| step.to_string()).collect())
 }

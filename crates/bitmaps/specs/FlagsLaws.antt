@@ -11,7 +11,7 @@ use Rattle.std.specs.Int.Bits.{bit_and, bit_xor, differ, xor_add_and}
 use Rattle.std.proofs.lemmas.Nat.Bits.{and_high}
 use Rattle.std.specs.Int.Count.{count_leading_zeros}
 use Rattle.ternary.specs.Bit.{bit}
-use Rattle.ternary.specs.BitLaws.{bit_lt, bit_and_lem, bit_or_lem, bit_xor_lem}
+use Rattle.ternary.proofs.BitLaws.{bit_lt, bit_and_lem, bit_or_lem, bit_xor_lem}
 use Rattle.bitmaps.specs.Flags.{flipped, except, with_bit, turned, cleared, Top, marked}
 
 -- a number below 2 ^ i has no bit from i on

@@ -7,9 +7,9 @@ use Rattle.std.proofs.Math.Decide.{ℕ_discrete, dec_lt}
 use Rattle.std.specs.Int.Bits.{bit_and, bit_or}
 use Rattle.search.specs.SearchLaws.{decided}
 use Rattle.ternary.specs.Bit.{bit}
-use Rattle.ternary.specs.BitLaws.{bit_lt, bit_and_lem, bit_or_lem, bit_zero}
+use Rattle.ternary.proofs.BitLaws.{bit_lt, bit_and_lem, bit_or_lem, bit_zero}
 use Rattle.ternary.specs.Pattern.{overlaps}
-use Rattle.ternary.specs.PatternLaws.{overlaps_law}
+use Rattle.ternary.proofs.PatternLaws.{overlaps_law}
 use Rattle.records.specs.Record.{slot_words, value, mask}
 use Rattle.bitmaps.specs.Flags.{with_bit, turned, Top}
 use Rattle.bitmaps.specs.FlagsLaws.{bit_high, with_was, with_other, turned_same, turned_other}

@@ -2,8 +2,4 @@
 -- Carrying: the definitions of a step. Steps: the ways in which it ends. Calls, UntilLaws: step after step.
 pub mod Carrying
 pub mod Steps
-pub mod StepsLaws
-pub mod SpotsLaws
 pub mod Calls
-pub mod CallsLaws
-pub mod UntilLaws

@@ -2,18 +2,8 @@
 -- insert changes. Holding, TableRules: a table and the rules it holds. Demand2: within a plan. Histories: from an empty table on.
 -- RepliesLaws, SoundnessLaws: what a plan's writes do to replies and soundness. InTurnLaws: a plan, call by call.
 pub mod RuleSet
-pub mod RuleSetLaws
 pub mod Inserted
-pub mod InsertedLaws
-pub mod RepliesLaws
-pub mod SoundnessLaws
 pub mod Holding
-pub mod HoldingLaws
 pub mod TableRules
-pub mod TableRulesLaws
-pub mod InTurnLaws
 pub mod Demand2
-pub mod Demand2Laws
 pub mod Histories
-pub mod HistoriesLaws
-pub mod Examples

@@ -41,7 +41,7 @@ use table_checks::check_listed;
 use windows::fill_ends;
 
 // The costs of all positions along one direction, with the ends of their windows.
-pub fn costs_along(
+fn costs_along(
     table: &[u64],
     near: &[u16],
     up: bool,

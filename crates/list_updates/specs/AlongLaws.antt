@@ -4,7 +4,7 @@ use Rattle.std.proofs.Common.{sym, ap, ◌∙◌, arith, length-set, get_or-set_
 use Rattle.std.proofs.Math.Decide.{dec_lt, ℕ_discrete}
 use Rattle.search.specs.Search.{NoneFrom}
 use Rattle.positions.specs.Positions.{slot_at}
-use Rattle.positions.specs.PositionsLaws.{slot_below}
+use Rattle.positions.proofs.PositionsLaws.{slot_below}
 use Rattle.records.specs.Record.{slot_words, empty}
 use Rattle.records.specs.Order.{slots}
 use Rattle.neighbour_lists.specs.Lists.{Listed}

@@ -12,15 +12,15 @@ use native.Mathlib.Omega.{arith}
 use borrow.Author.Tests.{ne_eqb, eqb-false, lt-ltb, le-ltb, le-leb, lt-leb}
 use Rattle.search.specs.Search.{least, Least}
 use Rattle.search.specs.SearchLaws.{decided, and_both, all_law, least_law, least_cong}
-use Rattle.ternary.specs.PatternLaws.{overlaps_law, overlap_turned}
+use Rattle.ternary.proofs.PatternLaws.{overlaps_law, overlap_turned}
 use Rattle.ternary.specs.Pattern as P
 use Rattle.ternary.specs.Pattern.{Words}
 use Rattle.positions.specs.Positions.{slot_at}
-use Rattle.positions.specs.PositionsLaws.{slot_below}
+use Rattle.positions.proofs.PositionsLaws.{slot_below}
 use Rattle.records.specs.Record.{slot_words, value, mask, rank, empty}
 use Rattle.records.specs.Order.{slots, overlapping, compared, precedes, overlap_at}
-use Rattle.records.specs.EntriesLaws.{refuted, precedes_cong}
-use Rattle.neighbour_lists.specs.PairLaws.{pair_apart, pair_falling, pattern_apart, precedes_empty}
+use Rattle.records.proofs.EntriesLaws.{refuted, precedes_cong}
+use Rattle.neighbour_lists.proofs.PairLaws.{pair_apart, pair_falling, pattern_apart, precedes_empty}
 use Rattle.list_updates.specs.Updates.{bounded_by, bounded_at, number_along, found_from, nearest_from, may_overlap, reaches_slot, asks_number}
 use Rattle.list_updates.specs.Updates.{BeforeWrite}
 use Rattle.list_updates.specs.SearchesLaws.{bound_stays, bound_here, bound_after, bound_past, number_found}

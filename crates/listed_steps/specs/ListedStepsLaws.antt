@@ -5,22 +5,22 @@ use Rattle.std.proofs.Math.Path.{ap}
 use Rattle.std.proofs.Math.Bool.{cond, and-false}
 use Rattle.plan_words.specs.PlanWords.{write_of}
 use Rattle.records.specs.Order.{slots}
-use Rattle.records.specs.EntriesLaws.{shaped_slots}
-use Rattle.records.specs.WritesLaws.{apply_slots}
+use Rattle.records.proofs.EntriesLaws.{shaped_slots}
+use Rattle.records.proofs.WritesLaws.{apply_slots}
 use Rattle.records.specs.Checks.{Told, success, refusal, check_records, slot_checks}
-use Rattle.records.specs.Laws.{cause_number_once, cause_not_zero, slot_checks_law, or_else_pass}
+use Rattle.records.proofs.Laws.{cause_number_once, cause_not_zero, slot_checks_law, or_else_pass}
 use Rattle.records.specs.Widths.{check_rule, check_words}
-use Rattle.records.specs.WidthsLaws.{leaves_same, shape_turn}
+use Rattle.records.proofs.WidthsLaws.{leaves_same, shape_turn}
 use Rattle.records.specs.Editions.{Given, lent_rule, ranked}
 use Rattle.records.specs.declared.Cause.{Cause}
 use Rattle.records.specs.declared.Check.{Check}
 use Rattle.records.specs.declared.Check.TheVariants.{Pass, Fail}
 use Rattle.buffers.specs.Buffers.{flag_number}
-use Rattle.buffers.specs.BuffersLaws.{flag_once}
+use Rattle.buffers.proofs.BuffersLaws.{flag_once}
 use Rattle.neighbour_lists.specs.Lists.{list_numbers, list_of, stale_list}
 use Rattle.carrying.specs.Carrying.{step_told, done_told, progress_checks, step_answer, step_writes, step_table, step_done}
 use Rattle.carrying.specs.Steps.{Writes}
-use Rattle.carrying.specs.StepsLaws.{carried_below, answer_done, step_moved}
+use Rattle.carrying.proofs.StepsLaws.{carried_below, answer_done, step_moved}
 use Rattle.carrying.specs.declared.StepInfo.{StepInfo}
 use Rattle.carrying.specs.declared.StepAnswer.{StepAnswer}
 use Rattle.carrying.specs.declared.StepAnswer.TheVariants.{Wrote}

@@ -9,14 +9,14 @@ use Rattle.plan_words.specs.PlanWords.{SlotsBelow}
 use Rattle.records.specs.Record.{word, record_words, slot_words, record_of, put_slot}
 use Rattle.records.specs.Order.{slots}
 use Rattle.records.specs.Entries.{vacant, entry_at, SameRecord}
-use Rattle.records.specs.EntriesLaws.{empty_cong, sound_same, listed_same}
-use Rattle.records.specs.RulesLaws.{zero_word, length_listed, record_length, record_sound}
-use Rattle.records.specs.PutSlotLaws.{put_slots, put_here, put_other}
+use Rattle.records.proofs.EntriesLaws.{empty_cong, sound_same, listed_same}
+use Rattle.records.proofs.RulesLaws.{zero_word, length_listed, record_length, record_sound}
+use Rattle.records.proofs.PutSlotLaws.{put_slots, put_here, put_other}
 use Rattle.records.specs.Writes.{apply_write}
 use Rattle.records.specs.Checks.{EmptyOrSound, check_records}
-use Rattle.records.specs.Laws.{records_law, empty_law}
+use Rattle.records.proofs.Laws.{records_law, empty_law}
 use Rattle.records.specs.Editions.{Given, ranked}
-use Rattle.records.specs.EditionsLaws.{given_law, rank_sound}
+use Rattle.records.proofs.EditionsLaws.{given_law, rank_sound}
 use Rattle.records.specs.declared.Rule.{Rule}
 use Rattle.records.specs.declared.Check.TheVariants.{Pass}
 use Rattle.carrying.specs.Carrying.{written_slot, put_checks}

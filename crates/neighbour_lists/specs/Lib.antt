@@ -5,9 +5,3 @@
 pub mod Lists
 pub mod Row
 pub mod Pass
-pub mod PairLaws
-pub mod RowLaws
-pub mod MarksLaws
-pub mod ListsLaws
-pub mod LentLaws
-pub mod PassLaws

@@ -1,11 +1,5 @@
 -- The planner's numbers: the words of a chain, the choice, and that they are those of a layout.
 -- Nothing here knows what a slot holds.
 pub mod Emit
-pub mod EmitLaws
 pub mod Choice
-pub mod ChoiceLaws
-pub mod MirroredLaws
-pub mod WalkedLaws
 pub mod Agree
-pub mod AgreeLaws
-pub mod Examples

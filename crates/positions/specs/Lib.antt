@@ -1,3 +1,2 @@
 -- Positions along a direction.
 pub mod Positions
-pub mod PositionsLaws

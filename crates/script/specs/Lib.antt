@@ -1,6 +1,4 @@
 -- What each line of a script does to the table and prints.
 -- Told: what each is answered. Script: what it does.
 pub mod Told
-pub mod ToldLaws
 pub mod Script
-pub mod ScriptLaws

@@ -5,12 +5,12 @@ use Rattle.std.proofs.Common.{sym, ap, subst, ◌∙◌, arith, take_all, length
 use Rattle.std.proofs.Math.Decide.{dec_le}
 use Rattle.search.specs.SearchLaws.{and_both}
 use Rattle.ternary.specs.Pattern.{Matches, matches}
-use Rattle.ternary.specs.PatternLaws.{matches_law}
+use Rattle.ternary.proofs.PatternLaws.{matches_law}
 use Rattle.records.specs.Record.{word}
 use Rattle.script_text.specs.Decimal.{every, digit, decimal, digits_of}
-use Rattle.script_text.specs.DecimalLaws.{digits_read, digits_digits, digits_some, digits_few}
+use Rattle.script_text.proofs.DecimalLaws.{digits_read, digits_digits, digits_some, digits_few}
 use Rattle.script_fields.specs.Fields.{is_number, sized, value_bit, mask_bit, symbol_word, symbol_words, Asks}
-use Rattle.script_fields.specs.PatternLaws.{word_asks}
+use Rattle.script_fields.proofs.PatternLaws.{word_asks}
 use Rattle.script_commands.specs.Commands.{inserted_rule, key_of, letter_of, command_of}
 use Rattle.script_commands.specs.LineLaws.{line_long}
 

@@ -7,7 +7,7 @@ use Rattle.search.specs.SearchLaws.{decided, and_law}
 use Rattle.script_text.specs.Decimal.{digit, decimal, every}
 use Rattle.script_text.specs.Parts.{parts}
 use Rattle.script_fields.specs.Fields.{symbol, sized, is_number, is_pattern, is_key}
-use Rattle.script_fields.specs.FieldsLaws.{every_at}
+use Rattle.script_fields.proofs.FieldsLaws.{every_at}
 use Rattle.script_commands.specs.declared.Command.{Command}
 use Rattle.script_commands.specs.declared.Command.TheVariants.{Table, Insert, Delete, Lookup, Malformed}
 use Rattle.script_commands.specs.Commands.{letter_of, table_command, insert_command, delete_command, lookup_command, short_command, long_command, of_fields, command_of}

@@ -4,10 +4,10 @@ use Rattle.std.proofs.Common.{sym, ap, ap₂, ◌∙◌, arith, length-drop, tak
 use Rattle.std.proofs.lemmas.Bool.{lt-leb}
 use Rattle.search.specs.SearchLaws.{and_left, and_right}
 use Rattle.script_text.specs.Parts.{first_part, parts}
-use Rattle.script_text.specs.PartsLaws.{first_take, parts_last, parts_more, parts_some}
+use Rattle.script_text.proofs.PartsLaws.{first_take, parts_last, parts_more, parts_some}
 use Rattle.script_fields.specs.Fields.{is_number, number_in, is_pattern, is_key, symbol_words, value_bit, mask_bit}
 use Rattle.script_fields.specs.declared.TwoWords.{TwoWords}
-use Rattle.script_fields.specs.FieldsLaws.{number_told, number_test}
+use Rattle.script_fields.proofs.FieldsLaws.{number_told, number_test}
 use Rattle.script_commands.specs.Commands.{after_letter, insert_command, lookup_command, letter_of, command_of}
 use Rattle.script_commands.specs.declared.Command.TheVariants.{Insert, Lookup, Malformed}
 

@@ -2,7 +2,7 @@
 use Rattle.std.specs.Prelude.{◌≡◌, [], ◌∷◌, ℕ, ◌+◌, ◌≤◌, ◌<◌, length}
 use Rattle.std.proofs.Common.{arith, length-append}
 use Rattle.script_text.specs.Decimal.{digits_of}
-use Rattle.script_text.specs.DecimalLaws.{digits_few}
+use Rattle.script_text.proofs.DecimalLaws.{digits_few}
 use Rattle.script_printing.specs.PrintedLines.{printed}
 
 -- digits of numbers of 16, 32 and 64 bits

@@ -1,6 +1,3 @@
 -- Text in bytes: parts between separators (Parts) and numbers in decimal (Decimal).
 pub mod Parts
-pub mod PartsLaws
 pub mod Decimal
-pub mod DecimalLaws
-pub mod Examples

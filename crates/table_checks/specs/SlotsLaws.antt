@@ -2,8 +2,8 @@
 use Rattle.std.specs.Prelude.{◌≡◌, Bool, List, ℕ, ◌≤◌}
 use Rattle.records.specs.Order.{slots}
 use Rattle.records.specs.Checks.{slot_checks, check_records, table_checks}
-use Rattle.records.specs.Laws.{slot_checks_law, table_checks_law}
-use Rattle.records.specs.EntriesLaws.{shaped_slots}
+use Rattle.records.proofs.Laws.{slot_checks_law, table_checks_law}
+use Rattle.records.proofs.EntriesLaws.{shaped_slots}
 use Rattle.records.specs.declared.Check.TheVariants.{Pass}
 
 -- after checks 1 and 2, and after 1 to 4

@@ -8,7 +8,7 @@ use Rattle.ternary.specs.Pattern.{Words}
 use Rattle.positions.specs.Positions.{slot_at}
 use Rattle.records.specs.Record.{slot_words, empty, listed}
 use Rattle.records.specs.Order.{slots}
-use Rattle.records.specs.RulesLaws.{length_listed}
+use Rattle.records.proofs.RulesLaws.{length_listed}
 use Rattle.windows.specs.Windows.{end_at, window_end_at, misplaced_at, end_after, end_before}
 
 -- the end told, by cases

@@ -16,7 +16,7 @@ use records::{Mode, NARROW, WIDE};
 use slots::{slot_count, slot_vacant};
 
 // One past the last position of a window going down: positions are slots.
-pub fn end_down(near: &[u16], slots: usize, position: usize) -> usize
+fn end_down(near: &[u16], slots: usize, position: usize) -> usize
     requires { (position < slots) × (2 * slots ≤ length near.now) }
     ensures { result ≡ end_after slots (get_or near.now (2 * position) 0) }
 {

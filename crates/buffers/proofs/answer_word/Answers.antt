@@ -4,7 +4,7 @@ use mathlib.Core.Path.{refl, ◌∙◌}
 use mathlib.Core.List.{[], ◌∷◌}
 use native.Mathlib.Omega.{arith}
 use lib.Seq.{set_split}
-use Rattle.buffers.specs.BuffersLaws.{buffer_short, buffer_written}
+use Rattle.buffers.proofs.BuffersLaws.{buffer_short, buffer_written}
 use Rattle.buffers.proofs.answer_word.Goals as goal
 
 pub returns-then-plan-lt1 : goal.returns-then-plan-lt1

@@ -5,7 +5,7 @@ use Prim.Native.Nat.{◌+◌, ◌-◌}
 use native.Mathlib.Omega.{arith}
 use lib.ListN.{length-set}
 use lib.Seq.{drop-set-lt}
-use Rattle.costs.specs.CostsLaws.{solved_more, minimum_over, minimum_stored}
+use Rattle.costs.proofs.CostsLaws.{solved_more, minimum_over, minimum_stored}
 use Rattle.costs.proofs.fill_costs.Goals as goal
 
 pub overflow_cast-least : goal.overflow_cast-least

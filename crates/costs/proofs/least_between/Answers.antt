@@ -2,9 +2,9 @@
 -- The lesser of what the loop has found and the minimum of the positions from its own on is the whole minimum.
 use Prim.Native.Nat.{◌-◌}
 use native.Mathlib.Omega.{arith}
-use Rattle.layout.specs.MinimumLaws.{minimum_law}
+use Rattle.layout.proofs.MinimumLaws.{minimum_law}
 use Rattle.costs.specs.Costs.{cost_of}
-use Rattle.costs.specs.CostsLaws.{minimum_further, minimum_over}
+use Rattle.costs.proofs.CostsLaws.{minimum_further, minimum_over}
 use Rattle.costs.proofs.least_between.Goals as goal
 
 pub loop-at-init : goal.loop-at-init

@@ -3,7 +3,7 @@
 use mathlib.Core.Path.{sym}
 use native.Mathlib.Omega.{arith}
 use Rattle.costs.specs.Costs.{cost_of}
-use Rattle.costs.specs.CostsLaws.{minimum_further, minimum_over}
+use Rattle.costs.proofs.CostsLaws.{minimum_further, minimum_over}
 use Rattle.costs.proofs.least_in_window.Goals as goal
 
 pub returns-then-to-from : goal.returns-then-to-from

@@ -2,7 +2,7 @@
 -- An end of 0 says that the position is empty; else the cost is one more than the least in its window, and fits 16 bits since that is at most the slots.
 use mathlib.Core.Path.{sym}
 use native.Mathlib.Omega.{arith}
-use Rattle.costs.specs.CostsLaws.{cost_vacant, cost_found, cost_to_last, minimum_high}
+use Rattle.costs.proofs.CostsLaws.{cost_vacant, cost_found, cost_to_last, minimum_high}
 use Rattle.costs.proofs.position_cost.Goals as goal
 
 pub returns-then-end-eq0 : goal.returns-then-end-eq0

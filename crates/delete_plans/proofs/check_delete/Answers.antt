@@ -1,8 +1,8 @@
 -- `delete_plans::check_delete` meets its contract.
 -- Each check is made where those before it pass.
-use Rattle.records.specs.Laws.{failed, passed}
+use Rattle.records.proofs.Laws.{failed, passed}
 use Rattle.delete_plans.specs.Deletes.{delete_checks}
-use Rattle.delete_plans.specs.DeletesLaws.{id_refused, id_accepted, id_found, id_absent}
+use Rattle.delete_plans.proofs.DeletesLaws.{id_refused, id_accepted, id_found, id_absent}
 use Rattle.delete_plans.proofs.check_delete.Goals as goal
 
 pub returns-in-Fail : goal.returns-in-Fail

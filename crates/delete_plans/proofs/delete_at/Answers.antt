@@ -11,9 +11,9 @@ use Rattle.plan_words.specs.PlanWords.{write_word}
 use Rattle.records.specs.declared.Check.{Check}
 use Rattle.records.specs.declared.Check.TheVariants.{Pass}
 use Rattle.buffers.specs.Buffers.{buffer_answer, buffer_after}
-use Rattle.buffers.specs.BuffersLaws.{buffer_refused}
+use Rattle.buffers.proofs.BuffersLaws.{buffer_refused}
 use Rattle.delete_plans.specs.Deletes.{delete_checks, delete_words}
-use Rattle.delete_plans.specs.DeletesLaws.{delete_small}
+use Rattle.delete_plans.proofs.DeletesLaws.{delete_small}
 use Rattle.delete_plans.proofs.delete_at.Goals as goal
 
 low : (c : goal.After-slot_of_id-slot) → c.slot_of_id-slot.result ≤ 1024

@@ -1,7 +1,7 @@
 -- `delete_plans::plan_delete` meets its contract.
 -- The check of the width decides first, and leaves the buffer as it was.
 use mathlib.Core.Path.{sym, ◌∙◌}
-use Rattle.records.specs.WidthsLaws.{width_law, call_refused, call_answered}
+use Rattle.records.proofs.WidthsLaws.{width_law, call_refused, call_answered}
 use Rattle.delete_plans.specs.Deletes.{delete_plan}
 use Rattle.delete_plans.proofs.plan_delete.Goals as goal
 

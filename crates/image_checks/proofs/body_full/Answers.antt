@@ -1,6 +1,6 @@
 -- `image_checks::body_full` meets its contract.
 -- A width that is not 2 is 5.
-use Rattle.records.specs.WidthsLaws.{other_width}
+use Rattle.records.proofs.WidthsLaws.{other_width}
 use Rattle.image_checks.proofs.body_full.Goals as goal
 
 pub body_full_by-requires : goal.body_full_by-requires

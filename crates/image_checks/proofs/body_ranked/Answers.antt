@@ -10,9 +10,9 @@ use borrow.Author.Rules.{rules}
 use lib.Dec.{eqb}
 use borrow.Author.Tests.{eqb-true, eq-eqb}
 use Rattle.search.specs.SearchLaws.{and_left, and_right, and_both}
-use Rattle.records.specs.Laws.{rank_low, rank_exact, rank_past}
+use Rattle.records.proofs.Laws.{rank_low, rank_exact, rank_past}
 use Rattle.image.specs.Bytes.{Bytes, number_at}
-use Rattle.image.specs.BytesLaws.{number_quarters, number_small}
+use Rattle.image.proofs.BytesLaws.{number_quarters, number_small}
 use Rattle.image_checks.proofs.body_ranked.Goals as goal
 
 upper-none : (b : List ℕ) (at : ℕ) → Bytes b → number_at b at 2 ≡ 0 → number_at b at 4 ≤ 65535

@@ -1,6 +1,6 @@
 -- `image_checks::body_within` meets its contract.
 -- A width that is not 2 is 5.
-use Rattle.records.specs.WidthsLaws.{other_width}
+use Rattle.records.proofs.WidthsLaws.{other_width}
 use Rattle.image_checks.proofs.body_within.Goals as goal
 
 pub body_within_by-requires : goal.body_within_by-requires

@@ -14,10 +14,10 @@ use Rattle.records.specs.declared.Cause.TheVariants.{Image}
 use Rattle.records.specs.declared.Check.TheVariants.{Fail}
 use Rattle.image.specs.Bytes.{Bytes, number_at}
 use Rattle.image.specs.Format.{body_place, id_at, body_word, record_at}
-use Rattle.image.specs.SaveLaws.{body_within, image_small}
-use Rattle.image.specs.Meaning.{body_sound}
+use Rattle.image.proofs.SaveLaws.{body_within, image_small}
+use Rattle.image.proofs.Meaning.{body_sound}
 use Rattle.image.specs.Checks.{check_body}
-use Rattle.image.specs.ChecksLaws.{field_last, field_last_wrong}
+use Rattle.image.proofs.ChecksLaws.{field_last, field_last_wrong}
 use Rattle.image_checks.proofs.check_body.Goals as goal
 
 read : (w : ℕ) (b : List ℕ) (e k place : ℕ) → Bytes b → place ≡ body_place w e k → (id_at b k ≡ 0 → ⊥)

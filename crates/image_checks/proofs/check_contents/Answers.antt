@@ -2,7 +2,7 @@
 -- Those below the loop's pass, in turn.
 use native.Mathlib.Omega.{arith}
 use Rattle.image.specs.Checks.{check_contents}
-use Rattle.image.specs.ChecksLaws.{pass_start, pass_more, turn_fails, turn_passes}
+use Rattle.image.proofs.ChecksLaws.{pass_start, pass_more, turn_fails, turn_passes}
 use Rattle.image_checks.proofs.check_contents.Goals as goal
 
 pub loop-entry-init : goal.loop-entry-init

@@ -2,7 +2,7 @@
 -- Those below the loop's pass, in turn.
 use Prim.Native.Nat.{◌-◌}
 use Rattle.image.specs.Checks.{check_entry}
-use Rattle.image.specs.ChecksLaws.{PassBelow}
+use Rattle.image.proofs.ChecksLaws.{PassBelow}
 use Rattle.image_checks.proofs.check_contents.Given as goal
 
 abbrev pub invariant-loop-entry : goal.invariant-loop-entry

@@ -7,7 +7,7 @@ use lib.Dec.{ltb, leb}
 use borrow.Author.Tests.{eq-eqb, ne_eqb, not-true, not-false}
 use Rattle.image.specs.Format.{entry_place}
 use Rattle.image.specs.Checks.{check_entry}
-use Rattle.image.specs.ChecksLaws.{field_wrong, field_right, field_last, field_last_wrong}
+use Rattle.image.proofs.ChecksLaws.{field_wrong, field_right, field_last, field_last_wrong}
 use Rattle.image_checks.proofs.check_entry.Goals as goal
 
 abbrev test : ℕ → ℕ → ℕ → Bool

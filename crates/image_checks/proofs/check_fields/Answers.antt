@@ -2,8 +2,8 @@
 -- The image is looked at where the table has a shape.
 use mathlib.Core.Path.{sym, ap, ◌∙◌}
 use native.Mathlib.Omega.{arith}
-use Rattle.records.specs.Laws.{failed, passed}
-use Rattle.records.specs.EntriesLaws.{shaped_slots}
+use Rattle.records.proofs.Laws.{failed, passed}
+use Rattle.records.proofs.EntriesLaws.{shaped_slots}
 use Rattle.image.specs.Checks.{image_checks}
 use Rattle.image_checks.proofs.check_fields.Goals as goal
 

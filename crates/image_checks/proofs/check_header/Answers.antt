@@ -11,8 +11,8 @@ use Rattle.search.specs.SearchLaws.{and_both}
 use Rattle.image.specs.Bytes.{number_at}
 use Rattle.image.specs.Checks.{field, check_header}
 use Rattle.image.specs.Format.{rules_in, image_bytes}
-use Rattle.image.specs.BytesLaws.{number_small}
-use Rattle.image.specs.ChecksLaws.{field_wrong, field_right, field_last, field_last_wrong}
+use Rattle.image.proofs.BytesLaws.{number_small}
+use Rattle.image.proofs.ChecksLaws.{field_wrong, field_right, field_last, field_last_wrong}
 use Rattle.image_checks.proofs.check_header.Goals as goal
 
 pub returns-then-bytes-lt4 : goal.returns-then-bytes-lt4

@@ -4,9 +4,9 @@ use mathlib.Core.Path.{sym, ap, ◌∙◌}
 use Prim.Native.Nat.{ℕ}
 use native.Mathlib.Omega.{arith}
 use native.Mathlib.Nat.{le_of_eq}
-use Rattle.records.specs.Laws.{failed, passed}
+use Rattle.records.proofs.Laws.{failed, passed}
 use Rattle.image.specs.Checks.{check_contents, check_bodies, image_checks}
-use Rattle.image.specs.ChecksLaws.{header_law, entry_law, turn_pass}
+use Rattle.image.proofs.ChecksLaws.{header_law, entry_law, turn_pass}
 use Rattle.image_checks.proofs.check_image.Goals as goal
 
 pub returns-in-Fail : goal.returns-in-Fail

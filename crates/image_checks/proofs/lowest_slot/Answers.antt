@@ -6,7 +6,7 @@ use native.Mathlib.Omega.{arith}
 use borrow.Author.Rules.{rules}
 use Rattle.image.specs.Bytes.{number_at}
 use Rattle.image.specs.Checks.{lowest_slot}
-use Rattle.image.specs.BytesLaws.{number_small}
+use Rattle.image.proofs.BytesLaws.{number_small}
 use Rattle.image_checks.proofs.lowest_slot.Goals as goal
 
 pub overflow_add-result : goal.overflow_add-result

@@ -4,12 +4,12 @@ use mathlib.Core.Path.{◌≡◌, ap, ap₂, ◌∙◌}
 use mathlib.Core.List.{[], ◌∷◌}
 use Prim.Native.Nat.{ℕ, ◌+◌, ◌*◌}
 use native.Mathlib.Omega.{arith}
-use Rattle.records.specs.Laws.{slot_within}
+use Rattle.records.proofs.Laws.{slot_within}
 use Rattle.records.specs.Record.{record_words, listed}
 use Rattle.image.specs.Bytes.{number_at, store}
 use Rattle.image.specs.Format.{body_place, body_word, id_at}
-use Rattle.image.specs.SaveLaws.{body_within}
-use Rattle.image.specs.LoadLaws.{record_put}
+use Rattle.image.proofs.SaveLaws.{body_within}
+use Rattle.image.proofs.LoadLaws.{record_put}
 use Rattle.image_checks.proofs.put_meant.Goals as goal
 
 pub overflow_mul-first : goal.overflow_mul-first

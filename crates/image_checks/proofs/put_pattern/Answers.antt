@@ -1,6 +1,6 @@
 -- `image_checks::put_pattern` meets its contract.
 -- A width that is not 2 is 5.
-use Rattle.records.specs.WidthsLaws.{other_width}
+use Rattle.records.proofs.WidthsLaws.{other_width}
 use Rattle.image_checks.proofs.put_pattern.Goals as goal
 
 pub put_pattern_by-requires : goal.put_pattern_by-requires

@@ -7,9 +7,9 @@ use native.Mathlib.Numerals.{add-one}
 use native.Mathlib.Omega.{arith}
 use lib.ListN.{set, length-set}
 use Rattle.records.specs.Record.{listed}
-use Rattle.records.specs.RulesLaws.{length_listed}
+use Rattle.records.proofs.RulesLaws.{length_listed}
 use Rattle.image.specs.Bytes.{store}
-use Rattle.image.specs.BytesLaws.{store_none, store_one, store_then}
+use Rattle.image.proofs.BytesLaws.{store_none, store_one, store_then}
 use Rattle.image.specs.Format.{body_word}
 use Rattle.image_checks.proofs.put_pattern_by.Goals as goal
 

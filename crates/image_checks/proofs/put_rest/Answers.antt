@@ -7,7 +7,7 @@ use native.Mathlib.Omega.{arith}
 use borrow.Author.Rules.{rules}
 use lib.ListN.{set, length-set}
 use Rattle.image.specs.Bytes.{number_at}
-use Rattle.image.specs.BytesLaws.{number_small, store_one, store_then}
+use Rattle.image.proofs.BytesLaws.{number_small, store_one, store_then}
 use Rattle.image_checks.proofs.put_rest.Goals as goal
 
 pub overflow_mul-table : goal.overflow_mul-table

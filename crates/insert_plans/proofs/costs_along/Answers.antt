@@ -9,7 +9,7 @@ use Rattle.records.specs.Order.{slots}
 use Rattle.costs.specs.Costs.{cost_of, SolvedFrom}
 use Rattle.windows.specs.Windows.{end_at}
 use Rattle.windows.specs.WindowsLaws.{end_high}
-use Rattle.insert_plans.specs.JoinedLaws.{numbers_front, costed}
+use Rattle.insert_plans.proofs.JoinedLaws.{numbers_front, costed}
 use Rattle.insert_plans.proofs.costs_along.Goals as goal
 
 pub fill_costs-requires : goal.fill_costs-requires

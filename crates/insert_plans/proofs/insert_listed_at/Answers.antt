@@ -8,12 +8,12 @@ use lib.Dec.{eqb}
 use lib.ListN.{take}
 use Rattle.records.specs.Checks.{Told}
 use Rattle.buffers.specs.Buffers.{insert_answer_told}
-use Rattle.buffers.specs.BuffersLaws.{refreshed_refused, refreshed_planned}
+use Rattle.buffers.proofs.BuffersLaws.{refreshed_refused, refreshed_planned}
 use Rattle.buffers.specs.declared.InsertAnswer.{InsertAnswer}
 use Rattle.neighbour_lists.specs.Lists.{list_of, stale_list, differing}
-use Rattle.neighbour_lists.specs.LentLaws.{listed_front, differing_stale}
+use Rattle.neighbour_lists.proofs.LentLaws.{listed_front, differing_stale}
 use Rattle.table_checks.specs.SlotsLaws.{table_few}
-use Rattle.insert_plans.specs.ListedInsertsLaws.{refusal_keeps}
+use Rattle.insert_plans.proofs.ListedInsertsLaws.{refusal_keeps}
 use Rattle.insert_plans.proofs.insert_listed_at.Goals as goal
 
 pub store_list-requires : goal.store_list-requires

@@ -6,8 +6,8 @@ use Prim.Native.Nat.{ℕ}
 use native.Mathlib.Omega.{arith}
 use lib.Dec.{eqb}
 use Rattle.records.specs.Editions.{lent_rule, ranked}
-use Rattle.records.specs.Laws.{failed, cause_not_zero}
-use Rattle.buffers.specs.BuffersLaws.{buffer_refused, cover_refused}
+use Rattle.records.proofs.Laws.{failed, cause_not_zero}
+use Rattle.buffers.proofs.BuffersLaws.{buffer_refused, cover_refused}
 use Rattle.neighbours.specs.Neighbours.{insert_checks}
 use Rattle.insert_plans.specs.Inserts.{planned_words, insert_cover}
 use Rattle.insert_plans.proofs.insert_near.Goals as goal

@@ -13,10 +13,10 @@ use Rattle.records.specs.Inserts.{plan_words}
 use Rattle.records.specs.declared.Check.{Check}
 use Rattle.records.specs.declared.Check.TheVariants.{Pass}
 use Rattle.buffers.specs.Buffers.{buffer_answer, buffer_after}
-use Rattle.buffers.specs.BuffersLaws.{buffer_refused}
+use Rattle.buffers.proofs.BuffersLaws.{buffer_refused}
 use Rattle.table_checks.specs.SlotsLaws.{table_few, table_records}
 use Rattle.neighbours.specs.Neighbours.{crossed_by, check_crossed}
-use Rattle.neighbours.specs.NeighboursLaws.{after_a_high, slot_b_high}
+use Rattle.neighbours.proofs.NeighboursLaws.{after_a_high, slot_b_high}
 use Rattle.insert_plans.specs.Inserts.{choice_between, record_choice}
 use Rattle.insert_plans.proofs.plan_between_neighbours.Goals as goal
 

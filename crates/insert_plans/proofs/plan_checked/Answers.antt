@@ -11,9 +11,9 @@ use Rattle.records.specs.declared.Check.{Check}
 use Rattle.buffers.specs.Buffers.{buffer_answer, buffer_after}
 use Rattle.table_checks.specs.SlotsLaws.{table_few}
 use Rattle.neighbours.specs.Neighbours.{FoundIn}
-use Rattle.neighbours.specs.NeighboursLaws.{replaced_equal}
+use Rattle.neighbours.proofs.NeighboursLaws.{replaced_equal}
 use Rattle.neighbours.specs.declared.NewRule.TheVariants.{Replaces}
-use Rattle.insert_plans.specs.InsertsLaws.{found_declined, found_replaces, found_adds}
+use Rattle.insert_plans.proofs.InsertsLaws.{found_declined, found_replaces, found_adds}
 use Rattle.insert_plans.proofs.plan_checked.Goals as goal
 
 pub plan_between_neighbours-requires : goal.plan_between_neighbours-requires

@@ -2,7 +2,7 @@
 -- A plan gets the slot besides; a refusal is as it was.
 use mathlib.Core.Path.{sym, ap, ap₂, ◌∙◌}
 use Rattle.buffers.specs.Buffers.{plan_told, with_cover}
-use Rattle.buffers.specs.BuffersLaws.{cover_refused}
+use Rattle.buffers.proofs.BuffersLaws.{cover_refused}
 use Rattle.table_checks.specs.SlotsLaws.{table_few}
 use Rattle.insert_plans.proofs.plan_covered.Goals as goal
 

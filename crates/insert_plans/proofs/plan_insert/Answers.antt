@@ -5,14 +5,14 @@ use mathlib.Core.Bool.{false≢true}
 use lib.ListN.{length}
 use Rattle.records.specs.Record.{word}
 use Rattle.records.specs.Checks.{Told, passes}
-use Rattle.records.specs.RulesLaws.{rule_action}
-use Rattle.records.specs.WidthsLaws.{rule_law, call_refused, call_answered}
+use Rattle.records.proofs.RulesLaws.{rule_action}
+use Rattle.records.proofs.WidthsLaws.{rule_law, call_refused, call_answered}
 use Rattle.records.specs.Editions.{lent_rule}
 use Rattle.buffers.specs.Buffers.{with_cover, without_cover}
-use Rattle.buffers.specs.BuffersLaws.{cover_refused}
+use Rattle.buffers.proofs.BuffersLaws.{cover_refused}
 use Rattle.insert_plans.specs.Inserts.{insert_plan, insert_cover}
-use Rattle.insert_plans.specs.InsertsLaws.{reply_dropped}
-use Rattle.insert_plans.specs.Demand3Laws.{demand_3_call}
+use Rattle.insert_plans.proofs.InsertsLaws.{reply_dropped}
+use Rattle.insert_plans.proofs.Demand3Laws.{demand_3_call}
 use Rattle.insert_plans.proofs.plan_insert.Goals as goal
 
 pub returns-in-Fail : goal.returns-in-Fail

@@ -5,16 +5,16 @@ use mathlib.Core.Bool.{false≢true}
 use lib.ListN.{length}
 use Rattle.records.specs.Record.{word}
 use Rattle.records.specs.Checks.{passes}
-use Rattle.records.specs.RulesLaws.{rule_action}
-use Rattle.records.specs.WidthsLaws.{rule_law, words_law}
+use Rattle.records.proofs.RulesLaws.{rule_action}
+use Rattle.records.proofs.WidthsLaws.{rule_law, words_law}
 use Rattle.records.specs.Editions.{lent_rule}
 use Rattle.buffers.specs.Buffers.{without_cover}
-use Rattle.buffers.specs.BuffersLaws.{refreshed_dropped}
+use Rattle.buffers.proofs.BuffersLaws.{refreshed_dropped}
 use Rattle.neighbour_lists.specs.Lists.{stale_list}
 use Rattle.insert_plans.specs.Inserts.{insert_answer, insert_cover}
-use Rattle.insert_plans.specs.InsertsLaws.{reply_dropped}
-use Rattle.insert_plans.specs.ListedInsertsLaws.{rule_refused, list_refused, listed_answered}
-use Rattle.insert_plans.specs.Demand3Laws.{demand_3_call}
+use Rattle.insert_plans.proofs.InsertsLaws.{reply_dropped}
+use Rattle.insert_plans.proofs.ListedInsertsLaws.{rule_refused, list_refused, listed_answered}
+use Rattle.insert_plans.proofs.Demand3Laws.{demand_3_call}
 use Rattle.insert_plans.proofs.plan_insert_listed.Goals as goal
 
 pub returns-in-Fail : goal.returns-in-Fail

@@ -13,7 +13,7 @@ use Rattle.records.specs.Checks.{check_records}
 use Rattle.records.specs.declared.Check.TheVariants.{Pass}
 use Rattle.table_checks.specs.SlotsLaws.{table_few, table_records}
 use Rattle.neighbours.specs.Neighbours.{FoundIn}
-use Rattle.insert_plans.specs.InsertsLaws.{lent_passes, lent_finite, lent_ranked, lent_found, lent_covered}
+use Rattle.insert_plans.proofs.InsertsLaws.{lent_passes, lent_finite, lent_ranked, lent_found, lent_covered}
 use Rattle.insert_plans.proofs.plan_listed.Goals as goal
 
 pub check_for_insert-found-requires : goal.check_for_insert-found-requires

@@ -8,14 +8,14 @@ use native.Mathlib.Omega.{arith}
 use lib.ListN.{length}
 use Rattle.records.specs.Record.{word, rule_of}
 use Rattle.records.specs.Rules.{Fields}
-use Rattle.records.specs.RulesLaws.{record_length, rule_of_record}
-use Rattle.records.specs.WidthsLaws.{two}
+use Rattle.records.proofs.RulesLaws.{record_length, rule_of_record}
+use Rattle.records.proofs.WidthsLaws.{two}
 use Rattle.records.specs.Editions.{under13}
 use Rattle.records.specs.declared.Rule.{Rule}
 use Rattle.buffers.specs.Buffers.{without_cover}
 use Rattle.insert_plans.specs.Inserts.{insert_reply, insert_plan}
-use Rattle.insert_plans.specs.InsertsLaws.{reply_dropped}
-use Rattle.insert_plans.specs.Demand3Laws.{demand_3_rule}
+use Rattle.insert_plans.proofs.InsertsLaws.{reply_dropped}
+use Rattle.insert_plans.proofs.Demand3Laws.{demand_3_rule}
 use Rattle.insert_plans.proofs.plan_rule.Goals as goal
 
 pub insert_at-requires : goal.insert_at-requires

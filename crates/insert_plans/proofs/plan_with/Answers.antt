@@ -10,7 +10,7 @@ use Rattle.records.specs.declared.Check.TheVariants.{Pass}
 use Rattle.buffers.specs.Buffers.{buffer_answer, buffer_after}
 use Rattle.table_checks.specs.SlotsLaws.{table_few}
 use Rattle.insert_plans.specs.Inserts.{choice_between, Joined}
-use Rattle.insert_plans.specs.InsertsLaws.{choice_joined}
+use Rattle.insert_plans.proofs.InsertsLaws.{choice_joined}
 use Rattle.insert_plans.proofs.plan_with.Goals as goal
 
 pub costs_along-requires : goal.costs_along-requires

@@ -9,7 +9,7 @@ use lib.ListN.{drop}
 use Rattle.costs.specs.Costs.{cost_of}
 use Rattle.planner.specs.Choice.{choice_words}
 use Rattle.planner.specs.Emit.{Stays}
-use Rattle.insert_plans.specs.InsertsLaws.{write_short, write_done}
+use Rattle.insert_plans.proofs.InsertsLaws.{write_short, write_done}
 use Rattle.insert_plans.proofs.write_choice.Goals as goal
 
 pub returns-then-plan-count : goal.returns-then-plan-count

@@ -4,7 +4,7 @@ use mathlib.Core.Path.{◌≡◌, sym, ap, ◌∙◌}
 use Prim.Native.Nat.{ℕ, suc, ◌+◌}
 use native.Mathlib.Omega.{arith}
 use Rattle.positions.specs.Positions.{slot_at}
-use Rattle.positions.specs.PositionsLaws.{slot_below}
+use Rattle.positions.proofs.PositionsLaws.{slot_below}
 use Rattle.records.specs.Order.{slots}
 use Rattle.list_updates.specs.Updates.{nearest_from}
 use Rattle.list_updates.specs.UpdatesLaws.{number_written, number_searched, number_kept}

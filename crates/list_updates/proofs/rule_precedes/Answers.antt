@@ -4,7 +4,7 @@ use native.Mathlib.Omega.{arith}
 use borrow.Author.Tests.{le-ltb}
 use Rattle.records.specs.Record.{slot_words}
 use Rattle.records.specs.Order.{precedes}
-use Rattle.records.specs.OrderLaws.{pair_ranked}
+use Rattle.records.proofs.OrderLaws.{pair_ranked}
 use Rattle.list_updates.specs.UpdatesLaws.{precedes_told}
 use Rattle.list_updates.proofs.rule_precedes.Goals as goal
 

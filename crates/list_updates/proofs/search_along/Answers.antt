@@ -5,7 +5,7 @@ use Prim.Native.Nat.{ℕ}
 use native.Mathlib.Omega.{arith}
 use Rattle.search.specs.SearchLaws.{none_from_start}
 use Rattle.positions.specs.Positions.{slot_at}
-use Rattle.positions.specs.PositionsLaws.{slot_below}
+use Rattle.positions.proofs.PositionsLaws.{slot_below}
 use Rattle.records.specs.Order.{slots as slots_of}
 use Rattle.list_updates.specs.Updates.{bounded_by, bounded_at}
 use Rattle.list_updates.specs.SearchesLaws.{none_from_more, found_here, found_none}

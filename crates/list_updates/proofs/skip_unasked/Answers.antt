@@ -5,7 +5,7 @@ use native.Mathlib.Omega.{arith}
 use lib.ListN.{get_or}
 use Rattle.search.specs.SearchLaws.{none_from_start}
 use Rattle.positions.specs.Positions.{slot_at}
-use Rattle.positions.specs.PositionsLaws.{slot_below}
+use Rattle.positions.proofs.PositionsLaws.{slot_below}
 use Rattle.records.specs.Order.{slots as slots_of}
 use Rattle.list_updates.specs.Updates.{place_along, asks_number}
 use Rattle.list_updates.specs.SearchesLaws.{place_below, none_from_more}

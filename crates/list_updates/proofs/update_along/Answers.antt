@@ -5,7 +5,7 @@ use Prim.Native.Nat.{ℕ}
 use native.Mathlib.Omega.{arith}
 use lib.ListN.{length-set}
 use Rattle.positions.specs.Positions.{slot_at}
-use Rattle.positions.specs.PositionsLaws.{slot_below}
+use Rattle.positions.proofs.PositionsLaws.{slot_below}
 use Rattle.records.specs.Order.{slots as slots_of}
 use Rattle.list_updates.specs.Updates.{number_along, place_along}
 use Rattle.list_updates.specs.SearchesLaws.{place_below}

@@ -2,7 +2,7 @@
 -- Two checks come before the step: of the width and the rule's words, and of the list's numbers.
 use mathlib.Core.Path.{sym, ◌∙◌}
 use lib.ListN.{length}
-use Rattle.records.specs.WidthsLaws.{rule_law, words_law}
+use Rattle.records.proofs.WidthsLaws.{rule_law, words_law}
 use Rattle.neighbour_lists.specs.Lists.{list_numbers}
 use Rattle.listed_steps.specs.ListedStepsLaws.{rule_refused, list_refused, listed_stepped}
 use Rattle.listed_steps.proofs.step_listed.Goals as goal

@@ -10,9 +10,9 @@ use Rattle.records.specs.Checks.{success}
 use Rattle.records.specs.Editions.{lent_rule}
 use Rattle.buffers.specs.Buffers.{flag_number}
 use Rattle.neighbour_lists.specs.Lists.{Listed}
-use Rattle.neighbour_lists.specs.LentLaws.{list_length, list_listed, listed_whole}
+use Rattle.neighbour_lists.proofs.LentLaws.{list_length, list_listed, listed_whole}
 use Rattle.carrying.specs.Carrying.{step_told, step_table}
-use Rattle.carrying.specs.StepsLaws.{answer_tells, done_refused}
+use Rattle.carrying.proofs.StepsLaws.{answer_tells, done_refused}
 use Rattle.listed_steps.specs.ListedStepsLaws.{writes_table, writes_slots, writes_done, answer_still}
 use Rattle.listed_steps.proofs.step_listed_at.Goals as goal
 

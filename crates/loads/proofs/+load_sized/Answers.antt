@@ -7,11 +7,11 @@ use native.Mathlib.Omega.{arith}
 use lib.ListN.{length}
 use Rattle.records.specs.Order.{slots}
 use Rattle.records.specs.Checks.{or_else, check_shape}
-use Rattle.records.specs.Laws.{shape_length}
+use Rattle.records.proofs.Laws.{shape_length}
 use Rattle.records.specs.Widths.{Width}
 use Rattle.records.specs.declared.Check.TheVariants.{Pass}
 use Rattle.image.specs.Checks.{image_checks}
-use Rattle.image.specs.LoadLaws.{fields_shape}
+use Rattle.image.proofs.LoadLaws.{fields_shape}
 use Rattle.loads.proofs.+load_sized.Goals as goal
 
 -- the words of a lent table whose fields pass

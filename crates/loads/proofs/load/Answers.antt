@@ -1,7 +1,7 @@
 -- `loads::load` meets its contract.
 -- Where the width is not one of the two nothing is written; else the call at that width answers.
 use mathlib.Core.Path.{sym, ◌∙◌}
-use Rattle.records.specs.WidthsLaws.{width_law, call_refused, call_answered}
+use Rattle.records.proofs.WidthsLaws.{width_law, call_refused, call_answered}
 use Rattle.image.specs.Answers.{load_answer, load_table}
 use Rattle.loads.proofs.load.Goals as goal
 

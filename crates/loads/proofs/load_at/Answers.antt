@@ -1,7 +1,7 @@
 -- `loads::load_at` meets its contract.
 -- Wrong fields are refused; else the table meant goes through a working table.
 use mathlib.Core.Path.{sym, ◌∙◌}
-use Rattle.image.specs.LoadLaws.{load_wrong}
+use Rattle.image.proofs.LoadLaws.{load_wrong}
 use Rattle.loads.proofs.load_at.Goals as goal
 
 pub returns-in-Fail : goal.returns-in-Fail

@@ -8,11 +8,11 @@ use lib.ListN.{length, length-replicate}
 use Rattle.records.specs.Record.{record_words}
 use Rattle.records.specs.Order.{slots}
 use Rattle.records.specs.Checks.{or_else, check_records, check_twice, check_order}
-use Rattle.records.specs.EntriesLaws.{shaped_slots}
+use Rattle.records.proofs.EntriesLaws.{shaped_slots}
 use Rattle.image.specs.Format.{image_bytes}
 use Rattle.image.specs.Checks.{meant}
-use Rattle.image.specs.LoadLaws.{fields_shape, fields_sound, meant_built, load_unsound, load_written}
-use Rattle.image.specs.ResavingLaws.{meant_records}
+use Rattle.image.proofs.LoadLaws.{fields_shape, fields_sound, meant_built, load_unsound, load_written}
+use Rattle.image.proofs.ResavingLaws.{meant_records}
 use Rattle.loads.proofs.load_through.Goals as goal
 
 pub number_at-rules-requires : goal.number_at-rules-requires

@@ -1,7 +1,7 @@
 -- `loads::load_wide` meets its contract.
 -- The front of the working table is as many zeros as the lent table has words.
 use lib.ListN.{length}
-use Rattle.image.specs.LoadLaws.{front_zeros}
+use Rattle.image.proofs.LoadLaws.{front_zeros}
 use Rattle.loads.proofs.load_wide.Goals as goal
 
 pub load_through-requires : goal.load_through-requires

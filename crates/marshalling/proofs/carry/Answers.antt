@@ -1,5 +1,5 @@
 -- `marshalling::carry` meets its contract.
-use Rattle.marshalling.specs.CarriedLaws.{carry_ends}
+use Rattle.marshalling.proofs.CarriedLaws.{carry_ends}
 use Rattle.marshalling.proofs.carry.Goals as goal
 
 pub returns : goal.returns

@@ -2,11 +2,11 @@
 -- What the step with a list tells is what crosses, and whether the list was worked out afresh goes to its cell.
 use mathlib.Core.Path.{sym, ap, ◌∙◌}
 use mathlib.Core.Bool.{Bool, cond}
-use Rattle.records.specs.Laws.{cause_not_zero}
+use Rattle.records.proofs.Laws.{cause_not_zero}
 use Rattle.listed_steps.specs.ListedSteps.{listed_step_told}
 use Rattle.marshalling.specs.Cells.{flag_of}
-use Rattle.marshalling.specs.CellsLaws.{flag_byte}
-use Rattle.marshalling.specs.CarriedLaws.{listed_carried, listed_cell}
+use Rattle.marshalling.proofs.CellsLaws.{flag_byte}
+use Rattle.marshalling.proofs.CarriedLaws.{listed_carried, listed_cell}
 use Rattle.marshalling.proofs.carry_listed.Goals as goal
 
 pub returns-in-Wrote : goal.returns-in-Wrote

@@ -9,7 +9,7 @@ use Rattle.search.specs.Search.{all}
 use Rattle.search.specs.SearchLaws.{all_start, all_more, all_end, all_out, all_next}
 use Rattle.ternary.specs.Pattern.{overlaps}
 use Rattle.ternary.specs.Comparison.{masks_within, masks_compared}
-use Rattle.ternary.specs.ComparisonLaws.{comparison_apart, comparison_masks}
+use Rattle.ternary.proofs.ComparisonLaws.{comparison_apart, comparison_masks}
 use Rattle.pairs.proofs.compare_slots.Goals as goal
 
 pub returns-then-not-word_overlaps : goal.returns-then-not-word_overlaps

@@ -4,7 +4,7 @@ use mathlib.Core.Path.{sym, ◌∙◌}
 use borrow.Author.Tests.{not-true, not-false}
 use borrow.Author.Rules.{rules}
 use Rattle.records.specs.Record.{slot_words}
-use Rattle.records.specs.OrderLaws.{distinct_empty, distinct_same, distinct_both, compared_not, compared_asked}
+use Rattle.records.proofs.OrderLaws.{distinct_empty, distinct_same, distinct_both, compared_not, compared_asked}
 use Rattle.pairs.proofs.compared_rules.Goals as goal
 
 pub returns-then-slot_id : goal.returns-then-slot_id

@@ -4,7 +4,7 @@ use mathlib.Core.Path.{sym, ap, ◌∙◌}
 use mathlib.Core.Bool.{and-false}
 use borrow.Author.Tests.{lt-ltb, le-ltb, not-true}
 use Rattle.ternary.specs.Comparison.{first_covers}
-use Rattle.ternary.specs.ComparisonLaws.{covers_outside, covers_compared}
+use Rattle.ternary.proofs.ComparisonLaws.{covers_outside, covers_compared}
 use Rattle.records.specs.Record.{slot_words, value, mask}
 use Rattle.records.specs.Order.{obscures}
 use Rattle.pairs.proofs.obscures_by.Goals as goal

@@ -1,6 +1,6 @@
 -- `pairs::obscures_pair` meets its contract.
 -- A width that is not 2 is 5.
-use Rattle.records.specs.WidthsLaws.{other_width}
+use Rattle.records.proofs.WidthsLaws.{other_width}
 use Rattle.pairs.proofs.obscures_pair.Goals as goal
 
 pub obscures_by-requires : goal.obscures_by-requires

@@ -5,7 +5,7 @@ use borrow.Author.Tests.{lt-ltb, le-ltb, not-true, not-false}
 use borrow.Author.Rules.{rules}
 use Rattle.records.specs.Record.{slot_words}
 use Rattle.records.specs.Order.{precedes}
-use Rattle.records.specs.OrderLaws.{pair_ranked, pair_apart, pair_both}
+use Rattle.records.proofs.OrderLaws.{pair_ranked, pair_apart, pair_both}
 use Rattle.pairs.proofs.precedes_pair.Goals as goal
 
 pub returns-then-slot_rank : goal.returns-then-slot_rank

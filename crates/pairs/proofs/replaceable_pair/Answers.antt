@@ -4,7 +4,7 @@ use mathlib.Core.Path.{sym, ◌∙◌}
 use borrow.Author.Tests.{not-true, not-false}
 use Rattle.records.specs.Record.{slot_words}
 use Rattle.records.specs.Order.{replaceable}
-use Rattle.records.specs.OrderLaws.{replaced_unequal, replaced_asked, replaced_counted}
+use Rattle.records.proofs.OrderLaws.{replaced_unequal, replaced_asked, replaced_counted}
 use borrow.Author.Rules.{rules}
 use Rattle.pairs.proofs.replaceable_pair.Goals as goal
 

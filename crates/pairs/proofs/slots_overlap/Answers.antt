@@ -1,6 +1,6 @@
 -- `pairs::slots_overlap` meets its contract.
 -- A width that is not 2 is 5.
-use Rattle.records.specs.WidthsLaws.{other_width}
+use Rattle.records.proofs.WidthsLaws.{other_width}
 use Rattle.pairs.proofs.slots_overlap.Goals as goal
 
 pub slots_overlap_by-requires : goal.slots_overlap_by-requires

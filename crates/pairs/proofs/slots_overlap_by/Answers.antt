@@ -2,7 +2,7 @@
 -- Patterns that are not apart overlap.
 use mathlib.Core.Path.{sym, ap, ◌∙◌}
 use Rattle.ternary.specs.Comparison.{not_apart}
-use Rattle.ternary.specs.ComparisonLaws.{overlaps_compared}
+use Rattle.ternary.proofs.ComparisonLaws.{overlaps_compared}
 use Rattle.pairs.proofs.slots_overlap_by.Goals as goal
 
 pub returns : goal.returns

@@ -5,7 +5,7 @@ use borrow.Author.Tests.{eq-eqb, ne_eqb, not-true, not-false}
 use borrow.Author.Rules.{rules}
 use Rattle.records.specs.Record.{slot_words}
 use Rattle.records.specs.Order.{tied}
-use Rattle.records.specs.OrderLaws.{pair_ranked, pair_apart, pair_both}
+use Rattle.records.proofs.OrderLaws.{pair_ranked, pair_apart, pair_both}
 use Rattle.pairs.proofs.tied_pair.Goals as goal
 
 pub returns-then-slot_rank : goal.returns-then-slot_rank

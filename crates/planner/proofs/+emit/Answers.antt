@@ -3,7 +3,7 @@
 use Rattle.std.proofs.Common.{arith, ◌-◌}
 use Rattle.costs.specs.Costs.{cost_of}
 use Rattle.planner.specs.Emit.{emitted}
-use Rattle.planner.specs.EmitLaws.{emitted_stored, first_after, stays_here, stays_next}
+use Rattle.planner.proofs.EmitLaws.{emitted_stored, first_after, stays_here, stays_next}
 use Rattle.planner.proofs.+emit.Goals as goal
 
 pub returns-then-left-eq0 : goal.returns-then-left-eq0

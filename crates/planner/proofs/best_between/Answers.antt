@@ -1,6 +1,6 @@
 -- `planner::best_between` meets its contract.
 -- The first position of least cost is searched for once that cost is known.
-use Rattle.planner.specs.ChoiceLaws.{best_found}
+use Rattle.planner.proofs.ChoiceLaws.{best_found}
 use Rattle.planner.proofs.best_between.Goals as goal
 
 pub returns : goal.returns

@@ -1,6 +1,6 @@
 -- `planner::choose` meets its contract.
 -- Each range is cut to the slots there are, and the range going up is turned to positions.
-use Rattle.planner.specs.ChoiceLaws.{choice_found}
+use Rattle.planner.proofs.ChoiceLaws.{choice_found}
 use Rattle.planner.proofs.choose.Goals as goal
 
 pub returns : goal.returns

@@ -1,7 +1,7 @@
 -- `planner::move_word` meets its contract.
 -- Both slots are below 1,024.
 use native.Mathlib.Omega.{arith}
-use Rattle.positions.specs.PositionsLaws.{slot_below}
+use Rattle.positions.proofs.PositionsLaws.{slot_below}
 use Rattle.planner.proofs.move_word.Goals as goal
 
 pub overflow_cast-source : goal.overflow_cast-source

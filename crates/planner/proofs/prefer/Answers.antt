@@ -2,7 +2,7 @@
 -- The two returns are the two outcomes of the definition's test.
 use mathlib.Core.Path.{sym}
 use native.Mathlib.Omega.{arith}
-use Rattle.planner.specs.ChoiceLaws.{preferred_down, preferred_up}
+use Rattle.planner.proofs.ChoiceLaws.{preferred_down, preferred_up}
 use Rattle.planner.proofs.prefer.Goals as goal
 
 pub returns-then-down-up : goal.returns-then-down-up

@@ -5,9 +5,9 @@ use Prim.Native.Nat.{ℕ, ◌<◌}
 use native.Mathlib.Omega.{arith}
 use Rattle.layout.specs.Write.{put}
 use Rattle.plan_words.specs.PlanWords.{write_word}
-use Rattle.positions.specs.PositionsLaws.{slot_below}
-use Rattle.planner.specs.EmitLaws.{stays_here}
-use Rattle.planner.specs.ChoiceLaws.{plan_stored}
+use Rattle.positions.proofs.PositionsLaws.{slot_below}
+use Rattle.planner.proofs.EmitLaws.{stays_here}
+use Rattle.planner.proofs.ChoiceLaws.{plan_stored}
 use Rattle.planner.proofs.write_plan.Goals as goal
 
 -- the slot of the new rule is below 1,024

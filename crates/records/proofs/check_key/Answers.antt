@@ -1,6 +1,6 @@
 -- `records::check_key` meets its contract.
 -- The width's check decides first.
-use Rattle.records.specs.Laws.{failed, passed}
+use Rattle.records.proofs.Laws.{failed, passed}
 use Rattle.records.specs.Widths.{check_key}
 use Rattle.records.proofs.check_key.Goals as goal
 

@@ -1,9 +1,9 @@
 -- `records::check_rule` meets its contract.
 -- The width's check decides first.
 use mathlib.Core.Path.{sym, ap, ◌∙◌}
-use Rattle.records.specs.Laws.{failed, passed}
+use Rattle.records.proofs.Laws.{failed, passed}
 use Rattle.records.specs.Widths.{check_words, check_rule}
-use Rattle.records.specs.WidthsLaws.{width_law}
+use Rattle.records.proofs.WidthsLaws.{width_law}
 use Rattle.records.proofs.check_rule.Goals as goal
 
 pub returns-in-Fail : goal.returns-in-Fail

@@ -8,7 +8,7 @@ use lib.ListN.{length}
 use Rattle.records.specs.Order.{slots as slots_of}
 use Rattle.image.specs.Indices.{indices}
 use Rattle.image.specs.Format.{holds}
-use Rattle.image.specs.IndicesLaws.{count_high, count_more, count_same}
+use Rattle.image.proofs.IndicesLaws.{count_high, count_more, count_same}
 use Rattle.saves.proofs.count_rules.Goals as goal
 use Rattle.saves.proofs.count_rules.Goals.{then-not-slot_vacant, else-not-slot_vacant}
 

@@ -8,8 +8,8 @@ use lib.ListN.{length-append}
 use Rattle.records.specs.Record.{slot_words, rank, action}
 use Rattle.image.specs.Bytes.{bytes_of, pieces, store}
 use Rattle.image.specs.Format.{body_of}
-use Rattle.image.specs.SaveLaws.{words_length}
-use Rattle.image.specs.BytesLaws.{length_bytes, store_then}
+use Rattle.image.proofs.SaveLaws.{words_length}
+use Rattle.image.proofs.BytesLaws.{length_bytes, store_then}
 use Rattle.saves.proofs.put_body.Goals as goal
 
 pub returns : goal.returns

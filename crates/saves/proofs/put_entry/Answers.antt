@@ -6,7 +6,7 @@ use native.Mathlib.Omega.{arith}
 use lib.ListN.{length-append}
 use Rattle.image.specs.Bytes.{bytes_of}
 use Rattle.image.specs.Format.{entry_of}
-use Rattle.image.specs.BytesLaws.{length_bytes, store_then}
+use Rattle.image.proofs.BytesLaws.{length_bytes, store_then}
 use Rattle.saves.proofs.put_entry.Goals as goal
 
 pub returns : goal.returns

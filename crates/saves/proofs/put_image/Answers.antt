@@ -3,7 +3,7 @@
 use mathlib.Core.Path.{ap, ◌∙◌}
 use Prim.Native.Nat.{ℕ}
 use Rattle.image.specs.Bytes.{bytes_of, store}
-use Rattle.image.specs.SaveLaws.{image_stored}
+use Rattle.image.proofs.SaveLaws.{image_stored}
 use Rattle.image.specs.Format.{stored}
 use Rattle.saves.proofs.put_image.Goals as goal
 

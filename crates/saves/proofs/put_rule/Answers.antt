@@ -7,7 +7,7 @@ use native.Mathlib.Omega.{arith}
 use Rattle.records.specs.Record.{slot_words, ident}
 use Rattle.image.specs.Bytes.{store}
 use Rattle.image.specs.Format.{entry_place, entry_of, body_of}
-use Rattle.image.specs.SaveLaws.{body_within}
+use Rattle.image.proofs.SaveLaws.{body_within}
 use Rattle.saves.proofs.put_rule.Goals as goal
 
 pub put_body-requires : goal.put_body-requires

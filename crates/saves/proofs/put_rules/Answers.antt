@@ -11,8 +11,8 @@ use Rattle.records.specs.Order.{slots as slots_of}
 use Rattle.image.specs.Bytes.{store}
 use Rattle.image.specs.Indices.{indices}
 use Rattle.image.specs.Format.{holds, entry_place, body_place, entry_of, body_of, stored}
-use Rattle.image.specs.SaveLaws.{stored_none, rule_stored}
-use Rattle.image.specs.IndicesLaws.{count_more, count_same, count_high, index_at}
+use Rattle.image.proofs.SaveLaws.{stored_none, rule_stored}
+use Rattle.image.proofs.IndicesLaws.{count_more, count_same, count_high, index_at}
 use Rattle.saves.proofs.put_rules.Goals as goal
 use Rattle.saves.proofs.put_rules.Goals.{then-not-slot_vacant, else-not-slot_vacant}
 

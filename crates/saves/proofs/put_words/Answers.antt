@@ -8,7 +8,7 @@ use native.Mathlib.Omega.{arith}
 use lib.ListN.{length}
 use Rattle.records.specs.Record.{slot_words}
 use Rattle.image.specs.Bytes.{bytes_of, store, pieces}
-use Rattle.image.specs.BytesLaws.{length_bytes, pieces_length, store_none, store_then}
+use Rattle.image.proofs.BytesLaws.{length_bytes, pieces_length, store_none, store_then}
 use Rattle.saves.proofs.put_words.Goals as goal
 
 -- one word more is stored

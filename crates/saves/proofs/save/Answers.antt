@@ -2,7 +2,7 @@
 -- Where the width is not one of the two nothing is written; else the call at that width answers.
 use mathlib.Core.Path.{sym, ◌∙◌}
 use lib.ListN.{length}
-use Rattle.records.specs.WidthsLaws.{width_law, call_refused, call_answered}
+use Rattle.records.proofs.WidthsLaws.{width_law, call_refused, call_answered}
 use Rattle.image.specs.Answers.{save_answer, save_buffer}
 use Rattle.saves.proofs.save.Goals as goal
 

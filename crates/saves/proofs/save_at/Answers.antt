@@ -7,14 +7,14 @@ use Prim.Native.Nat.{ℕ, ◌≤◌}
 use native.Mathlib.Omega.{arith}
 use lib.ListN.{length}
 use Rattle.records.specs.Checks.{success, refusal, table_checks}
-use Rattle.records.specs.Laws.{table_checks_law, slot_checks_law}
-use Rattle.records.specs.EntriesLaws.{shaped_slots}
+use Rattle.records.proofs.Laws.{table_checks_law, slot_checks_law}
+use Rattle.records.proofs.EntriesLaws.{shaped_slots}
 use Rattle.records.specs.declared.Check.TheVariants.{Pass}
 use Rattle.records.specs.declared.Check.{Check}
 use Rattle.records.specs.declared.Cause.TheVariants.{Short}
-use Rattle.buffers.specs.BuffersLaws.{buffer_refused, buffer_short, buffer_written}
+use Rattle.buffers.proofs.BuffersLaws.{buffer_refused, buffer_short, buffer_written}
 use Rattle.image.specs.Format.{image_bytes, rule_count, image_of}
-use Rattle.image.specs.SaveLaws.{image_length, image_small, save_answer_lem, rules_small}
+use Rattle.image.proofs.SaveLaws.{image_length, image_small, save_answer_lem, rules_small}
 use Rattle.saves.proofs.save_at.Goals as goal
 
 few : {n : ℕ} {x : Check} (w : ℕ) (u : Bool) (t : List ℕ) → n ≡ rule_count w t → x ≡ table_checks w u t → x ≡ Pass → n ≤ 1024

@@ -1,6 +1,6 @@
 -- `script_commands::delete_command` meets its contract.
 -- A number that fits is the field's number.
-use Rattle.script_fields.specs.FieldsLaws.{number_told, number_untold}
+use Rattle.script_fields.proofs.FieldsLaws.{number_told, number_untold}
 use Rattle.script_commands.specs.Commands.{delete_command}
 use Rattle.script_commands.specs.declared.Command.TheVariants.{Delete}
 use Rattle.script_commands.proofs.delete_command.Goals as goal

@@ -1,6 +1,6 @@
 -- `script_commands::table_command` meets its contract.
 -- A number that fits is the field's number.
-use Rattle.script_fields.specs.FieldsLaws.{number_told, number_untold}
+use Rattle.script_fields.proofs.FieldsLaws.{number_told, number_untold}
 use Rattle.script_commands.specs.Commands.{table_command}
 use Rattle.script_commands.specs.declared.Command.TheVariants.{Table}
 use Rattle.script_commands.proofs.table_command.Goals as goal

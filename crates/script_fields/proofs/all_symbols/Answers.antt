@@ -2,7 +2,7 @@
 -- The answer for the bytes left is that for the field, until one fails.
 use mathlib.Core.Path.{refl, sym, ◌∙◌}
 use Rattle.script_fields.specs.Fields.{symbol}
-use Rattle.script_fields.specs.FieldsLaws.{every_on, every_stop, every_end}
+use Rattle.script_fields.proofs.FieldsLaws.{every_on, every_stop, every_end}
 use Rattle.script_fields.proofs.all_symbols.Goals as goal
 
 pub loop-at-init : goal.loop-at-init

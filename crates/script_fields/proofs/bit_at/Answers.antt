@@ -2,7 +2,7 @@
 -- The test is the definition's; past the field's end there is no bit.
 use mathlib.Core.Path.{sym, ap}
 use Rattle.script_fields.specs.Fields.{one_if}
-use Rattle.script_fields.specs.FieldsLaws.{bit_past}
+use Rattle.script_fields.proofs.FieldsLaws.{bit_past}
 use Rattle.script_fields.proofs.bit_at.Goals as goal
 
 pub returns-then-field-at : goal.returns-then-field-at

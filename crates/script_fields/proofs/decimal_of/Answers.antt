@@ -7,8 +7,8 @@ use lib.ListN.{get_or, drop}
 use borrow.Author.Tests.{leb-true}
 use Rattle.search.specs.SearchLaws.{and_left}
 use Rattle.script_text.specs.Decimal.{decimal_on, digit}
-use Rattle.script_text.specs.DecimalLaws.{decimal_grows}
-use Rattle.script_fields.specs.FieldsLaws.{every_at, decimal_on_lem, decimal_end, decimal_small}
+use Rattle.script_text.proofs.DecimalLaws.{decimal_grows}
+use Rattle.script_fields.proofs.FieldsLaws.{every_at, decimal_on_lem, decimal_end, decimal_small}
 use Rattle.script_fields.proofs.decimal_of.Goals as goal
 
 pub loop-at-init : goal.loop-at-init

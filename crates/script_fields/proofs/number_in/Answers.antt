@@ -2,7 +2,7 @@
 -- Each return is one of the cases of the definition.
 use native.Mathlib.Omega.{arith}
 use mathlib.Core.Path.{sym, ◌∙◌}
-use Rattle.script_fields.specs.FieldsLaws.{number_none, number_long, number_other, number_fits, number_large}
+use Rattle.script_fields.proofs.FieldsLaws.{number_none, number_long, number_other, number_fits, number_large}
 use Rattle.script_fields.proofs.number_in.Goals as goal
 
 pub returns-then-field-lt1 : goal.returns-then-field-lt1

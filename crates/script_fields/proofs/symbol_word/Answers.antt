@@ -7,7 +7,7 @@ use Prim.Native.Nat.{ℕ, ◌+◌, ◌*◌}
 use native.Mathlib.Numerals.{add-one}
 use lib.ListN.{get_or}
 use Rattle.script_fields.specs.Fields.{bit_of, binary, symbol_word}
-use Rattle.script_fields.specs.FieldsLaws.{binary_half, one_if_small}
+use Rattle.script_fields.proofs.FieldsLaws.{binary_half, one_if_small}
 use Rattle.script_fields.proofs.symbol_word.Goals as goal
 
 pub loop-at-init : goal.loop-at-init

@@ -2,7 +2,7 @@
 -- The part up to the newline is held; each return is one of the ways in which taking bytes ends.
 use mathlib.Core.Path.{◌∙◌, ap}
 use Rattle.script_lines.specs.Held.{held_line}
-use Rattle.script_lines.specs.HeldLaws.{taken_nothing, held_nothing, part_within, part_taken, taken_line, taken_rest}
+use Rattle.script_lines.proofs.HeldLaws.{taken_nothing, held_nothing, part_within, part_taken, taken_line, taken_rest}
 use Rattle.script_lines.proofs.take_bytes.Goals as goal
 
 pub returns-then-block-from : goal.returns-then-block-from

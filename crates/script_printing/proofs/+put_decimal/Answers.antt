@@ -1,7 +1,7 @@
 -- On the way back each digit is printed behind those of the tenth.
 use Rattle.std.proofs.Common.{arith, ap}
 use Rattle.std.specs.Prelude.{length}
-use Rattle.script_text.specs.DecimalLaws.{digits_one, digits_more, digits_longer}
+use Rattle.script_text.proofs.DecimalLaws.{digits_one, digits_more, digits_longer}
 use Rattle.script_printing.specs.PrintingLaws.{printed_then}
 use Rattle.script_printing.proofs.+put_decimal.Goals as goal
 

@@ -5,7 +5,7 @@ use mathlib.Core.Path.{◌≡◌, refl, ap}
 use mathlib.Core.List.{[]}
 use lib.ListN.{length, drop, drop_of_length-le}
 use Rattle.script_text.specs.Parts.{first_part}
-use Rattle.script_text.specs.PartsLaws.{first_here, first_on}
+use Rattle.script_text.proofs.PartsLaws.{first_here, first_on}
 use Rattle.script_text.proofs.part_end.Goals as goal
 
 pub loop-at-init : goal.loop-at-init

@@ -8,20 +8,19 @@ use native.Mathlib.Numerals.{add-one}
 use lib.ListN.{length, get_or, set, take, drop, length-set}
 use lib.Seq.{paste, paste-zero, paste-suc, take_all}
 use Rattle.records.specs.Record.{record_words, put_slot}
-use Rattle.records.specs.Laws.{slot_within}
+use Rattle.records.proofs.Laws.{slot_within}
 use Rattle.slots.proofs.put_record.Goals as goal
 
 pub overflow_mul-first : goal.overflow_mul-first
 overflow_mul-first c = rw c.record_words.ensures (omega (arith, slot_within c.args.width c.args.table.now c.args.slot c.requires.1))
 
 pub loop-index-init : goal.loop-index-init
-loop-index-init c =
-    (
-      omega arith,
-      rw c.record_words.ensures (omega (arith, slot_within c.args.width c.args.table.now c.args.slot c.requires.1)),
-      refl,
-      paste-zero c.args.table.now (c.args.slot * c.record_words.result) c.args.words.now,
-    )
+loop-index-init c = (
+  omega arith,
+  rw c.record_words.ensures (omega (arith, slot_within c.args.width c.args.table.now c.args.slot c.requires.1)),
+  refl,
+  paste-zero c.args.table.now (c.args.slot * c.record_words.result) c.args.words.now,
+)
 
 pub loop-index-preserved : goal.loop-index-preserved
 loop-index-preserved c =

@@ -7,7 +7,7 @@ use lib.ListN.{length, get_or, set, length-set}
 use lib.Seq.{get_or-set_same, get_or-set_other}
 use Rattle.search.specs.SearchLaws.{below_suc}
 use Rattle.records.specs.Record.{record_words, slot_words}
-use Rattle.records.specs.RulesLaws.{listed_words, listed_cong}
+use Rattle.records.proofs.RulesLaws.{listed_words, listed_cong}
 use Rattle.slots.proofs.read_record.Goals as goal
 
 pub loop-index-init : goal.loop-index-init

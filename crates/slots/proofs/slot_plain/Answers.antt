@@ -6,7 +6,7 @@ use Prim.Native.Nat.{ℕ}
 use lib.Dec.{eqb}
 use borrow.Author.Tests.{eq-eqb}
 use Rattle.records.specs.Record.{sound_parts}
-use Rattle.records.specs.Laws.{ident_not_empty}
+use Rattle.records.proofs.Laws.{ident_not_empty}
 use Rattle.slots.proofs.slot_plain.Goals as goal
 
 pub returns-then-slot_id-eq0 : goal.returns-then-slot_id-eq0

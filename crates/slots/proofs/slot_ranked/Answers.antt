@@ -2,7 +2,7 @@
 -- The mask is asked where the rank is above all priorities.
 use mathlib.Core.Path.{sym, ◌∙◌}
 use native.Mathlib.Omega.{arith}
-use Rattle.records.specs.Laws.{rank_low, rank_exact, rank_past}
+use Rattle.records.proofs.Laws.{rank_low, rank_exact, rank_past}
 use Rattle.slots.proofs.slot_ranked.Goals as goal
 
 pub returns-then-rank-le-MOST_PRIORITY : goal.returns-then-rank-le-MOST_PRIORITY

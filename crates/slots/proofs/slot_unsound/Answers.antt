@@ -9,7 +9,7 @@ use borrow.Author.Tests.{eq-eqb, ne_eqb}
 use Rattle.ternary.specs.Pattern.{within}
 use Rattle.records.specs.Record.{slot_words, value, mask, rank, ident, rank_fits, sound_parts}
 use Rattle.records.specs.Checks.{unsound_at}
-use Rattle.records.specs.Laws.{ident_not_empty}
+use Rattle.records.proofs.Laws.{ident_not_empty}
 use Rattle.slots.proofs.slot_unsound.Goals as goal
 
 -- what is left of the definition where the slot has an id

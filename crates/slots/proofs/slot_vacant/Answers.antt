@@ -1,6 +1,6 @@
 -- `slots::slot_vacant` meets its contract: where check 2 passes, a slot is empty exactly when its word of id and action is 0.
 use mathlib.Core.Path.{◌∙◌}
-use Rattle.records.specs.Laws.{id_word}
+use Rattle.records.proofs.Laws.{id_word}
 use Rattle.slots.proofs.slot_vacant.Goals as goal
 
 pub returns : goal.returns

@@ -1,7 +1,7 @@
 -- `slots::slot_word` meets its contract.
 -- The product of slot and record words has two variables: the law on a slot's place in the table bounds it.
 use native.Mathlib.Omega.{arith}
-use Rattle.records.specs.Laws.{slot_within}
+use Rattle.records.proofs.Laws.{slot_within}
 use Rattle.slots.proofs.slot_word.Goals as goal
 
 pub overflow_mul-result : goal.overflow_mul-result

@@ -1,6 +1,6 @@
 -- `slots::slot_zero` meets its contract.
 -- A width that is not 2 is 5.
-use Rattle.records.specs.WidthsLaws.{other_width}
+use Rattle.records.proofs.WidthsLaws.{other_width}
 use Rattle.slots.proofs.slot_zero.Goals as goal
 
 pub slot_zero_by-requires : goal.slot_zero_by-requires

@@ -1,6 +1,6 @@
 -- `step_checks::check_progress` meets its contract.
 -- The progress is looked at where checks 1 and 2 pass.
-use Rattle.records.specs.Laws.{failed, passed}
+use Rattle.records.proofs.Laws.{failed, passed}
 use Rattle.carrying.specs.Carrying.{progress_checks}
 use Rattle.step_checks.proofs.check_progress.Goals as goal
 

@@ -1,7 +1,7 @@
 -- `step_checks::check_write` meets its contract.
 -- The rule is looked at where one is put in, then the write.
 use mathlib.Core.Path.{sym, ◌∙◌}
-use Rattle.carrying.specs.StepsLaws.{write_declined, write_fits, write_unfit}
+use Rattle.carrying.proofs.StepsLaws.{write_declined, write_fits, write_unfit}
 use Rattle.step_checks.proofs.check_write.Goals as goal
 
 pub returns-in-Fail : goal.returns-in-Fail

@@ -4,7 +4,7 @@ use mathlib.Core.Path.{sym, ◌∙◌}
 use native.Mathlib.Omega.{arith}
 use lib.ListN.{length}
 use Rattle.records.specs.Editions.{lent_rule}
-use Rattle.carrying.specs.StepsLaws.{step_declined, step_finished, step_unfit, step_wrote, progress_within}
+use Rattle.carrying.proofs.StepsLaws.{step_declined, step_finished, step_unfit, step_wrote, progress_within}
 use Rattle.step_checks.proofs.next_step.Goals as goal
 
 pub returns-in-Fail : goal.returns-in-Fail

@@ -4,7 +4,7 @@ use mathlib.Core.Path.{sym, ap, ◌∙◌}
 use mathlib.Core.Bool.{false≢true}
 use native.Mathlib.Omega.{arith}
 use Rattle.records.specs.Checks.{passes, table_checks}
-use Rattle.records.specs.Laws.{failed, passed, slot_checks_law}
+use Rattle.records.proofs.Laws.{failed, passed, slot_checks_law}
 use Rattle.table_checks.specs.SlotsLaws.{few_slots}
 use Rattle.table_checks.proofs.check_listed.Goals as goal
 

@@ -3,7 +3,7 @@
 use mathlib.Core.Path.{ap}
 use mathlib.Core.Bool.{false≢true}
 use Rattle.records.specs.Checks.{passes}
-use Rattle.records.specs.Laws.{failed, passed}
+use Rattle.records.proofs.Laws.{failed, passed}
 use Rattle.table_checks.proofs.check_pairs.Goals as goal
 
 pub returns-in-Fail : goal.returns-in-Fail

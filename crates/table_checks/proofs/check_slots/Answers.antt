@@ -2,8 +2,8 @@
 -- Check 2 is made where check 1 passes.
 use mathlib.Core.Path.{sym, ◌∙◌}
 use Rattle.records.specs.Checks.{slot_checks}
-use Rattle.records.specs.Laws.{failed, passed}
-use Rattle.records.specs.EntriesLaws.{shaped_slots}
+use Rattle.records.proofs.Laws.{failed, passed}
+use Rattle.records.proofs.EntriesLaws.{shaped_slots}
 use Rattle.table_checks.proofs.check_slots.Goals as goal
 
 pub returns-in-Fail : goal.returns-in-Fail

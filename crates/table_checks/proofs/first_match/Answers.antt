@@ -6,7 +6,7 @@ use native.Mathlib.Omega.{arith}
 use Rattle.search.specs.SearchLaws.{none_from_start, least_none}
 use Rattle.records.specs.Record.{word}
 use Rattle.records.specs.Order.{slots}
-use Rattle.records.specs.WidthsLaws.{slots_fit}
+use Rattle.records.proofs.WidthsLaws.{slots_fit}
 use Rattle.table_checks.specs.ScreenLaws.{screened, none_among, first_among}
 use Rattle.table_checks.proofs.first_match.Goals as goal
 

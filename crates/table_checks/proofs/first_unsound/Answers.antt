@@ -1,6 +1,6 @@
 -- `table_checks::first_unsound` meets its contract.
 -- A width that is not 2 is 5; the search goes on where the screen ended.
-use Rattle.records.specs.WidthsLaws.{other_width}
+use Rattle.records.proofs.WidthsLaws.{other_width}
 use Rattle.table_checks.proofs.first_unsound.Goals as goal
 
 pub skip_plain-requires : goal.skip_plain-requires

@@ -1,6 +1,6 @@
 -- `table_checks::match_among` meets its contract.
 -- A width that is not 2 is 5.
-use Rattle.records.specs.WidthsLaws.{other_width}
+use Rattle.records.proofs.WidthsLaws.{other_width}
 use Rattle.table_checks.proofs.match_among.Goals as goal
 
 pub match_among_by-requires : goal.match_among_by-requires

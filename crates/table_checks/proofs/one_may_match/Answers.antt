@@ -2,7 +2,7 @@
 -- Each of the four is asked where none before it matches.
 use mathlib.Core.Path.{sym, ◌∙◌}
 use native.Mathlib.Omega.{arith}
-use Rattle.records.specs.WidthsLaws.{slots_fit}
+use Rattle.records.proofs.WidthsLaws.{slots_fit}
 use Rattle.table_checks.proofs.one_may_match.Goals as goal
 
 pub may_match-requires : goal.may_match-requires

@@ -5,7 +5,7 @@ use Prim.Native.Nat.{◌-◌}
 use native.Mathlib.Omega.{arith}
 use borrow.Author.Tests.{not-false}
 use Rattle.search.specs.SearchLaws.{none_start, none_more}
-use Rattle.records.specs.Laws.{plain_sound}
+use Rattle.records.proofs.Laws.{plain_sound}
 use Rattle.table_checks.proofs.skip_plain.Goals as goal
 
 pub loop-slot-init : goal.loop-slot-init

@@ -1,6 +1,6 @@
 -- `table_checks::skip_unmatched` meets its contract.
 -- A width that is not 2 is 5.
-use Rattle.records.specs.WidthsLaws.{other_width}
+use Rattle.records.proofs.WidthsLaws.{other_width}
 use Rattle.table_checks.proofs.skip_unmatched.Goals as goal
 
 pub skip_unmatched_by-requires : goal.skip_unmatched_by-requires

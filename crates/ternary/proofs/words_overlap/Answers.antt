@@ -4,7 +4,7 @@ use mathlib.Core.Path.{ap}
 use Prim.Native.Nat.{ℕ}
 use lib.Bits.{bit_xor}
 use lib.Dec.{eqb}
-use Rattle.ternary.specs.BitLaws.{and_assoc}
+use Rattle.ternary.proofs.BitLaws.{and_assoc}
 use Rattle.ternary.specs.Word.{agree, both}
 use Rattle.ternary.proofs.words_overlap.Goals as goal
 

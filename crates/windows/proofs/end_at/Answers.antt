@@ -2,8 +2,8 @@
 -- The slot at the position exists; an empty one has no window.
 use mathlib.Core.Path.{sym, ◌∙◌}
 use native.Mathlib.Omega.{arith}
-use Rattle.positions.specs.PositionsLaws.{slot_below}
-use Rattle.records.specs.Laws.{slot_checks_law, table_checks_law}
+use Rattle.positions.proofs.PositionsLaws.{slot_below}
+use Rattle.records.proofs.Laws.{slot_checks_law, table_checks_law}
 use Rattle.windows.specs.WindowsLaws.{end_empty, end_window, window_high}
 use Rattle.windows.specs.ListedLaws.{listed_window}
 use Rattle.windows.proofs.end_at.Goals as goal

@@ -1,6 +1,6 @@
 -- `windows::fill_ends` meets its contract.
 -- A width that is not 2 is 5.
-use Rattle.records.specs.WidthsLaws.{other_width}
+use Rattle.records.proofs.WidthsLaws.{other_width}
 use Rattle.windows.proofs.fill_ends.Goals as goal
 
 pub fill_ends_by-requires : goal.fill_ends_by-requires

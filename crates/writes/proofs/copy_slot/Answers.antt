@@ -6,7 +6,7 @@ use native.Mathlib.Omega.{arith}
 use lib.ListN.{length, length-append}
 use lib.Seq.{take_at}
 use Rattle.records.specs.Record.{record_words, slot_words, put_slot}
-use Rattle.records.specs.RulesLaws.{length_listed}
+use Rattle.records.proofs.RulesLaws.{length_listed}
 use Rattle.writes.proofs.copy_slot.Goals as goal
 
 pub slice_bounds-put_record-end : goal.slice_bounds-put_record-end

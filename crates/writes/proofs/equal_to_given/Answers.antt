@@ -4,8 +4,8 @@ use mathlib.Core.Path.{ap}
 use mathlib.Core.Bool.{not, and-false}
 use borrow.Author.Tests.{eq-eqb, ne_eqb}
 use Rattle.records.specs.Record.{slot_words}
-use Rattle.records.specs.WidthsLaws.{lent_slot}
-use Rattle.carrying.specs.StepsLaws.{given_equal}
+use Rattle.records.proofs.WidthsLaws.{lent_slot}
+use Rattle.carrying.proofs.StepsLaws.{given_equal}
 use Rattle.writes.proofs.equal_to_given.Goals as goal
 
 pub returns-then-slot_rank-given_rank : goal.returns-then-slot_rank-given_rank

@@ -3,7 +3,7 @@
 use mathlib.Core.Path.{ap, ◌∙◌}
 use Rattle.plan_words.specs.PlanWordsLaws.{write_taken}
 use Rattle.records.specs.Editions.{lent_rule, ranked}
-use Rattle.carrying.specs.StepsLaws.{write_made, write_below}
+use Rattle.carrying.proofs.StepsLaws.{write_made, write_below}
 use Rattle.carrying.specs.Carrying.{put_checks}
 use Rattle.writes.proofs.make_write.Goals as goal
 

@@ -6,9 +6,9 @@ use Prim.Native.Nat.{ℕ, ◌+◌, ◌*◌}
 use native.Mathlib.Omega.{arith}
 use lib.ListN.{length, set}
 use Rattle.records.specs.Record.{record_words, put_slot}
-use Rattle.records.specs.Laws.{slot_within}
-use Rattle.records.specs.PutSlotLaws.{put_length, put_word}
-use Rattle.records.specs.EditionsLaws.{given_law, ranked_record_lem}
+use Rattle.records.proofs.Laws.{slot_within}
+use Rattle.records.proofs.PutSlotLaws.{put_length, put_word}
+use Rattle.records.proofs.EditionsLaws.{given_law, ranked_record_lem}
 use Rattle.records.specs.Editions.{lent_rule, lent_rank}
 use Rattle.writes.proofs.put_rule.Goals as goal
 

@@ -1,7 +1,7 @@
 -- `writes::slot_free` meets its contract.
 -- The other slots are asked for only where the slot is occupied.
 use mathlib.Core.Path.{sym, ◌∙◌}
-use Rattle.carrying.specs.StepsLaws.{free_empty, free_occupied}
+use Rattle.carrying.proofs.StepsLaws.{free_empty, free_occupied}
 use Rattle.writes.proofs.slot_free.Goals as goal
 
 pub returns-then-slot_empty : goal.returns-then-slot_empty

@@ -6,7 +6,7 @@ use Rattle.layout.specs.Write.{put}
 use Rattle.plan_words.specs.PlanWords.{write_of}
 use Rattle.records.specs.Editions.{lent_rule, ranked}
 use Rattle.records.specs.Writes.{fits_write}
-use Rattle.carrying.specs.StepsLaws.{fits_stopped, fits_settled, fits_roomed}
+use Rattle.carrying.proofs.StepsLaws.{fits_stopped, fits_settled, fits_roomed}
 use Rattle.writes.proofs.word_fits.Goals as goal
 
 pub returns-then-not-takes_rule : goal.returns-then-not-takes_rule

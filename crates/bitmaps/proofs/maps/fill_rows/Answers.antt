@@ -1,7 +1,7 @@
 -- `bitmaps::maps::fill_rows` meets its contract.
 -- Without places there are no rows. A width that is not 2 is 5.
 use native.Mathlib.Omega.{arith}
-use Rattle.records.specs.WidthsLaws.{other_width}
+use Rattle.records.proofs.WidthsLaws.{other_width}
 use Rattle.bitmaps.proofs.maps.fill_rows.Goals as goal
 
 pub returns-then-count-eq0 : goal.returns-then-count-eq0

@@ -7,7 +7,7 @@ use native.Mathlib.Numerals.{add-one}
 use native.Mathlib.Omega.{arith}
 use lib.Arith.{digits_lt}
 use Rattle.image.specs.Bytes.{number_at}
-use Rattle.image.specs.BytesLaws.{digit_room}
+use Rattle.image.proofs.BytesLaws.{digit_room}
 use Rattle.image.proofs.fields.number_at.Goals as goal
 
 byte : (c : goal.After-wide-byte) → c.wide-byte.result < 256

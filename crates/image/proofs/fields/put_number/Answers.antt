@@ -5,7 +5,7 @@ use Prim.Native.Nat.{ℕ, suc, ◌-◌}
 use native.Mathlib.Omega.{arith}
 use lib.ListN.{length-set}
 use Rattle.image.specs.Bytes.{bytes_of, store}
-use Rattle.image.specs.BytesLaws.{store_none, store_last}
+use Rattle.image.proofs.BytesLaws.{store_none, store_last}
 use Rattle.image.proofs.fields.put_number.Goals as goal
 
 pub loop-left-init : goal.loop-left-init

@@ -4,7 +4,7 @@ use mathlib.Core.Path.{sym, ap₂, ◌∙◌}
 use Prim.Native.Nat.{ℕ, ◌+◌, ◌*◌}
 use native.Mathlib.Omega.{arith}
 use Rattle.std.proofs.Common.{rules}
-use Rattle.image.specs.BytesLaws.{number_small, number_halves}
+use Rattle.image.proofs.BytesLaws.{number_small, number_halves}
 use Rattle.image.proofs.fields.word_at.Goals as goal
 
 pub overflow_mul-result : goal.overflow_mul-result

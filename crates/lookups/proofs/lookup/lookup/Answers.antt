@@ -1,8 +1,8 @@
 -- `lookups::lookup::lookup` meets its contract.
 -- The check of the width and of the key's words decides first.
 use mathlib.Core.Path.{sym, ◌∙◌}
-use Rattle.records.specs.Laws.{told_refused, told_answered}
-use Rattle.records.specs.WidthsLaws.{key_law}
+use Rattle.records.proofs.Laws.{told_refused, told_answered}
+use Rattle.records.proofs.WidthsLaws.{key_law}
 use Rattle.lookups.specs.Lookup.{lookup_call}
 use Rattle.lookups.proofs.lookup.lookup.Goals as goal
 

@@ -1,7 +1,7 @@
 -- `lookups::lookup::lookup_at` meets its contract.
 -- A refusal where a check fails; else the answer for the first match.
 use mathlib.Core.Path.{sym, ap, ◌∙◌}
-use Rattle.records.specs.Laws.{told_refused, told_answered, slot_checks_law, first_compared}
+use Rattle.records.proofs.Laws.{told_refused, told_answered, slot_checks_law, first_compared}
 use Rattle.table_checks.specs.SlotsLaws.{few_slots}
 use Rattle.lookups.specs.Lookup.{lookup_answer, match_told}
 use Rattle.lookups.proofs.lookup.lookup_at.Goals as goal

@@ -5,9 +5,9 @@ use mathlib.Core.Path.{◌≡◌, refl, sym, ap, ap₂, ◌∙◌}
 use Prim.Native.Nat.{ℕ, ◌+◌, ◌-◌, ◌*◌, ◌≤◌}
 use native.Mathlib.Omega.{arith}
 use lib.ListN.{length, take, drop}
-use Rattle.records.specs.Laws.{slot_within}
+use Rattle.records.proofs.Laws.{slot_within}
 use Rattle.lookups.specs.Lookup.{part_start_call, part_length_call}
-use Rattle.lookups.specs.LookupLaws.{shown_call_law, part_shown, part_hidden}
+use Rattle.lookups.proofs.LookupLaws.{shown_call_law, part_shown, part_hidden}
 use Rattle.lookups.proofs.lookup.slot_record.Goals as goal
 
 within : (c : goal.After-record_words-words)

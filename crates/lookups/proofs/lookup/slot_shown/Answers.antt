@@ -3,7 +3,7 @@
 use mathlib.Core.Path.{sym, ap, ◌∙◌}
 use Rattle.search.specs.SearchLaws.{and_more, and_stop}
 use Rattle.records.specs.Checks.{passes}
-use Rattle.records.specs.WidthsLaws.{width_law}
+use Rattle.records.proofs.WidthsLaws.{width_law}
 use Rattle.lookups.specs.Lookup.{shown_call}
 use Rattle.lookups.proofs.lookup.slot_shown.Goals as goal
 

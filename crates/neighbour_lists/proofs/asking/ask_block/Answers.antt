@@ -7,9 +7,9 @@ use lib.Bits.{bit_and, and_le_l}
 use Rattle.bitmaps.specs.FlagsLaws.{turned_less}
 use Rattle.neighbour_lists.specs.Lists.{precedes_slot, misordered_slots, rank_at, occupied_at}
 use Rattle.neighbour_lists.specs.Row.{InRow, Marks, Inside}
-use Rattle.neighbour_lists.specs.PairLaws.{pairing_at}
-use Rattle.neighbour_lists.specs.MarksLaws.{turn_block}
-use Rattle.neighbour_lists.specs.RowLaws.{skip_row, inside_skipped}
+use Rattle.neighbour_lists.proofs.PairLaws.{pairing_at}
+use Rattle.neighbour_lists.proofs.MarksLaws.{turn_block}
+use Rattle.neighbour_lists.proofs.RowLaws.{skip_row, inside_skipped}
 use Rattle.neighbour_lists.proofs.asking.ask_block.Goals as goal
 
 pub loop-left-init : goal.loop-left-init

@@ -2,9 +2,9 @@
 use mathlib.Core.Path.{sym, ◌∙◌}
 use borrow.Author.Tests.{not-true, not-false}
 use Rattle.records.specs.Record.{slot_words}
-use Rattle.neighbour_lists.specs.PairLaws.{pair_apart, pair_rising, pair_falling}
-use Rattle.neighbour_lists.specs.RowLaws.{asked_yes, asked_no}
-use Rattle.neighbour_lists.specs.MarksLaws.{asked_free_yes, asked_free_no}
+use Rattle.neighbour_lists.proofs.PairLaws.{pair_apart, pair_rising, pair_falling}
+use Rattle.neighbour_lists.proofs.RowLaws.{asked_yes, asked_no}
+use Rattle.neighbour_lists.proofs.MarksLaws.{asked_free_yes, asked_free_no}
 use Rattle.neighbour_lists.proofs.asking.ask_pair.Goals as goal
 
 pub returns-then-not-rules_overlap : goal.returns-then-not-rules_overlap

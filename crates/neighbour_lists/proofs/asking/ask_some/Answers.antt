@@ -1,8 +1,8 @@
 -- `neighbour_lists::asking::ask_some` meets its contract.
 use native.Mathlib.Omega.{arith}
 use Rattle.neighbour_lists.specs.Lists.{precedes_slot, misordered_slots, rank_at, occupied_at}
-use Rattle.neighbour_lists.specs.PairLaws.{pairing_at}
-use Rattle.neighbour_lists.specs.MarksLaws.{begin_row, needed_inside, screen_row, inside_screened}
+use Rattle.neighbour_lists.proofs.PairLaws.{pairing_at}
+use Rattle.neighbour_lists.proofs.MarksLaws.{begin_row, needed_inside, screen_row, inside_screened}
 use Rattle.neighbour_lists.proofs.asking.ask_some.Goals as goal
 
 pub returns-then-some-eq0 : goal.returns-then-some-eq0

@@ -6,8 +6,8 @@ use Prim.Native.Nat.{ℕ, ◌/◌}
 use native.Mathlib.Omega.{arith}
 use lib.ListN.{length, set}
 use Rattle.neighbour_lists.specs.Row.{next_kept, closed}
-use Rattle.neighbour_lists.specs.RowLaws.{next_stored, next_left, both_stored, both_left, length_next}
-use Rattle.neighbour_lists.specs.MarksLaws.{closed_stored, closed_left}
+use Rattle.neighbour_lists.proofs.RowLaws.{next_stored, next_left, both_stored, both_left, length_next}
+use Rattle.neighbour_lists.proofs.MarksLaws.{closed_stored, closed_left}
 use Rattle.neighbour_lists.proofs.asking.keep_pair.Goals as goal
 use Rattle.neighbour_lists.proofs.asking.keep_pair.Goals.{then-near-slot, else-near-slot}
 

@@ -2,8 +2,8 @@
 use mathlib.Core.Path.{sym, ◌∙◌}
 use borrow.Author.Tests.{not-true}
 use Rattle.neighbour_lists.specs.Lists.{precedes_slot, misordered_slots, rank_at, occupied_at}
-use Rattle.neighbour_lists.specs.PairLaws.{pairing_at, apart_quiet}
-use Rattle.neighbour_lists.specs.RowLaws.{settled_quiet}
+use Rattle.neighbour_lists.proofs.PairLaws.{pairing_at, apart_quiet}
+use Rattle.neighbour_lists.proofs.RowLaws.{settled_quiet}
 use Rattle.neighbour_lists.proofs.asking.quiet.Goals as goal
 
 pub returns-then-settled : goal.returns-then-settled

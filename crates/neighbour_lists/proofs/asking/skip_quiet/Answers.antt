@@ -3,7 +3,7 @@ use native.Mathlib.Omega.{arith}
 use borrow.Author.Tests.{not-false}
 use Rattle.bitmaps.specs.FlagsLaws.{turned_less}
 use Rattle.neighbour_lists.specs.Lists.{precedes_slot, misordered_slots}
-use Rattle.neighbour_lists.specs.RowLaws.{skip_none, skip_top, inside_skipped}
+use Rattle.neighbour_lists.proofs.RowLaws.{skip_none, skip_top, inside_skipped}
 use Rattle.neighbour_lists.proofs.asking.skip_quiet.Goals as goal
 
 pub loop-left-init : goal.loop-left-init

@@ -3,7 +3,7 @@ use mathlib.Core.Path.{ap, ◌∙◌}
 use Prim.Native.Nat.{ℕ, ◌*◌}
 use native.Mathlib.Omega.{arith}
 use Rattle.records.specs.Widths.{check_words}
-use Rattle.neighbour_lists.specs.LentLaws.{numbers_few}
+use Rattle.neighbour_lists.proofs.LentLaws.{numbers_few}
 use Rattle.neighbour_lists.proofs.lent.check_list.Goals as goal
 
 pub overflow_mul-slot_count : goal.overflow_mul-slot_count

@@ -5,7 +5,7 @@ use Prim.Native.Nat.{ℕ}
 use native.Mathlib.Omega.{arith}
 use lib.ListN.{take}
 use Rattle.neighbour_lists.specs.Lists.{differing}
-use Rattle.neighbour_lists.specs.LentLaws.{listed_front, differing_stale}
+use Rattle.neighbour_lists.proofs.LentLaws.{listed_front, differing_stale}
 use Rattle.neighbour_lists.proofs.lent.refresh_list.Goals as goal
 
 pub returns : goal.returns

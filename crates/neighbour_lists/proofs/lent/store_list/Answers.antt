@@ -8,7 +8,7 @@ use lib.Dec.{eqb}
 use lib.ListN.{length, get_or}
 use Rattle.search.specs.Search as S
 use Rattle.neighbour_lists.specs.Lists.{differing}
-use Rattle.neighbour_lists.specs.LentLaws.{stored_next, stored_all, differing_next}
+use Rattle.neighbour_lists.proofs.LentLaws.{stored_next, stored_all, differing_next}
 use Rattle.neighbour_lists.proofs.lent.store_list.Goals as goal
 
 pub loop-index-init : goal.loop-index-init

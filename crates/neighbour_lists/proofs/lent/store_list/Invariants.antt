@@ -4,7 +4,7 @@ use mathlib.Core.Path.{◌≡◌}
 use Prim.Native.Nat.{◌-◌, ◌≤◌}
 use lib.ListN.{length}
 use Rattle.neighbour_lists.specs.Lists.{differing}
-use Rattle.neighbour_lists.specs.LentLaws.{Stored}
+use Rattle.neighbour_lists.proofs.LentLaws.{Stored}
 use Rattle.neighbour_lists.proofs.lent.store_list.Given as goal
 
 abbrev pub invariant-loop-index : goal.invariant-loop-index

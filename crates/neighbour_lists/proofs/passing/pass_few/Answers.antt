@@ -1,6 +1,6 @@
 -- `neighbour_lists::passing::pass_few` meets its contract: the maps begin with no bit set, and 256 words are room for 8 places.
 use native.Mathlib.Omega.{arith}
-use Rattle.records.specs.RulesLaws.{zero_word}
+use Rattle.records.proofs.RulesLaws.{zero_word}
 use Rattle.neighbour_lists.proofs.passing.pass_few.Goals as goal
 
 pub pass_with-requires : goal.pass_with-requires

@@ -1,6 +1,6 @@
 -- `neighbour_lists::passing::pass_many` meets its contract: the maps begin with no bit set, and 2,048 words are room for 64 places.
 use native.Mathlib.Omega.{arith}
-use Rattle.records.specs.RulesLaws.{zero_word}
+use Rattle.records.proofs.RulesLaws.{zero_word}
 use Rattle.neighbour_lists.proofs.passing.pass_many.Goals as goal
 
 pub pass_with-requires : goal.pass_with-requires

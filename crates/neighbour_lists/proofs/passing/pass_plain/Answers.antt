@@ -2,7 +2,7 @@
 use lib.ListN.{replicate}
 use native.Mathlib.Omega.{arith}
 use Rattle.bitmaps.specs.RowsLaws.{spread_none, total_none}
-use Rattle.records.specs.RulesLaws.{zero_word}
+use Rattle.records.proofs.RulesLaws.{zero_word}
 use Rattle.neighbour_lists.proofs.passing.pass_plain.Goals as goal
 
 pub pass_with-requires : goal.pass_with-requires

@@ -1,6 +1,6 @@
 -- `neighbour_lists::passing::pass_screened` meets its contract: the words of chosen places begin with no bit set.
 use native.Mathlib.Omega.{arith}
-use Rattle.records.specs.RulesLaws.{zero_word}
+use Rattle.records.proofs.RulesLaws.{zero_word}
 use Rattle.neighbour_lists.proofs.passing.pass_screened.Goals as goal
 
 pub spread_places-requires : goal.spread_places-requires

@@ -1,8 +1,8 @@
 -- `neighbour_lists::passing::pass_with` meets its contract: in words that are all zero no slot is taken.
 use lib.ListN.{replicate}
 use native.Mathlib.Omega.{arith}
-use Rattle.records.specs.RulesLaws.{zero_word}
-use Rattle.neighbour_lists.specs.PassLaws.{taken_start}
+use Rattle.records.proofs.RulesLaws.{zero_word}
+use Rattle.neighbour_lists.proofs.PassLaws.{taken_start}
 use Rattle.neighbour_lists.proofs.passing.pass_with.Goals as goal
 
 pub take_slots-requires : goal.take_slots-requires

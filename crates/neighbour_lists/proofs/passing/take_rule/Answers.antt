@@ -4,7 +4,7 @@ use Prim.Native.Nat.{ℕ, ◌+◌, ◌*◌, ◌<◌}
 use native.Mathlib.Omega.{arith}
 use lib.ListN.{length, length-set}
 use Rattle.neighbour_lists.specs.Pass.{lowered}
-use Rattle.neighbour_lists.specs.PassLaws.{tells_screen, row_fits, row_told, row_begun, marks_begun, taken_rule}
+use Rattle.neighbour_lists.proofs.PassLaws.{tells_screen, row_fits, row_told, row_begun, marks_begun, taken_rule}
 use Rattle.neighbour_lists.proofs.passing.take_rule.Goals as goal
 
 pub ask_row-bad-requires : goal.ask_row-bad-requires

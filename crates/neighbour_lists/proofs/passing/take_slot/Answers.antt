@@ -5,7 +5,7 @@ use Prim.Native.Nat.{◌+◌, ◌*◌, ◌<◌}
 use native.Mathlib.Omega.{arith}
 use lib.ListN.{length, set, length-set}
 use Rattle.records.specs.Record.{slot_words, empty}
-use Rattle.neighbour_lists.specs.PassLaws.{row_told, row_empty, taken_empty}
+use Rattle.neighbour_lists.proofs.PassLaws.{row_told, row_empty, taken_empty}
 use Rattle.neighbour_lists.proofs.passing.take_slot.Goals as goal
 
 pub bounds-near-slot-then-slot_vacant : goal.bounds-near-slot-then-slot_vacant

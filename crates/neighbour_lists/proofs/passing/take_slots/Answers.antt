@@ -6,8 +6,8 @@ use Rattle.search.specs.Search.{least}
 use Rattle.search.specs.SearchLaws.{least_law}
 use Rattle.records.specs.Order.{slots}
 use Rattle.records.specs.Checks.{disorder_at}
-use Rattle.neighbour_lists.specs.ListsLaws.{least_grows, least_stays}
-use Rattle.neighbour_lists.specs.PassLaws.{taken_listed, room_kept}
+use Rattle.neighbour_lists.proofs.ListsLaws.{least_grows, least_stays}
+use Rattle.neighbour_lists.proofs.PassLaws.{taken_listed, room_kept}
 use Rattle.neighbour_lists.proofs.passing.take_slots.Goals as goal
 use Rattle.neighbour_lists.proofs.passing.take_slots.Goals.{then-first-slot, else-first-slot}
 

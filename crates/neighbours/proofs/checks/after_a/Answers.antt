@@ -1,6 +1,6 @@
 -- `neighbours::checks::after_a` meets its contract.
 -- A width that is not 2 is 5.
-use Rattle.records.specs.WidthsLaws.{other_width}
+use Rattle.records.proofs.WidthsLaws.{other_width}
 use Rattle.neighbours.proofs.checks.after_a.Goals as goal
 
 pub after_a_by-requires : goal.after_a_by-requires

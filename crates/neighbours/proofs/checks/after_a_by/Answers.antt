@@ -3,7 +3,7 @@
 use mathlib.Core.Path.{sym, ◌∙◌}
 use native.Mathlib.Omega.{arith}
 use Rattle.search.specs.SearchLaws.{none_above, none_lower, after_last_at, after_last_none}
-use Rattle.records.specs.WidthsLaws.{lent_slot}
+use Rattle.records.proofs.WidthsLaws.{lent_slot}
 use Rattle.neighbours.specs.Neighbours.{after_a}
 use Rattle.neighbours.proofs.checks.after_a_by.Goals as goal
 

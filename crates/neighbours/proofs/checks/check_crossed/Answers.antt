@@ -1,6 +1,6 @@
 -- `neighbours::checks::check_crossed` meets its contract.
 -- The comparison is the definition's.
-use Rattle.neighbours.specs.NeighboursLaws.{crossed_yes, crossed_no}
+use Rattle.neighbours.proofs.NeighboursLaws.{crossed_yes, crossed_no}
 use Rattle.neighbours.proofs.checks.check_crossed.Goals as goal
 
 pub returns-then-dependant-after : goal.returns-then-dependant-after

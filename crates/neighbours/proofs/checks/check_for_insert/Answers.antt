@@ -5,10 +5,10 @@ use mathlib.Core.List.{List}
 use Prim.Native.Nat.{ℕ}
 use borrow.Author.Rules.{rules}
 use Rattle.records.specs.Record.{slot_words}
-use Rattle.records.specs.Laws.{failed, passed}
+use Rattle.records.proofs.Laws.{failed, passed}
 use Rattle.records.specs.Editions.{lent_rule}
 use Rattle.records.specs.Checks.{check_records}
-use Rattle.records.specs.EditionsLaws.{ranked_passes, given_law, ranked_record_lem}
+use Rattle.records.proofs.EditionsLaws.{ranked_passes, given_law, ranked_record_lem}
 use Rattle.neighbours.specs.Neighbours.{new_checks, rule_checks}
 use Rattle.neighbours.proofs.checks.check_for_insert.Goals as goal
 

@@ -3,7 +3,7 @@
 use mathlib.Core.Path.{sym, ◌∙◌}
 use native.Mathlib.Omega.{arith}
 use Rattle.search.specs.SearchLaws.{none_start, none_more}
-use Rattle.neighbours.specs.NeighboursLaws.{room_at, room_none}
+use Rattle.neighbours.proofs.NeighboursLaws.{room_at, room_none}
 use Rattle.neighbours.proofs.checks.check_full.Goals as goal
 
 pub loop-slot-init : goal.loop-slot-init

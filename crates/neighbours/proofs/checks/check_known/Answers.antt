@@ -1,6 +1,6 @@
 -- `neighbours::checks::check_known` meets its contract.
 -- A width that is not 2 is 5.
-use Rattle.records.specs.WidthsLaws.{other_width}
+use Rattle.records.proofs.WidthsLaws.{other_width}
 use Rattle.neighbours.proofs.checks.check_known.Goals as goal
 
 pub check_known_by-requires : goal.check_known_by-requires

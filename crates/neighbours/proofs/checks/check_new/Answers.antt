@@ -3,9 +3,9 @@
 use mathlib.Core.Path.{sym, ◌∙◌}
 use Prim.{tt}
 use Rattle.records.specs.Record.{slot_words}
-use Rattle.records.specs.Laws.{failed}
+use Rattle.records.proofs.Laws.{failed}
 use Rattle.neighbours.specs.Neighbours.{new_checks}
-use Rattle.neighbours.specs.NeighboursLaws.{new_passed, new_searched, new_adds}
+use Rattle.neighbours.proofs.NeighboursLaws.{new_passed, new_searched, new_adds}
 use Rattle.neighbours.proofs.checks.check_new.Goals as goal
 
 pub returns-in-Fail : goal.returns-in-Fail

@@ -1,6 +1,6 @@
 -- `neighbours::checks::check_tie` meets its contract.
 -- A width that is not 2 is 5.
-use Rattle.records.specs.WidthsLaws.{other_width}
+use Rattle.records.proofs.WidthsLaws.{other_width}
 use Rattle.neighbours.proofs.checks.check_tie.Goals as goal
 
 pub check_tie_by-requires : goal.check_tie_by-requires

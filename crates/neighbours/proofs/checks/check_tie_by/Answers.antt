@@ -3,8 +3,8 @@
 use mathlib.Core.Path.{sym, ◌∙◌}
 use native.Mathlib.Omega.{arith}
 use Rattle.search.specs.SearchLaws.{none_start, none_more}
-use Rattle.records.specs.ChecksLaws.{lowest_at_lem, lowest_none}
-use Rattle.records.specs.WidthsLaws.{lent_slot}
+use Rattle.records.proofs.ChecksLaws.{lowest_at_lem, lowest_none}
+use Rattle.records.proofs.WidthsLaws.{lent_slot}
 use Rattle.neighbours.specs.Neighbours.{check_tie}
 use Rattle.neighbours.proofs.checks.check_tie_by.Goals as goal
 

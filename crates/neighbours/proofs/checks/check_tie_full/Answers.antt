@@ -1,6 +1,6 @@
 -- `neighbours::checks::check_tie_full` meets its contract.
 -- 9 is tested where 8 passes.
-use Rattle.records.specs.Laws.{failed, passed}
+use Rattle.records.proofs.Laws.{failed, passed}
 use Rattle.neighbours.proofs.checks.check_tie_full.Goals as goal
 
 pub returns-in-Fail : goal.returns-in-Fail

@@ -3,7 +3,7 @@
 use mathlib.Core.Path.{sym, ◌∙◌}
 use native.Mathlib.Omega.{arith}
 use Rattle.search.specs.SearchLaws.{none_start, none_more, first_from_at, first_from_none}
-use Rattle.records.specs.WidthsLaws.{lent_slot}
+use Rattle.records.proofs.WidthsLaws.{lent_slot}
 use Rattle.neighbours.specs.Neighbours.{covering_slot}
 use Rattle.neighbours.proofs.checks.covering_slot.Goals as goal
 

@@ -3,7 +3,7 @@
 use mathlib.Core.Path.{refl, sym}
 use Prim.{tt}
 use Rattle.records.specs.Record.{slot_words}
-use Rattle.neighbours.specs.NeighboursLaws.{search_found, search_none}
+use Rattle.neighbours.proofs.NeighboursLaws.{search_found, search_none}
 use Rattle.neighbours.proofs.checks.found_with.Goals as goal
 
 pub returns-then-slot-slot_count : goal.returns-then-slot-slot_count

@@ -1,6 +1,6 @@
 -- `neighbours::checks::replaced_slot` meets its contract.
 -- A width that is not 2 is 5.
-use Rattle.records.specs.WidthsLaws.{other_width}
+use Rattle.records.proofs.WidthsLaws.{other_width}
 use Rattle.neighbours.proofs.checks.replaced_slot.Goals as goal
 
 pub replaced_slot_by-requires : goal.replaced_slot_by-requires

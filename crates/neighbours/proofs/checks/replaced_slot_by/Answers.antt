@@ -3,7 +3,7 @@
 use mathlib.Core.Path.{sym, ◌∙◌}
 use native.Mathlib.Omega.{arith}
 use Rattle.search.specs.SearchLaws.{none_start, none_more, least_at, least_none}
-use Rattle.records.specs.WidthsLaws.{lent_slot}
+use Rattle.records.proofs.WidthsLaws.{lent_slot}
 use Rattle.neighbours.specs.Neighbours.{replaced_slot}
 use Rattle.neighbours.proofs.checks.replaced_slot_by.Goals as goal
 

@@ -1,6 +1,6 @@
 -- `neighbours::checks::slot_b` meets its contract.
 -- A width that is not 2 is 5.
-use Rattle.records.specs.WidthsLaws.{other_width}
+use Rattle.records.proofs.WidthsLaws.{other_width}
 use Rattle.neighbours.proofs.checks.slot_b.Goals as goal
 
 pub slot_b_by-requires : goal.slot_b_by-requires

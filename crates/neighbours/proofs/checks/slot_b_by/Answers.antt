@@ -3,7 +3,7 @@
 use mathlib.Core.Path.{sym, ◌∙◌}
 use native.Mathlib.Omega.{arith}
 use Rattle.search.specs.SearchLaws.{none_start, none_more, least_at, least_none}
-use Rattle.records.specs.WidthsLaws.{lent_slot}
+use Rattle.records.proofs.WidthsLaws.{lent_slot}
 use Rattle.neighbours.specs.Neighbours.{slot_b}
 use Rattle.neighbours.proofs.checks.slot_b_by.Goals as goal
 

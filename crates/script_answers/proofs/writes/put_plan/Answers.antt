@@ -4,7 +4,7 @@ use native.Mathlib.Omega.{arith}
 use lib.ListN.{length}
 use Rattle.script_printing.specs.PrintingLaws.{printed_then}
 use Rattle.script_answers.specs.Answers.{plan_bytes}
-use Rattle.script_answers.specs.RoomLaws.{count_short}
+use Rattle.script_answers.proofs.RoomLaws.{count_short}
 use Rattle.script_answers.proofs.writes.put_plan.Goals as goal
 
 pub line_of_one-next-requires : goal.line_of_one-next-requires

@@ -8,7 +8,7 @@ use Rattle.layout.specs.Write.{Write}
 use Rattle.plan_words.specs.PlanWords.{write_of}
 use Rattle.plan_words.specs.PlanWordsLaws.{write_taken}
 use Rattle.script_answers.specs.Answers.{printed_write}
-use Rattle.script_answers.specs.RoomLaws.{line_short}
+use Rattle.script_answers.proofs.RoomLaws.{line_short}
 use Rattle.script_answers.proofs.writes.put_write.Goals as goal
 
 short : (word : ℕ) → word < 4294967296 → {x : Write} → x ≡ write_of word → length (printed_write x) ≤ 14

@@ -8,7 +8,7 @@ use lib.ListN.{get_or}
 use Rattle.script_printing.specs.Printing.{Printed}
 use Rattle.script_printing.specs.PrintingLaws.{printed_none, printed_then}
 use Rattle.script_answers.specs.Answers.{printed_writes}
-use Rattle.script_answers.specs.RoomLaws.{line_short, writes_on, writes_all}
+use Rattle.script_answers.proofs.RoomLaws.{line_short, writes_on, writes_all}
 use Rattle.script_answers.proofs.writes.put_writes.Goals as goal
 
 pub loop-done-init : goal.loop-done-init

@@ -2,8 +2,8 @@
 -- 5 where the rule is unsound; else what the check of the edition says.
 use mathlib.Core.Path.{sym, ◌∙◌}
 use Rattle.records.specs.Editions.{check_given, check_sound}
-use Rattle.records.specs.WidthsLaws.{lent_slot}
-use Rattle.records.specs.EditionsLaws.{lent_sound}
+use Rattle.records.proofs.WidthsLaws.{lent_slot}
+use Rattle.records.proofs.EditionsLaws.{lent_sound}
 use Rattle.slots.proofs.given.check_given.Goals as goal
 
 pub slot_given-requires : goal.slot_given-requires

@@ -4,9 +4,9 @@ use mathlib.Core.Path.{sym, ◌∙◌}
 use mathlib.Core.Logic.{⊎_elim}
 use mathlib.Core.Logic.◌⊎◌.{inl, inr}
 use borrow.Author.Tests.{eq-eqb}
-use Rattle.records.specs.WidthsLaws.{lent_slot}
+use Rattle.records.proofs.WidthsLaws.{lent_slot}
 use Rattle.records.specs.Editions.{rank_of}
-use Rattle.records.specs.EditionsLaws.{rank_plain}
+use Rattle.records.proofs.EditionsLaws.{rank_plain}
 use Rattle.slots.proofs.given.given_rank.Goals as goal
 use Rattle.slots.proofs.given.given_rank.Goals.{then-edition-eq-EDITION_10+else-mask_full, else-edition-eq-EDITION_10}
 

@@ -4,8 +4,8 @@ use mathlib.Core.Path.{ap₂, ◌∙◌}
 use mathlib.Core.List.{List}
 use Prim.Native.Nat.{ℕ, ◌+◌, ◌*◌}
 use lib.ListN.{set}
-use Rattle.records.specs.WidthsLaws.{lent_slot}
-use Rattle.records.specs.EditionsLaws.{lent_entry}
+use Rattle.records.proofs.WidthsLaws.{lent_slot}
+use Rattle.records.proofs.EditionsLaws.{lent_entry}
 use Rattle.slots.proofs.given.rank_record.Goals as goal
 
 pub read_record-requires : goal.read_record-requires

@@ -5,8 +5,8 @@ use mathlib.Core.List.{List}
 use Prim.Native.Nat.{ℕ}
 use native.Mathlib.Omega.{arith}
 use Rattle.records.specs.Record.{word, sound_lent}
-use Rattle.records.specs.RulesLaws.{record_length, record_lent}
-use Rattle.records.specs.WidthsLaws.{two, lent_words}
+use Rattle.records.proofs.RulesLaws.{record_length, record_lent}
+use Rattle.records.proofs.WidthsLaws.{two, lent_words}
 use Rattle.slots.proofs.rules.rule_sound.Goals as goal
 
 pub slot_given-requires : goal.slot_given-requires

@@ -2,7 +2,7 @@
 -- Another width or another number of words is refused; else the call ends as the step does.
 use mathlib.Core.Path.{sym, ◌∙◌}
 use lib.ListN.{length}
-use Rattle.records.specs.WidthsLaws.{rule_law, call_refused, call_answered}
+use Rattle.records.proofs.WidthsLaws.{rule_law, call_refused, call_answered}
 use Rattle.records.specs.Editions.{lent_rule}
 use Rattle.carrying.specs.Carrying.{step_answer, step_table}
 use Rattle.steps.proofs.step.step.Goals as goal

@@ -4,7 +4,7 @@ use mathlib.Core.Path.{sym, ap, ◌∙◌}
 use native.Mathlib.Omega.{arith}
 use Rattle.records.specs.Editions.{lent_rule}
 use Rattle.carrying.specs.Carrying.{step_told}
-use Rattle.carrying.specs.StepsLaws.{answer_tells}
+use Rattle.carrying.proofs.StepsLaws.{answer_tells}
 use Rattle.steps.proofs.step.step_at.Goals as goal
 
 pub bounds-plan-done : goal.bounds-plan-done

@@ -7,8 +7,8 @@ use lib.ListN.{length}
 use borrow.Author.Rules.{rules}
 use Rattle.records.specs.Record.{word, rule_of}
 use Rattle.records.specs.Rules.{Fields}
-use Rattle.records.specs.RulesLaws.{record_length, rule_of_record}
-use Rattle.records.specs.WidthsLaws.{two}
+use Rattle.records.proofs.RulesLaws.{record_length, rule_of_record}
+use Rattle.records.proofs.WidthsLaws.{two}
 use Rattle.records.specs.Editions.{under13}
 use Rattle.records.specs.declared.Rule.{Rule}
 use Rattle.carrying.specs.Carrying.{step_answer, step_table}

@@ -2,7 +2,7 @@
 -- Each case of the step's answer tells the writes done.
 use mathlib.Core.Path.{sym, ◌∙◌}
 use Rattle.records.specs.Editions.{under13}
-use Rattle.carrying.specs.StepsLaws.{done_refused, answer_done}
+use Rattle.carrying.proofs.StepsLaws.{done_refused, answer_done}
 use Rattle.steps.proofs.whole.advance.Goals as goal
 
 pub returns-in-Wrote : goal.returns-in-Wrote

@@ -8,7 +8,7 @@ use borrow.Author.Tests.{ltb-true}
 use borrow.Author.Rules.{rules}
 use Rattle.search.specs.SearchLaws.{and_left, and_right}
 use Rattle.records.specs.Editions.{under13}
-use Rattle.carrying.specs.UntilLaws.{Under, under_start, under_next, under_less, under_end}
+use Rattle.carrying.proofs.UntilLaws.{Under, under_start, under_next, under_less, under_end}
 use Rattle.steps.proofs.whole.carry_whole.Goals as goal
 
 pub loop-wrote-init : goal.loop-wrote-init

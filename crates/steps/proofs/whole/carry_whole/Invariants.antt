@@ -5,7 +5,7 @@ use mathlib.Core.Path.{◌≡◌}
 use mathlib.Core.Bool.{cond}
 use lib.ListN.{length}
 use Rattle.records.specs.Editions.{under13}
-use Rattle.carrying.specs.UntilLaws.{Under}
+use Rattle.carrying.proofs.UntilLaws.{Under}
 use Rattle.steps.proofs.whole.carry_whole.Given as goal
 
 abbrev pub invariant-loop-wrote : goal.invariant-loop-wrote

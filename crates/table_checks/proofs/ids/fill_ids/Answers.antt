@@ -1,6 +1,6 @@
 -- `table_checks::ids::fill_ids` meets its contract.
 -- A width that is not 2 is 5.
-use Rattle.records.specs.WidthsLaws.{other_width}
+use Rattle.records.proofs.WidthsLaws.{other_width}
 use Rattle.table_checks.proofs.ids.fill_ids.Goals as goal
 
 pub fill_ids_by-requires : goal.fill_ids_by-requires

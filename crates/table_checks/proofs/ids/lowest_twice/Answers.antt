@@ -1,6 +1,6 @@
 -- `table_checks::ids::lowest_twice` meets its contract.
 -- A width that is not 2 is 5.
-use Rattle.records.specs.WidthsLaws.{other_width}
+use Rattle.records.proofs.WidthsLaws.{other_width}
 use Rattle.table_checks.proofs.ids.lowest_twice.Goals as goal
 
 pub lowest_twice_by-requires : goal.lowest_twice_by-requires

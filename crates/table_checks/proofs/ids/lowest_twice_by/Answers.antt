@@ -5,7 +5,7 @@ use mathlib.Core.Path.{refl, sym, ◌∙◌}
 use native.Mathlib.Omega.{arith}
 use Rattle.search.specs.SearchLaws.{none_start, none_more}
 use Rattle.records.specs.Checks.{check_twice}
-use Rattle.records.specs.ChecksLaws.{lowest_at_lem, lowest_none}
+use Rattle.records.proofs.ChecksLaws.{lowest_at_lem, lowest_none}
 use Rattle.table_checks.specs.IdsLaws.{seen_more}
 use Rattle.table_checks.proofs.ids.lowest_twice_by.Goals as goal
 

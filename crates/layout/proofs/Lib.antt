@@ -1,0 +1,20 @@
+-- What holds of the definitions of specs/.
+pub mod ChainLaws
+pub mod Changes
+pub mod ChooseLaws
+pub mod ClassTestLaws
+pub mod CostLaws
+pub mod Examples
+pub mod Exists
+pub mod HeldLaws
+pub mod InPlaceLaws
+pub mod InsertLaws
+pub mod MinimumLaws
+pub mod MirrorLaws
+pub mod OrderLaws
+pub mod PlanCostLaws
+pub mod RepliesLaws
+pub mod ValidLaws
+pub mod WriteLaws
+pub mod WrittenLaws
+pub mod Least

@@ -1,0 +1,4 @@
+-- What holds of the definitions of specs/.
+pub mod Examples
+pub mod LookupLaws
+pub mod WidthsLaws

@@ -1,0 +1,2 @@
+-- What holds of the definitions of specs/.
+pub mod PositionsLaws

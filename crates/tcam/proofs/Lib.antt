@@ -1,0 +1,5 @@
+-- What holds of the definitions of specs/.
+pub mod CarriedLaws
+pub mod CellsLaws
+pub mod ImagesLaws
+pub mod ListedCarriedLaws
