@@ -6,10 +6,10 @@ use Rattle.records.specs.Checks.{Told}
 use Rattle.records.specs.Editions.{lent_rule, ranked}
 use Rattle.buffers.specs.Buffers.{without_cover}
 use Rattle.insert_plans.specs.Inserts.{insert_call, insert_cover}
-use Rattle.insert_plans.specs.InsertsLaws.{call_reply_dropped}
+use Rattle.insert_plans.proofs.InsertsLaws.{call_reply_dropped}
 use Rattle.insert_plans.specs.Demand3.{Demand3}
 use Rattle.marshalling.specs.Cells.{flag_of, data_cell, spot_cell}
-use Rattle.marshalling.specs.CellsLaws.{cover_cells}
+use Rattle.marshalling.proofs.CellsLaws.{cover_cells}
 use Rattle.tcam.proofs.tcam_plan_insert.Goals as goal
 
 pub returns-clause-insert_left : goal.returns-clause-insert_left

@@ -4,7 +4,7 @@ use Rattle.std.proofs.Common.{subst, ap, ◌∙◌}
 use Rattle.records.specs.Checks.{Told}
 use Rattle.records.specs.Editions.{lent_rule, ranked}
 use Rattle.buffers.specs.Buffers.{without_cover}
-use Rattle.insert_plans.specs.ListedInsertsLaws.{listed_dropped}
+use Rattle.insert_plans.proofs.ListedInsertsLaws.{listed_dropped}
 use Rattle.insert_plans.specs.Demand3.{Demand3}
 use Rattle.marshalling.specs.Cells.{flag_of, data_cell, spot_cell}
 use Rattle.tcam.proofs.tcam_plan_insert_listed.Goals as goal

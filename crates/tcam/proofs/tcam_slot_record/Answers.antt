@@ -2,9 +2,9 @@
 -- The part's length tells whether the slot is shown.
 use Rattle.std.specs.Prelude.{◌≡◌, refl, Bool, true, false, List, ℕ, ◌*◌, ◌≤◌, length}
 use Rattle.std.proofs.Common.{sym, ap, ◌∙◌, arith}
-use Rattle.records.specs.Laws.{slot_within, slot_checks_length}
+use Rattle.records.proofs.Laws.{slot_within, slot_checks_length}
 use Rattle.lookups.specs.Lookup.{shown_call, part_length_call}
-use Rattle.lookups.specs.LookupLaws.{shown_call_law, part_count, part_none, part_some, part_shown, part_hidden}
+use Rattle.lookups.proofs.LookupLaws.{shown_call_law, part_count, part_none, part_some, part_shown, part_hidden}
 use Rattle.tcam.proofs.tcam_slot_record.Goals as goal
 
 few : (w : ℕ) (t : List ℕ) (i : ℕ) → part_length_call w t i ≤ 12
