@@ -1,5 +1,5 @@
 -- Laws on what the program makes of its reads and writes: one block more, one turn more, and why it stops.
-use Rattle.std.specs.Prelude.{◌≡◌, refl, Bool, true, false, ◌⊎◌, List, [], ◌∷◌, ◌++◌, ℕ, zero, suc, ◌+◌, ◌-◌, ◌≤◌, ◌<◌, min, length, take, Option, None, Some}
+use Rattle.std.specs.Prelude.{◌≡◌, refl, Bool, true, false, ◌⊎◌, List, [], ◌∷◌, ◌++◌, ℕ, zero, suc, ◌+◌, ◌-◌, ◌≤◌, ◌<◌, min, length, take, Option, None, Some, is_some}
 use Rattle.std.proofs.Common.{sym, ap, ◌∙◌, subst, true≢false, arith, append_assoc, append-nil, length-append, length-take, take_all}
 use Rattle.std.proofs.lemmas.Bool.{false≢true}
 use Rattle.std.proofs.Math.Logic.◌⊎◌.{inl, inr}
@@ -9,6 +9,7 @@ use Rattle.std.specs.Io.KnownBytes.{Consumes, IsAtEnd, Appends}
 use Rattle.script_lines.specs.Blocks.{whole, finished}
 use Rattle.script_printing.specs.Printing.{Shown}
 use Rattle.script.specs.Script.{line_outcome, table_in}
+use Rattle.script_turns.specs.declared.Place.{Place}
 use Rattle.script_turns.specs.declared.Turn.{Turn}
 use Rattle.script_turns.specs.Reading.{reading_of, Turned}
 use Rattle.script_transcripts.specs.Whole.{Kept, keeping, Called, Through, Read, opening, script_outcome}
@@ -274,12 +275,26 @@ unfolding TookRead
 read_end number buffer start before held went e m w s =
     subst (λ (x : Option ℕ). TookRead x buffer start before held went held start) (sym e) (m, w, s, refl, refl)
 
+-- both at once: nothing was read, for a failure or at the end
+pub read_none : (got : Option ℕ) (buffer : List ℕ) (start : Kept) (place : Place) (sent : Sent) (held : Option (List ℕ)) (told : Got) → count_or 0 got ≡ 0
+    → TookRead got buffer start sent held (record { place = place; sent = sent; got = told; more = false; well = is_some got }) held start
+unfolding TookRead
+read_none None buffer start place sent held told t = (refl, refl, refl, refl, refl)
+read_none (Some zero) buffer start place sent held told t = (refl, refl, refl, refl, refl)
+read_none (Some (suc k)) buffer start place sent held told t = absurd (omega (arith, t))
+
 take_min : (k : ℕ) (x : List ℕ) → take (min k (length x)) x ≡ take k x
 take_min k x = pick (dec_le k (length x))
   where
     pick : Dec (k ≤ length x) → take (min k (length x)) x ≡ take k x
     pick (yes h) = let e : min k (length x) ≡ k = omega arith in ap (λ (n : ℕ). take n x) e
     pick (no h) = take_all (min k (length x)) x (omega arith) ∙ sym (take_all k x (omega arith))
+
+-- the bytes of a read, by a count that is kept within the buffer
+pub block_counted : (number : Option ℕ) (buffer : List ℕ) (count : ℕ) → count ≡ min (count_or 0 number) (length buffer)
+    → take count buffer ≡ block_of number buffer
+block_counted (Some k) buffer count e = ap (λ (n : ℕ). take n buffer) e ∙ take_min k buffer
+block_counted None buffer count e = let none : count ≡ 0 = omega (arith, e) in ap (λ (n : ℕ). take n buffer) none
 
 pub read_some : (number : Option ℕ) (k : ℕ) (buffer : List ℕ) (start : Kept) (before : Sent) (held : Option (List ℕ)) (went : Went)
     (held' : Option (List ℕ)) (end : Kept) (count : ℕ) → number ≡ Some k → (k ≡ 0 → ⊥) → count ≡ min k (length buffer) → went.more ≡ went.well
