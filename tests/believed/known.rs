@@ -7,9 +7,7 @@ use std::collections::BTreeSet;
 use std::path::Path;
 
 /// Words of contracts, which the page explains.
-const CONTRACTS: [&str; 6] = ["now", "old", "new", "result", "requires", "ensures"];
-/// Functions of C, of whose answers the page speaks.
-const C: [&str; 2] = ["read", "write"];
+const CONTRACTS: [&str; 5] = ["now", "old", "new", "requires", "ensures"];
 /// The program that proves and builds, as in `rt check`.
 const PROGRAMS: [&str; 1] = ["rt"];
 
@@ -37,7 +35,7 @@ impl Known {
         }
         names.extend(files(&root.join("include"), "h").iter().flat_map(|path| header_names(path)));
         names.extend(folder(&root.join("tests")).iter().filter(|path| path.is_dir()).map(|path| stem(path)));
-        names.extend(CONTRACTS.iter().chain(&C).chain(&PROGRAMS).map(|name| name.to_string()));
+        names.extend(CONTRACTS.iter().chain(&PROGRAMS).map(|name| name.to_string()));
         Known { names }
     }
 

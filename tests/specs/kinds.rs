@@ -10,7 +10,7 @@ use std::collections::{BTreeSet, HashMap};
 const PLAIN: [&str; 4] = ["ℕ", "Bool", "String", "Char"];
 const CONTAINERS: [&str; 2] = ["List", "Option"];
 /// Types that say something, of the other libraries.
-const SAYINGS: [&str; 4] = ["⊥", "Unit", "Dec", "◌≡◌"];
+const SAYINGS: [&str; 7] = ["⊥", "Unit", "Dec", "◌≡◌", "IfSome", "Consumes", "Appends"];
 const RELATIONS: [&str; 8] = ["≡", "≢", "<", "≤", "↔", "⊎", "¬", "∣"];
 
 pub struct Kinds<'a> {

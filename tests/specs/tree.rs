@@ -276,8 +276,10 @@ fn crate_names(root: &Path) -> Vec<String> {
 fn listed_crates(list: &Path) -> Vec<String> {
     let mut found = Vec::new();
     for (number, line) in read(list).lines().enumerate().filter(|(_, line)| !line.starts_with('#') && !line.trim().is_empty()) {
-        let Some((name, _)) = line.split_once(':') else { panic!("{}:{}: no crate is named", list.display(), number + 1) };
-        found.push(name.trim().to_string());
+        // behind the name may stand of what kind the crate is
+        let name = line.split_once(':').and_then(|(head, _)| head.split_whitespace().next());
+        let Some(name) = name else { panic!("{}:{}: no crate is named", list.display(), number + 1) };
+        found.push(name.to_string());
     }
     found
 }

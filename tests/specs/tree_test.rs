@@ -89,7 +89,7 @@ twice_law n = law n
 ";
 
 const FILES: [(&str, &str); 6] = [
-    ("crates.txt", "# the crates\nlow:\nhigh: low\n"),
+    ("crates.txt", "# the crates\nlow:\nhigh staticlib: low\n"),
     ("docs/PROMISES.md", PROMISED),
     ("crates/low/specs/Base.antt", BASE),
     ("crates/low/src/lib.rt", SOURCE),
