@@ -17,16 +17,16 @@ use Rattle.buffers.specs.Buffers.{buffer_answer, buffer_after, check_room}
 use Rattle.buffers.proofs.BuffersLaws.{buffer_refused, buffer_written}
 use Rattle.neighbours.specs.Neighbours.{insert_checks}
 use Rattle.delete_plans.specs.Deletes.{delete_checks, delete_words, delete_answer, delete_plan}
-use Rattle.insert_plans.specs.Inserts.{planned_words, insert_answer, insert_plan}
+use Rattle.insert_plans.specs.Inserts.{planned_words}
 use Rattle.insert_plans.proofs.ReplacementsLaws.{planned_few}
 use Rattle.carrying.specs.Calls.{after_calls}
-use Rattle.histories.proofs.Demand2Laws.{demand_2_insert, demand_2_delete, carried_whole}
+use Rattle.histories.proofs.Demand2Laws.{demand_2_delete, carried_whole}
 use Rattle.script_lines.specs.Blocks.{Outcome}
 use Rattle.script_printing.specs.Printing.{Shown}
 use Rattle.script_answers.specs.Answers.{plan_bytes, refusal_bytes}
-use Rattle.script_operations.specs.Outcomes.{outcome_of, lookup_bytes, change_outcome, insert_outcome, delete_outcome, no_rule, Changed, WithinRoom}
+use Rattle.script_operations.specs.Outcomes.{outcome_of, lookup_bytes, change_outcome, delete_outcome, no_rule, Changed, WithinRoom}
 use Rattle.script_operations.specs.Outcomes.{plan_outcome}
-use Rattle.script_operations.specs.Told.{change_told, insert_told, delete_told, planned_told}
+use Rattle.script_operations.specs.Told.{change_told, delete_told, planned_told}
 
 -- a plan's answer is carried out and printed, or the refusal is
 module _ (t plan : List ℕ) (rule : Rule) {told : Told} {r : ℕ} {out out' : List ℕ} where
@@ -43,7 +43,7 @@ module _ (t plan : List ℕ) (rule : Rule) {told : Told} {r : ℕ} {out out' : L
       subst (λ (x : Told). Changed (plan_outcome x t plan rule) r t out out') (sym e) (rw (cause_not_zero cause) (record { table = refl; shown = s }))
 
 -- what a planning call answers and leaves in a buffer that is long enough comes to the change
-plan_is : (t : List ℕ) (rule : Rule) (checks : Check) (words plan : List ℕ) (after : List ℕ)
+pub plan_is : (t : List ℕ) (rule : Rule) (checks : Check) (words plan : List ℕ) (after : List ℕ)
     → (checks ≡ Pass → length words ≤ length plan)
     → (checks ≡ Pass → (after_calls 2 t (buffer_after checks words plan) (under13 rule) (length words) (length words)).table ≡ after)
     → WithinRoom (buffer_answer checks (length words) (length plan)) (length (buffer_after checks words plan))
@@ -67,37 +67,19 @@ plan_is t rule Pass words plan after long made =
     )
 
 -- and its answer is the change's
-told_is : (checks : Check) (words : List ℕ) (room : ℕ) → (checks ≡ Pass → length words ≤ room)
+pub told_is : (checks : Check) (words : List ℕ) (room : ℕ) → (checks ≡ Pass → length words ≤ room)
     → planned_told (buffer_answer checks (length words) room) ≡ change_told checks words
 unfolding buffer_answer check_room
 told_is (Fail cause spot) words room long = rw (cause_not_zero cause)
 told_is Pass words room long = rw (le-ltb room (length words) (long refl))
 
 -- the plan of an insert has at most as many words as the table has slots
-insert_short : (t : List ℕ) (rule : Rule) → rule.action < 4294967296 → insert_checks 2 false t (under13 rule) ≡ Pass → length (planned_words 2 false t rule) ≤ 1024
+pub insert_short : (t : List ℕ) (rule : Rule) → rule.action < 4294967296 → insert_checks 2 false t (under13 rule) ≡ Pass → length (planned_words 2 false t rule) ≤ 1024
 unfolding ranked rank_of insert_checks
 insert_short t rule small e =
     let table = ((or_else_pass (table_checks 2 false t) _).0 e).0 in
     let shape = ((slot_checks_law 2 t).0 ((table_checks_law 2 false t).0 table).0).0 in
     omega (arith, planned_few 2 false t (under13 rule) small e, (shaped_slots 2 t shape).1)
-
--- an I line
-pub insert_is : (t : List ℕ) (rule : Rule) (plan plan' : List ℕ) (told : Told) → rule.action < 4294967296 → length plan ≡ 1024
-    → told ≡ insert_answer 2 false t (under13 rule) (length plan) → plan' ≡ insert_plan 2 false t (under13 rule) plan
-    → WithinRoom told (length plan') × (plan_outcome told t plan' rule ≡ insert_outcome t rule)
-unfolding insert_outcome ranked rank_of
-insert_is t rule plan plan' told small n e f =
-    let words = planned_words 2 false t rule in
-    let long : insert_checks 2 false t (under13 rule) ≡ Pass → length words ≤ length plan = λ p. omega (arith, insert_short t rule small p, n) in
-    let r = plan_is t rule (insert_checks 2 false t (under13 rule)) words plan (apply_words 2 t rule words) long
-    (λ p. carried_whole (demand_2_insert 2 false t (under13 rule) plan (length words) small (sym (buffer_written words plan refl p (long p)).0))) in
-    subst₂ (λ (x : Told) (y : List ℕ). WithinRoom x (length y) × (plan_outcome x t y rule ≡ insert_outcome t rule)) (sym e) (sym f) r
-
-pub insert_told_lem : (t : List ℕ) (rule : Rule) (room : ℕ) (told : Told) → rule.action < 4294967296 → room ≡ 1024
-    → told ≡ insert_answer 2 false t (under13 rule) room → planned_told told ≡ insert_told t rule
-unfolding insert_told ranked rank_of
-insert_told_lem t rule room told small n e =
-    ap planned_told e ∙ told_is (insert_checks 2 false t (under13 rule)) (planned_words 2 false t rule) room (λ p. omega (arith, insert_short t rule small p, n))
 
 -- a D line
 pub delete_is : (t : List ℕ) (id : ℕ) (plan plan' : List ℕ) (told : Told) → length plan ≡ 1024

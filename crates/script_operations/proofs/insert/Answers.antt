@@ -13,7 +13,8 @@ use Rattle.records.specs.declared.Rule.{Rule}
 use Rattle.buffers.specs.Buffers.{without_cover}
 use Rattle.insert_plans.specs.Inserts.{insert_answer, insert_reply}
 use Rattle.insert_plans.proofs.InsertsLaws.{reply_dropped}
-use Rattle.script_operations.proofs.OutcomesLaws.{insert_is, insert_told_lem, changed_is}
+use Rattle.script_operations.proofs.OutcomesLaws.{changed_is}
+use Rattle.script_operations.proofs.InsertLinesLaws.{insert_is, insert_told_lem}
 use Rattle.script_operations.proofs.insert.Goals as goal
 
 planned : (t : List ℕ) (rule : Rule) (room : ℕ) {told : Told} → told ≡ insert_reply 2 false t (under13 rule) room → without_cover told ≡ insert_answer 2 false t (under13 rule) room
