@@ -127,7 +127,7 @@ module _ (start : Kept) (known : Known) (blocks : List (List ℕ)) (bytes : List
   by_answer None buffer went end known' same counted sum gave (m, w, s, h, e) = record {
     goes = λ t. absurd (false≢true (sym m ∙ t));
     failed = λ f. (
-      inr (sym same),
+      inr (sym same, omega (arith, counted)),
       broken [] [] kept 0 Called.begin went known' counted sum (kept_nothing has known'.left gave) (nothing_handed went.sent known'.held s h),
     );
     written = λ t. absurd (false≢true (sym w ∙ t));

@@ -1,6 +1,6 @@
 -- What the program makes of what a read and a write answered: a read that fails ends it, no bytes are the end of the input, any bytes are taken.
 -- A block is taken until its end, or until an answer cannot be written.
-use Rattle.std.specs.Prelude.{◌≡◌, true, false, ◌⊎◌, List, [], ◌∷◌, ◌++◌, ℕ, zero, suc, ◌+◌, min, length, take, Option, None, Some, IfSome}
+use Rattle.std.specs.Prelude.{◌≡◌, true, false, ◌⊎◌, List, [], ◌∷◌, ◌++◌, ℕ, zero, suc, ◌+◌, ◌≤◌, min, length, take, Option, None, Some, IfSome}
 use Rattle.std.specs.Io.KnownBytes.{Consumes, IsAtEnd, Appends}
 use Rattle.script_lines.specs.Blocks.{whole}
 use Rattle.script.specs.Script.{table_in}
@@ -45,9 +45,9 @@ TookRead (Some zero) buffer start before held went held' end =
 TookRead (Some (suc k)) buffer start before held went held' end =
     (went.more ≡ went.well) × (went.well ≡ went.sent.well) × TookBlock (take (suc k) buffer) start before held went.sent held' end
 
--- the program goes no further only after a write or a read that failed
+-- the program goes no further only after a write or a read that failed; a read was made, where there is no number
 abbrev pub Failed : Went → Type 0
-Failed went = (went.sent.well ≡ false) ⊎ (went.got.number ≡ None)
+Failed went = (went.sent.well ≡ false) ⊎ ((went.got.number ≡ None) × (1 ≤ went.got.reads))
 
 -- or where the last read answered no bytes, so that the reader has none left, unless 2^64 − 1 blocks were read, none of them empty
 abbrev pub Stopped : List (List ℕ) → Went → Option (List ℕ) → Type 0
