@@ -11,11 +11,12 @@ use records::{NARROW, WIDE};
 use slots::{mask_word, value_word};
 
 // The slots of a block that one of the rows has.
-pub fn apart_in(maps: &[u64], rows: &[usize], used: usize, block: usize) -> u64
-    requires used_in_bounds { (used ≤ length rows.now) × (block < 16) }
-    requires by_index { (m : ℕ) → m < used → get_or rows.now m 0 + 16 ≤ length maps.now }
-    ensures { result ≡ gathered maps.now rows.now block used }
+pub fn apart_in(maps: &[u64], rows: &[usize], block: usize) -> u64
+    requires block_bound { block < 16 }
+    requires by_index { (m : ℕ) → m < length rows.now → get_or rows.now m 0 + 16 ≤ length maps.now }
+    ensures { result ≡ gathered maps.now rows.now block (length rows.now) }
 {
+    let used = rows.len();
     // Without rows the maps need not reach the block.
     if used == 0 {
         return 0;
@@ -23,31 +24,27 @@ pub fn apart_in(maps: &[u64], rows: &[usize], used: usize, block: usize) -> u64
     // At a row's first place stands its word for the block.
     let words = &maps[block..maps.len()];
     let mut apart = 0u64;
-    let mut k = 0;
     // Two rows a turn: the loop's own instructions are paid once for both.
-    while k + 1 < used {
-        apart = apart | words[rows[k]] | words[rows[k + 1]];
-        k += 2;
+    for k in 0..used / 2 {
+        apart = apart | words[rows[2 * k]] | words[rows[2 * k + 1]];
     }
-    if k < used {
-        apart = apart | words[rows[k]];
+    if used % 2 == 1 {
+        apart = apart | words[rows[used - 1]];
     }
     apart
 }
 
 // A slot noted in rows.
-pub fn note_rows(maps: &mut [u64], own: &[usize], used: usize, slot: usize)
-    requires used_in_bounds { (used ≤ length own.now) × (slot < most_slots) }
-    requires by_index { (m : ℕ) → m < used → get_or own.now m 0 + 16 ≤ length maps.old }
-    ensures { maps.new ≡ noted maps.old own.now (slot / 64) (slot % 64) used }
+pub fn note_rows(maps: &mut [u64], own: &[usize], slot: usize)
+    requires slot_bound { slot < most_slots }
+    requires by_index { (m : ℕ) → m < length own.now → get_or own.now m 0 + 16 ≤ length maps.old }
+    ensures { maps.new ≡ noted maps.old own.now (slot / 64) (slot % 64) (length own.now) }
 {
     let block = slot / 64;
     let s = slot % 64;
-    let mut k = 0;
-    while k < used {
-        let at = own[k] + block;
+    for row in own {
+        let at = *row + block;
         maps[at] = set_bit(maps[at], s);
-        k += 1;
     }
 }
 
@@ -102,12 +99,10 @@ fn fill_rows_by(
     ensures { (result ≤ count) × RowsOf width table.now places.now count slot others.new own.new result }
 {
     let mut used = 0;
-    let mut word = 0;
-    while word < width {
+    for word in 0..width {
         used = fill_word(
             table, slot, word, places, count, chosen, starts, others, own, used, width,
         );
-        word += 1;
     }
     used
 }
@@ -132,6 +127,7 @@ pub fn fill_rows(
     if count == 0 {
         return 0;
     }
+    // Not by `at_width`: it does not say what its work leaves in the lent arrays.
     if width == NARROW {
         return fill_rows_by(
             table, slot, places, count, chosen, starts, others, own, NARROW,

@@ -23,12 +23,10 @@ fn count_bits(planes: &mut [u64], word: u64)
     requires { 6 ≤ length planes.old }
 {
     let mut carry = word;
-    let mut k = 0;
-    while k < 6 {
+    for k in 0..6 {
         let both = planes[k] & carry;
         planes[k] = planes[k] ^ carry;
         carry = both;
-        k += 1;
     }
 }
 
@@ -42,41 +40,28 @@ fn count_at(planes: &[u64], s: usize) -> u32
     (low + 8 * high) as u32
 }
 
-// Of 32 slots that are `step` apart, those that have a 1 at each place of a word of their values, and those that care there with a 0.
-fn count_word(
-    table: &[u64],
-    word: usize,
-    step: usize,
-    ones: &mut [u64],
-    zeros: &mut [u64],
-    width: usize,
-)
-    requires { (Width width) × (slots width table.now ≤ most_slots) × (word < width) × (step ≤ 33) × (6 ≤ length ones.old) × (6 ≤ length zeros.old) }
+// Of up to 32 slots that are as far apart, those that have a 1 at each place of a word of their values, and those that care there with a 0.
+fn count_word(table: &[u64], word: usize, ones: &mut [u64], zeros: &mut [u64], width: usize)
+    requires { (Width width) × (slots width table.now ≤ most_slots) × (word < width) × (6 ≤ length ones.old) × (6 ≤ length zeros.old) }
 {
     let slots = slot_count(table, width);
-    let mut slot = 0;
-    let mut left = 32u32;
-    while (0 < left) & (slot < slots) {
+    for slot in (0..slots).step_by(slots / 32 + 1) {
         let value = value_word(table, slot, word, width);
         count_bits(ones, value);
         count_bits(zeros, mask_word(table, slot, word, width) ^ value);
-        slot += step;
-        left -= 1;
     }
 }
 
 // How well each place of a word tells those slots apart: the product of the two counts, at most 256.
-fn score_word(table: &[u64], scores: &mut [u16], word: usize, step: usize, width: usize)
-    requires { (Width width) × (slots width table.now ≤ most_slots) × (word < width) × (step ≤ 33) × (64 * width ≤ length scores.old) × Below scores.old (64 * word) 257 }
+fn score_word(table: &[u64], scores: &mut [u16], word: usize, width: usize)
+    requires { (Width width) × (slots width table.now ≤ most_slots) × (word < width) × (64 * width ≤ length scores.old) × Below scores.old (64 * word) 257 }
     ensures { Below scores.new (64 * word + 64) 257 }
 {
     let mut ones = [0u64; 6];
     let mut zeros = [0u64; 6];
-    count_word(table, word, step, &mut ones, &mut zeros, width);
-    let mut s = 0;
-    while s < 64 {
+    count_word(table, word, &mut ones, &mut zeros, width);
+    for s in 0..64 {
         scores[64 * word + s] = at_most(count_at(&ones, s) * count_at(&zeros, s), 256) as u16;
-        s += 1;
     }
 }
 
@@ -85,11 +70,8 @@ fn fill_scores(table: &[u64], scores: &mut [u16], width: usize)
     requires { (Width width) × (slots width table.now ≤ most_slots) × (64 * width ≤ length scores.old) }
     ensures { Below scores.new (64 * width) 257 }
 {
-    let step = slot_count(table, width) / 32 + 1;
-    let mut word = 0;
-    while word < width {
-        score_word(table, scores, word, step, width);
-        word += 1;
+    for word in 0..width {
+        score_word(table, scores, word, width);
     }
 }
 
@@ -114,8 +96,7 @@ fn take_above(
 {
     let mut left = chosen.left;
     let mut count = chosen.count;
-    let mut place = 0;
-    while place < 64 * width {
+    for place in 0..64 * width {
         let score = scores[place] as u32;
         if (level < score) & (10737418 < left) & (count < 64) {
             places[count] = place;
@@ -123,7 +104,6 @@ fn take_above(
             left = left - left / 1024 * (2 * score);
             scores[place] = 0;
         }
-        place += 1;
     }
     Chosen { left, count }
 }
@@ -157,23 +137,15 @@ pub fn choose_places(table: &[u64], places: &mut [usize], width: usize) -> usize
 }
 
 // Chosen places as bits of as many words as a value has, with the first row of each by its place.
-pub fn spread_places(
-    places: &[usize],
-    count: usize,
-    chosen: &mut [u64],
-    starts: &mut [u16],
-    width: usize,
-)
-    requires width { (Width width) × (count ≤ 64) × (count ≤ length places.now) × (width ≤ length chosen.old) × (64 * width ≤ length starts.old) }
-    requires below { Below places.now count (64 * width) × ((word : ℕ) → get_or chosen.old word 0 ≡ 0) }
-    ensures { (total chosen.new width ≤ count) × Spread places.now count chosen.new starts.new }
+pub fn spread_places(places: &[usize], chosen: &mut [u64], starts: &mut [u16], width: usize)
+    requires width { (Width width) × (length places.now ≤ 64) × (width ≤ length chosen.old) × (64 * width ≤ length starts.old) }
+    requires below { Below places.now (length places.now) (64 * width) × ((word : ℕ) → get_or chosen.old word 0 ≡ 0) }
+    ensures { (total chosen.new width ≤ length places.now) × Spread places.now (length places.now) chosen.new starts.new }
 {
-    let mut k = 0;
-    while k < count {
+    for k in 0..places.len() {
         let place = places[k];
         let word = place / 64;
         chosen[word] = set_bit(chosen[word], place % 64);
         starts[place] = (32 * k) as u16;
-        k += 1;
     }
 }

@@ -1,37 +1,25 @@
 -- End theorems on lent buffers: how a call that writes into one ends, and that its answer loses nothing.
-use Rattle.std.specs.Prelude.{◌≡◌, refl, Bool, true, false, List, [], ◌∷◌, ◌++◌, ℕ, ◌<◌, ◌≤◌, eqb, length, get_or, drop}
-use Rattle.std.proofs.Common.{sym, ap, ap₂, ◌∙◌, true≢false, arith, lt-ltb, le-ltb, eqb-true}
+use Rattle.std.specs.Prelude.{◌≡◌, refl, Bool, true, false, List, [], ◌∷◌, ◌++◌, ℕ, ◌<◌, ◌≤◌, eqb, length, get_or, drop, Result, Ok}
+use Rattle.std.proofs.Common.{sym, ap, ◌∙◌, true≢false, arith, lt-ltb, le-ltb, eqb-true}
 use Rattle.std.proofs.Math.Decide.{dec_lt}
 use Rattle.records.specs.Checks.{Told, success, refusal, unless, or_else}
-use Rattle.records.proofs.Laws.{cause_number_once, cause_not_zero}
+use Rattle.records.proofs.Laws.{cause_not_zero, answer_told_once}
 use Rattle.records.specs.declared.Cause.{Cause}
 use Rattle.records.specs.declared.Cause.TheVariants.{Short}
-use Rattle.records.specs.declared.Check.{Check}
-use Rattle.records.specs.declared.Check.TheVariants.{Pass, Fail}
-use Rattle.buffers.specs.declared.PlanAnswer.{PlanAnswer}
-use Rattle.buffers.specs.declared.PlanAnswer.TheVariants.{Planned, Refused}
-use Rattle.buffers.specs.declared.InsertAnswer.{InsertAnswer}
-use Rattle.buffers.specs.declared.InsertAnswer.TheVariants.{Planned as Inserted, Refused as Declined}
+use Rattle.records.specs.Verdict.{Check}
+use Rattle.records.specs.Verdict.{Pass, Fail}
+use Rattle.records.specs.declared.Refusal.{Refusal}
+use Rattle.buffers.specs.declared.PlanInfo.{PlanInfo}
 use Rattle.buffers.specs.declared.InsertInfo.{InsertInfo}
-use Rattle.buffers.specs.declared.ListedAnswer.{ListedAnswer}
-use Rattle.buffers.specs.declared.ListedAnswer.TheVariants.{Planned as InsertedListed, Refused as DeclinedListed}
+use Rattle.buffers.specs.declared.ListedInfo.{ListedInfo}
 use Rattle.buffers.specs.Buffers.{plan_told, insert_answer_told, listed_answer_told, flag_number, with_refreshed, with_cover, without_cover, buffer_after, buffer_answer, check_room}
 
 -- an answer's number and values lose nothing
-pub plan_told_once : (a b : PlanAnswer) → plan_told a ≡ plan_told b → a ≡ b
-plan_told_once (Planned x) (Planned y) e = λ i. Planned (record { count = ap (λ (t : Told). get_or t.values 0 0) e i })
-plan_told_once (Planned x) (Refused c s) e = absurd (true≢false (ap (λ (t : Told). eqb t.number 0) e ∙ cause_not_zero c))
-plan_told_once (Refused c s) (Planned y) e = absurd (true≢false (ap (λ (t : Told). eqb t.number 0) (sym e) ∙ cause_not_zero c))
-plan_told_once (Refused c s) (Refused d u) e =
-    ap₂ Refused (cause_number_once c d (ap (λ (t : Told). t.number) e)) (ap (λ (t : Told). get_or t.values 0 0) e)
+pub plan_told_once : (a b : Result PlanInfo Refusal) → plan_told a ≡ plan_told b → a ≡ b
+plan_told_once = answer_told_once _ (λ x y e i. record { count = ap (λ (l : List ℕ). get_or l 0 0) e i })
 
-pub insert_told_once : (a b : InsertAnswer) → insert_answer_told a ≡ insert_answer_told b → a ≡ b
-insert_told_once (Inserted x) (Inserted y) e =
-    λ i. Inserted (record { count = ap (λ (t : Told). get_or t.values 0 0) e i; covered = ap (λ (t : Told). get_or t.values 1 0) e i })
-insert_told_once (Inserted x) (Declined c s) e = absurd (true≢false (ap (λ (t : Told). eqb t.number 0) e ∙ cause_not_zero c))
-insert_told_once (Declined c s) (Inserted y) e = absurd (true≢false (ap (λ (t : Told). eqb t.number 0) (sym e) ∙ cause_not_zero c))
-insert_told_once (Declined c s) (Declined d u) e =
-    ap₂ Declined (cause_number_once c d (ap (λ (t : Told). t.number) e)) (ap (λ (t : Told). get_or t.values 0 0) e)
+pub insert_told_once : (a b : Result InsertInfo Refusal) → insert_answer_told a ≡ insert_answer_told b → a ≡ b
+insert_told_once = answer_told_once _ (λ x y e i. record { count = ap (λ (l : List ℕ). get_or l 0 0) e i; covered = ap (λ (l : List ℕ). get_or l 1 0) e i })
 
 -- a flag's number is no other flag's
 pub flag_once : (a b : Bool) → flag_number a ≡ flag_number b → a ≡ b
@@ -40,15 +28,12 @@ flag_once true false e = absurd (omega (arith, e))
 flag_once false true e = absurd (omega (arith, e))
 flag_once false false e = refl
 
-pub listed_told_once : (a b : ListedAnswer) → listed_answer_told a ≡ listed_answer_told b → a ≡ b
-listed_told_once (InsertedListed x) (InsertedListed y) e =
-    let value : (k : ℕ) → get_or (listed_answer_told (InsertedListed x)).values k 0 ≡ get_or (listed_answer_told (InsertedListed y)).values k 0
-    = λ k. ap (λ (t : Told). get_or t.values k 0) e in
-    λ i. InsertedListed (record { count = value 0 i; covered = value 1 i; refreshed = flag_once x.refreshed y.refreshed (value 2) i })
-listed_told_once (InsertedListed x) (DeclinedListed c s) e = absurd (true≢false (ap (λ (t : Told). eqb t.number 0) e ∙ cause_not_zero c))
-listed_told_once (DeclinedListed c s) (InsertedListed y) e = absurd (true≢false (ap (λ (t : Told). eqb t.number 0) (sym e) ∙ cause_not_zero c))
-listed_told_once (DeclinedListed c s) (DeclinedListed d u) e =
-    ap₂ DeclinedListed (cause_number_once c d (ap (λ (t : Told). t.number) e)) (ap (λ (t : Told). get_or t.values 0 0) e)
+pub listed_told_once : (a b : Result ListedInfo Refusal) → listed_answer_told a ≡ listed_answer_told b → a ≡ b
+listed_told_once = answer_told_once _ (λ x y e i. record {
+  count = ap (λ (l : List ℕ). get_or l 0 0) e i;
+  covered = ap (λ (l : List ℕ). get_or l 1 0) e i;
+  refreshed = flag_once x.refreshed y.refreshed (ap (λ (l : List ℕ). get_or l 2 0) e) i;
+})
 
 -- the number that a success holds more: a refusal has none, ..
 pub cover_refused : (cause : Cause) (spot covered : ℕ) {told : Told} → refusal cause spot ≡ told → refusal cause spot ≡ with_cover told covered
@@ -75,10 +60,10 @@ cover_dropped checks needed room covered = pick (or_else checks (check_room need
 pub refreshed_refused : (cause : Cause) (spot : ℕ) (flag : Bool) {told : Told} → refusal cause spot ≡ told → refusal cause spot ≡ with_refreshed told flag
 refreshed_refused cause spot flag e = sym (rw (cause_not_zero cause)) ∙ ap (λ (t : Told). with_refreshed t flag) e
 
-pub refreshed_planned : {a : InsertAnswer} {info : InsertInfo} {flag stale : Bool} {told : Told} → a ≡ Inserted info → insert_answer_told a ≡ told → flag ≡ stale
+pub refreshed_planned : {a : Result InsertInfo Refusal} {info : InsertInfo} {flag stale : Bool} {told : Told} → a ≡ Ok info → insert_answer_told a ≡ told → flag ≡ stale
     → success (info.count ∷ info.covered ∷ flag_number flag ∷ []) ≡ with_refreshed told stale
 refreshed_planned {info = info} {stale = stale} e f g =
-    ap (with_refreshed (insert_answer_told (Inserted info))) g ∙ ap (λ (t : Told). with_refreshed t stale) (sym (ap insert_answer_told e) ∙ f)
+    ap (with_refreshed (insert_answer_told (Ok info))) g ∙ ap (λ (t : Told). with_refreshed t stale) (sym (ap insert_answer_told e) ∙ f)
 
 pub refreshed_dropped : (told : Told) (covered : ℕ) (flag : Bool) → without_cover (with_refreshed (with_cover told covered) flag) ≡ without_cover (with_cover told covered)
 refreshed_dropped told covered flag = pick (eqb told.number 0) refl

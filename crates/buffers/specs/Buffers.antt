@@ -1,35 +1,30 @@
 -- What a call that writes into a lent buffer answers and leaves there, given its checks and the contents that it is to write: a plan's words or
 -- an image's bytes. Inserts, deletes and saves differ in these two alone.
-use Rattle.std.specs.Prelude.{Bool, cond, List, [], ◌∷◌, ◌++◌, ℕ, eqb, ltb, length, get_or, take, drop}
-use Rattle.records.specs.Checks.{Told, success, refusal, unless, passes, or_else}
+use Rattle.std.specs.Prelude.{Bool, cond, List, [], ◌∷◌, ◌++◌, ℕ, eqb, ltb, length, get_or, take, drop, Result}
+use Rattle.records.specs.Checks.{Told, success, answer_told, unless, passes, or_else}
 use Rattle.records.specs.declared.Cause.TheVariants.{Short}
-use Rattle.records.specs.declared.Check.{Check}
-use Rattle.records.specs.declared.Check.TheVariants.{Pass, Fail}
-use Rattle.buffers.specs.declared.PlanAnswer.{PlanAnswer}
-use Rattle.buffers.specs.declared.PlanAnswer.TheVariants.{Planned, Refused}
-use Rattle.buffers.specs.declared.InsertAnswer.{InsertAnswer}
-use Rattle.buffers.specs.declared.InsertAnswer.TheVariants.{Planned as Inserted, Refused as Declined}
-use Rattle.buffers.specs.declared.ListedAnswer.{ListedAnswer}
-use Rattle.buffers.specs.declared.ListedAnswer.TheVariants.{Planned as InsertedListed, Refused as DeclinedListed}
+use Rattle.records.specs.Verdict.{Check}
+use Rattle.records.specs.Verdict.{Pass, Fail}
+use Rattle.records.specs.declared.Refusal.{Refusal}
+use Rattle.buffers.specs.declared.PlanInfo.{PlanInfo}
+use Rattle.buffers.specs.declared.InsertInfo.{InsertInfo}
+use Rattle.buffers.specs.declared.ListedInfo.{ListedInfo}
 
 -- document 01's number and values for each case of a planning call's answer
-abbrev pub plan_told : PlanAnswer → Told
-plan_told (Planned info) = success (info.count ∷ [])
-plan_told (Refused cause spot) = refusal cause spot
+abbrev pub plan_told : Result PlanInfo Refusal → Told
+plan_told answer = answer_told (λ info. info.count ∷ []) answer
 
 -- the same of an insert, whose success holds the slot of the rule that covers the new one too
-abbrev pub insert_answer_told : InsertAnswer → Told
-insert_answer_told (Inserted info) = success (info.count ∷ info.covered ∷ [])
-insert_answer_told (Declined cause spot) = refusal cause spot
+abbrev pub insert_answer_told : Result InsertInfo Refusal → Told
+insert_answer_told answer = answer_told (λ info. info.count ∷ info.covered ∷ []) answer
 
 -- a flag as a number
 abbrev pub flag_number : Bool → ℕ
 flag_number flag = cond flag 1 0
 
 -- the same with a neighbour list, whose success tells too whether the list was worked out afresh
-abbrev pub listed_answer_told : ListedAnswer → Told
-listed_answer_told (InsertedListed info) = success (info.count ∷ info.covered ∷ flag_number info.refreshed ∷ [])
-listed_answer_told (DeclinedListed cause spot) = refusal cause spot
+abbrev pub listed_answer_told : Result ListedInfo Refusal → Told
+listed_answer_told answer = answer_told (λ info. info.count ∷ info.covered ∷ flag_number info.refreshed ∷ []) answer
 
 -- an insert's answer whose success holds whether a list was worked out afresh
 abbrev pub with_refreshed : Told → Bool → Told

@@ -8,8 +8,8 @@ use Rattle.std.proofs.lemmas.List.{take-append-le}
 use borrow.Author.Tests.{le-leb}
 use Rattle.records.specs.Checks.{Told}
 use Rattle.records.specs.Editions.{Given}
-use Rattle.records.specs.declared.Check.{Check}
-use Rattle.records.specs.declared.Check.TheVariants.{Pass, Fail}
+use Rattle.records.specs.Verdict.{Check}
+use Rattle.records.specs.Verdict.{Pass, Fail}
 use Rattle.carrying.specs.Carrying.{progress_checks, step_answer, step_writes, step_table, step_done}
 use Rattle.carrying.specs.Steps.{StepEnds}
 use Rattle.carrying.proofs.StepsLaws.{step_still, step_declined, step_finished, progress_within}

@@ -13,8 +13,8 @@ use Rattle.records.proofs.EntriesLaws.{shaped_slots}
 use Rattle.records.specs.Editions.{Given, lent_rule, ranked, known_edition, check_sound, check_edition, check_given}
 use Rattle.records.specs.declared.Cause.{Cause}
 use Rattle.records.specs.declared.Cause.TheVariants.{Shape, Record, Rule as RuleCause, Write as WriteCause, Edition as EditionCause}
-use Rattle.records.specs.declared.Check.{Check}
-use Rattle.records.specs.declared.Check.TheVariants.{Pass, Fail}
+use Rattle.records.specs.Verdict.{Check}
+use Rattle.records.specs.Verdict.{Pass, Fail}
 use Rattle.carrying.specs.Carrying.{progress_checks, put_checks, fits_carried, write_checks, step_answer, step_call}
 
 -- the spot is below n, of a check that fails and of a refusal that is told

@@ -1,6 +1,6 @@
 -- End theorems on a step: the tests of one write as the code makes them, and the ways in which a step ends.
 -- A step that is refused or finished leaves the table and the writes done as they were.
-use Rattle.std.specs.Prelude.{◌≡◌, refl, Bool, false, not, cond, ◌&&◌, ◌||◌, ◌≢◌, ◌⊎◌, List, [], ◌∷◌, ℕ, ◌+◌, ◌*◌, ◌≤◌, ◌<◌, eqb, ltb, leb, length, get_or, set}
+use Rattle.std.specs.Prelude.{◌≡◌, refl, Bool, false, not, cond, ◌&&◌, ◌||◌, ◌≢◌, ◌⊎◌, List, [], ◌∷◌, ℕ, ◌+◌, ◌*◌, ◌≤◌, ◌<◌, eqb, ltb, leb, length, get_or, set, Option, Some, None, Result, Ok, Err}
 use Rattle.std.proofs.Math.Path.{sym}
 use Rattle.std.proofs.Common.{ap, ap₂, subst, ◌∙◌, true≢false, get_or-set_same, get_or-set_other, arith}
 use Rattle.std.proofs.Math.Bool.{true, and-true}
@@ -12,7 +12,7 @@ use Rattle.plan_words.specs.PlanWords.{write_of, SlotsBelow}
 use Rattle.records.specs.Record.{word, slot_words, rank, empty, occupied, sound_rule, record_words, record_of, rule_of}
 use Rattle.records.specs.Order.{slots, same_pattern, equal_rule}
 use Rattle.records.specs.Checks.{Told, success, refusal, unless, passes, slot_checks}
-use Rattle.records.proofs.Laws.{failed, passed, or_else_pass, pass_law, sound_law, cause_not_zero, cause_number_once}
+use Rattle.records.proofs.Laws.{failed, passed, or_else_pass, pass_law, sound_law, cause_not_zero, answer_told_once}
 use Rattle.records.specs.Widths.{Width, check_rule, leaves}
 use Rattle.records.proofs.WidthsLaws.{rule_law, lent_words}
 use Rattle.records.proofs.RulesLaws.{rule_action}
@@ -23,12 +23,12 @@ use Rattle.records.proofs.EditionsLaws.{given_law, rank_sound, ranked_action, ra
 use Rattle.records.specs.declared.Rule.{Rule}
 use Rattle.records.specs.declared.Cause.{Cause}
 use Rattle.records.specs.declared.Cause.TheVariants.{Write as WriteCause}
-use Rattle.records.specs.declared.Check.{Check}
-use Rattle.records.specs.declared.Check.TheVariants.{Pass, Fail}
+use Rattle.records.specs.Verdict.{Check}
+use Rattle.records.specs.Verdict.{Pass, Fail}
 use Rattle.records.proofs.WritesLaws.{fits_below}
-use Rattle.carrying.specs.declared.StepAnswer.{StepAnswer}
-use Rattle.carrying.specs.declared.StepAnswer.TheVariants.{Wrote, Finished, Refused}
-use Rattle.carrying.specs.Carrying.{step_told, done_told, progress_checks, put_checks, over_equal, fits_carried, written_slot, takes_rule, needs_no_room, write_checks, step_answer, step_writes, step_table, step_done}
+use Rattle.records.specs.declared.Refusal.{Refusal}
+use Rattle.carrying.specs.declared.StepInfo.{StepInfo}
+use Rattle.carrying.specs.Carrying.{step_told, step_values, done_told, progress_checks, put_checks, over_equal, fits_carried, written_slot, takes_rule, needs_no_room, write_checks, step_answer, step_writes, step_table, step_done}
 use Rattle.carrying.specs.Carrying.{step_call, step_call_table, step_call_done}
 use Rattle.carrying.specs.Steps.{StepEnds, StepTells}
 
@@ -177,17 +177,14 @@ module _ (w : ℕ) (t plan : List ℕ) (given : Given) (done total : ℕ) {x : C
     step_wrote i = let g = sym e ∙ f in let b = ne_eqb done total d in let j = sym h ∙ i in (rw (g, b, j), rw (g, b, j), rw (g, b, j))
 
 -- answers that tell the same are the same: the number and the values of a case lose nothing
-pub step_told_once : (a b : StepAnswer) → step_told a ≡ step_told b → a ≡ b
-step_told_once (Wrote x) (Wrote y) e = λ i. Wrote (record { done = ap (λ (t : Told). get_or t.values 0 0) e i })
-step_told_once (Wrote x) Finished e = absurd (omega (arith, ap (λ (t : Told). length t.values) e))
-step_told_once (Wrote x) (Refused c s) e = absurd (true≢false (ap (λ (t : Told). eqb t.number 0) e ∙ cause_not_zero c))
-step_told_once Finished (Wrote y) e = absurd (omega (arith, ap (λ (t : Told). length t.values) e))
-step_told_once Finished Finished e = refl
-step_told_once Finished (Refused c s) e = absurd (true≢false (ap (λ (t : Told). eqb t.number 0) e ∙ cause_not_zero c))
-step_told_once (Refused c s) (Wrote y) e = absurd (true≢false (ap (λ (t : Told). eqb t.number 0) (sym e) ∙ cause_not_zero c))
-step_told_once (Refused c s) Finished e = absurd (true≢false (ap (λ (t : Told). eqb t.number 0) (sym e) ∙ cause_not_zero c))
-step_told_once (Refused c s) (Refused d u) e =
-    ap₂ Refused (cause_number_once c d (ap (λ (t : Told). t.number) e)) (ap (λ (t : Told). get_or t.values 0 0) e)
+pub step_told_once : (a b : Result (Option StepInfo) Refusal) → step_told a ≡ step_told b → a ≡ b
+step_told_once = answer_told_once step_values same
+  where
+    same : (x y : Option StepInfo) → step_values x ≡ step_values y → x ≡ y
+    same (Some x) (Some y) e = λ i. Some (record { done = ap (λ (l : List ℕ). get_or l 0 0) e i })
+    same (Some x) None e = absurd (omega (arith, ap (λ (l : List ℕ). length l) e))
+    same None (Some y) e = absurd (omega (arith, ap (λ (l : List ℕ). length l) e))
+    same None None e = refl
 
 -- the writes done that an answer tells: of a refusal as many as before
 pub done_refused : (cause : Cause) (spot before : ℕ) → done_told (refusal cause spot) before ≡ before
@@ -207,7 +204,7 @@ done_told_lem w t plan given done total =
     turn Pass false (Fail cause spot) = done_refused cause spot done
     turn (Fail cause spot) b y = done_refused cause spot done
 
-pub answer_done : (w : ℕ) (t plan : List ℕ) (given : Given) (done total : ℕ) {a b : StepAnswer} → a ≡ b → step_told a ≡ step_answer w t plan given done total
+pub answer_done : (w : ℕ) (t plan : List ℕ) (given : Given) (done total : ℕ) {a b : Result (Option StepInfo) Refusal} → a ≡ b → step_told a ≡ step_answer w t plan given done total
     → done_told (step_told b) done ≡ step_done w t plan given done total
 answer_done w t plan given done total e f = ap (λ (told : Told). done_told told done) (sym (ap step_told e) ∙ f) ∙ done_told_lem w t plan given done total
 
@@ -239,7 +236,7 @@ accepted_progress w t plan given done total values e = pick (progress_checks w t
         absurd (true≢false (ap (λ (t : Told). eqb t.number 0) (sym told) ∙ cause_not_zero cause))
 
 -- an answer tells whether the step writes, and what its checks have then shown: of an answer that tells the same as the step's
-pub answer_tells : (w : ℕ) (t plan : List ℕ) (given : Given) (done total : ℕ) {a b : StepAnswer} → a ≡ b → step_told a ≡ step_answer w t plan given done total
+pub answer_tells : (w : ℕ) (t plan : List ℕ) (given : Given) (done total : ℕ) {a b : Result (Option StepInfo) Refusal} → a ≡ b → step_told a ≡ step_answer w t plan given done total
     → StepTells w t plan given done total b
 unfolding step_writes
 answer_tells w t plan given done total {a} {b} e f =
@@ -247,7 +244,7 @@ answer_tells w t plan given done total {a} {b} e f =
     subst (StepTells w t plan given done total) (step_told_once end.0 b (end.1 ∙ (sym f ∙ ap step_told e))) end.2
   where
     End : Type 0
-    End = (x : StepAnswer) × (step_told x ≡ step_answer w t plan given done total) × StepTells w t plan given done total x
+    End = (x : Result (Option StepInfo) Refusal) × (step_told x ≡ step_answer w t plan given done total) × StepTells w t plan given done total x
 
     next : progress_checks w t (length plan) done total ≡ Pass → done ≢ total
         → (y : Check) → y ≡ write_checks w t given (get_or plan done 0) done → End
@@ -255,7 +252,7 @@ answer_tells w t plan given done total {a} {b} e f =
         let r = step_wrote w t plan given done total (sym p) refl d h refl in
         let fit = checked_write w t given (get_or plan done 0) done (sym h) in
         let inside = progress_within w t (length plan) done total p in (
-          Wrote (record { done = done + 1 }),
+          Ok (Some (record { done = done + 1 })),
           r.0,
           record {
             progress = p;
@@ -268,15 +265,15 @@ answer_tells w t plan given done total {a} {b} e f =
           },
         )
     next p d (Fail cause spot) h =
-        let r = step_unfit w t plan given done total (sym p) refl d h refl in (Refused cause spot, r.0, r.1)
+        let r = step_unfit w t plan given done total (sym p) refl d h refl in (Err (record { cause = cause; spot = spot }), r.0, r.1)
 
     passing : progress_checks w t (length plan) done total ≡ Pass → (eqb done total ≡ true) ⊎ (eqb done total ≡ false) → End
-    passing p (inl d) = let r = step_finished w t plan given done total (sym p) refl (eqb-true done total d) in (Finished, r.0, r.1)
+    passing p (inl d) = let r = step_finished w t plan given done total (sym p) refl (eqb-true done total d) in (Ok None, r.0, r.1)
     passing p (inr d) = next p (eqb-false done total d) (write_checks w t given (get_or plan done 0) done) refl
 
     ends : (x : Check) → x ≡ progress_checks w t (length plan) done total → End
     ends Pass h = passing (sym h) (decided (eqb done total))
-    ends (Fail cause spot) h = let r = step_declined w t plan given done total h refl in (Refused cause spot, r.0, r.1)
+    ends (Fail cause spot) h = let r = step_declined w t plan given done total h refl in (Err (record { cause = cause; spot = spot }), r.0, r.1)
 
 -- a step that does not write answers the same again, and leaves the state as it is
 pub step_still : (w : ℕ) (t plan : List ℕ) (given : Given) (done total : ℕ) → step_writes w t plan given done total ≡ false

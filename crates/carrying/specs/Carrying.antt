@@ -1,26 +1,28 @@
 -- Document 01, "Carrying out": what a step answers, and the table and the writes done after it, for every table, plan, rule with its edition, and progress.
 -- The step's contract is an equation with these definitions, at the width that the call names.
-use Rattle.std.specs.Prelude.{Bool, true, false, not, cond, ◌&&◌, ◌||◌, List, [], ◌∷◌, ℕ, ◌+◌, eqb, ltb, leb, length, get_or}
+use Rattle.std.specs.Prelude.{Bool, true, false, not, cond, ◌&&◌, ◌||◌, List, [], ◌∷◌, ℕ, ◌+◌, eqb, ltb, leb, length, get_or, Option, Some, None, Result}
 use Rattle.layout.specs.Write.{Write, copy, put, clear}
 use Rattle.plan_words.specs.PlanWords.{write_of}
 use Rattle.records.specs.Record.{word as word_at, slot_words, record_of}
 use Rattle.records.specs.Order.{slots, equal_rule}
-use Rattle.records.specs.Checks.{Told, success, refusal, unless, passes, or_else, slot_checks}
+use Rattle.records.specs.Checks.{Told, success, answer_told, unless, passes, or_else, slot_checks}
 use Rattle.records.specs.Widths.{check_rule, leaves}
 use Rattle.records.specs.Writes.{fits_write, apply_word}
 use Rattle.records.specs.Editions.{Given, lent_rule, ranked, check_given}
 use Rattle.records.specs.declared.Rule.{Rule}
 use Rattle.records.specs.declared.Cause.TheVariants.{Write as WriteCause}
-use Rattle.records.specs.declared.Check.{Check}
-use Rattle.records.specs.declared.Check.TheVariants.{Pass, Fail}
-use Rattle.carrying.specs.declared.StepAnswer.{StepAnswer}
-use Rattle.carrying.specs.declared.StepAnswer.TheVariants.{Wrote, Finished, Refused}
+use Rattle.records.specs.Verdict.{Check}
+use Rattle.records.specs.Verdict.{Pass, Fail}
+use Rattle.records.specs.declared.Refusal.{Refusal}
+use Rattle.carrying.specs.declared.StepInfo.{StepInfo}
 
 -- document 01's number and values for each case of a step's answer
-abbrev pub step_told : StepAnswer → Told
-step_told (Wrote info) = success (info.done ∷ [])
-step_told Finished = success []
-step_told (Refused cause spot) = refusal cause spot
+abbrev pub step_values : Option StepInfo → List ℕ
+step_values (Some info) = info.done ∷ []
+step_values None = []
+
+abbrev pub step_told : Result (Option StepInfo) Refusal → Told
+step_told answer = answer_told step_values answer
 
 -- the writes done after an answer: those that a write tells, or as many as before
 abbrev pub done_told : Told → ℕ → ℕ

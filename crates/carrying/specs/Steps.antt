@@ -1,12 +1,12 @@
 -- How a step ends: its answer, the table and the writes done afterwards, as one statement; and what its answer tells of the rest.
-use Rattle.std.specs.Prelude.{◌≡◌, true, List, ℕ, ◌≤◌, ◌<◌, length, get_or}
+use Rattle.std.specs.Prelude.{◌≡◌, true, List, ℕ, ◌≤◌, ◌<◌, length, get_or, Option, Some, None, Result, Ok, Err}
 use Rattle.plan_words.specs.PlanWords.{write_of}
 use Rattle.records.specs.Checks.{Told}
 use Rattle.records.specs.Writes.{apply_word}
 use Rattle.records.specs.Editions.{Given, ranked}
-use Rattle.records.specs.declared.Check.TheVariants.{Pass}
-use Rattle.carrying.specs.declared.StepAnswer.{StepAnswer}
-use Rattle.carrying.specs.declared.StepAnswer.TheVariants.{Wrote, Finished, Refused}
+use Rattle.records.specs.Verdict.{Pass}
+use Rattle.records.specs.declared.Refusal.{Refusal}
+use Rattle.carrying.specs.declared.StepInfo.{StepInfo}
 use Rattle.carrying.specs.Carrying.{progress_checks, put_checks, fits_carried, step_answer, step_writes, step_table, step_done}
 
 -- how a step ends: the answer, the table and the writes done afterwards
@@ -25,7 +25,7 @@ pub record Writes (w : ℕ) (t plan : List ℕ) (given : Given) (done total : �
   pub made : apply_word w t (ranked w given) (get_or plan done 0) ≡ step_table w t plan given done total
 
 -- what an answer tells: that the step writes, or that the table is as it was
-abbrev pub StepTells : ℕ → List ℕ → List ℕ → Given → ℕ → ℕ → StepAnswer → Type 0
-StepTells w t plan given done total (Wrote info) = Writes w t plan given done total
-StepTells w t plan given done total Finished = t ≡ step_table w t plan given done total
-StepTells w t plan given done total (Refused cause spot) = t ≡ step_table w t plan given done total
+abbrev pub StepTells : ℕ → List ℕ → List ℕ → Given → ℕ → ℕ → Result (Option StepInfo) Refusal → Type 0
+StepTells w t plan given done total (Ok (Some info)) = Writes w t plan given done total
+StepTells w t plan given done total (Ok None) = t ≡ step_table w t plan given done total
+StepTells w t plan given done total (Err refused) = t ≡ step_table w t plan given done total

@@ -2,21 +2,9 @@
 // A position's cost rests on those of the positions after it; nothing here knows what a slot holds.
 #![tactic(auto)]
 
-ghost use Rattle.std.specs.Prelude.{◌≡◌, ◌+◌, ◌-◌, ◌≤◌, ◌<◌, min, length};
+ghost use Rattle.std.specs.Prelude.{◌≡◌, ◌+◌, ◌-◌, ◌≤◌, ◌<◌, length};
 ghost use Rattle.layout.specs.Minimum.{minimum};
 ghost use Rattle.costs.specs.Costs.{cost_of, position_cost, Sized, Filled};
-
-fn lesser_cost(a: u16, b: u16) -> u16
-    ensures { result ≡ min a b }
-{
-    if a < b { a } else { b }
-}
-
-pub fn lesser(a: usize, b: usize) -> usize
-    ensures { result ≡ min a b }
-{
-    if a < b { a } else { b }
-}
 
 // The least of `top` and the costs of the positions from `from` up to, not including, `to`.
 // The minimum is kept in 16 bits, so that several costs are compared at a time.
@@ -25,11 +13,9 @@ pub fn least_between(costs: &[u16], from: usize, to: usize, top: usize) -> usize
     requires top_bound { top < 65536 }
     ensures { result ≡ minimum (cost_of costs.now) top (to - from) from }
 {
-    let mut at = from;
     let mut least = top as u16;
-    while at < to {
-        least = lesser_cost(least, costs[at]);
-        at += 1;
+    for at in from..to {
+        least = costs[at].min(least);
     }
     least as usize
 }
@@ -46,7 +32,7 @@ fn least_in_window(costs: &[u16], from: usize, to: usize, top: usize) -> usize
     }
     let first = costs[from] as usize;
     let rest = least_between(costs, from + 1, to, top);
-    lesser(first, rest)
+    rest.min(first)
 }
 
 // The cost of one position, from those after it, of which `beyond` is the least of all.
@@ -73,12 +59,10 @@ pub fn fill_costs(ends: &[u16], costs: &mut [u16], slots: usize)
     requires { Sized ends.now costs.old slots }
     ensures { Filled ends.now slots costs.old costs.new }
 {
-    let mut position = slots;
     let mut least = slots as u16;
-    while 0 < position {
-        position -= 1;
+    for position in (0..slots).rev() {
         let cost = position_cost(ends, costs, slots, position, least);
         costs[position] = cost;
-        least = lesser_cost(least, cost);
+        least = cost.min(least);
     }
 }

@@ -11,8 +11,8 @@ use Rattle.records.specs.Checks.{or_else, table_checks}
 use Rattle.records.proofs.Laws.{or_else_pass, pass_law}
 use Rattle.records.specs.Writes.{apply_write, fits_word}
 use Rattle.records.specs.declared.Cause.TheVariants.{Rule as RuleCause, Unknown}
-use Rattle.records.specs.declared.Check.{Check}
-use Rattle.records.specs.declared.Check.TheVariants.{Pass, Fail}
+use Rattle.records.specs.Verdict.{Check}
+use Rattle.records.specs.Verdict.{Pass, Fail}
 use Rattle.table_checks.specs.SlotsLaws.{table_few}
 use Rattle.delete_plans.specs.Deletes.{has_id, DeletePlanned, check_id, delete_checks, slot_of_id, check_unknown}
 

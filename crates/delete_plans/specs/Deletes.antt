@@ -12,8 +12,8 @@ use Rattle.records.specs.Entries.{vacant}
 use Rattle.records.specs.Writes.{apply_words, fits_word}
 use Rattle.records.specs.declared.Rule.{Rule}
 use Rattle.records.specs.declared.Cause.TheVariants.{Rule as RuleCause, Unknown}
-use Rattle.records.specs.declared.Check.{Check}
-use Rattle.records.specs.declared.Check.TheVariants.{Pass, Fail}
+use Rattle.records.specs.Verdict.{Check}
+use Rattle.records.specs.Verdict.{Pass, Fail}
 use Rattle.buffers.specs.Buffers.{buffer_answer, buffer_after}
 
 -- slot i holds the rule with this id

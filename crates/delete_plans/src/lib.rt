@@ -3,14 +3,15 @@
 #![tactic(auto)]
 
 ghost use Rattle.std.specs.Prelude.{◌≡◌, ◌<◌, length};
+ghost use Rattle.records.specs.Verdict.{checked};
 ghost use Rattle.records.specs.Order.{slots};
 ghost use Rattle.records.specs.Widths.{Width};
 ghost use Rattle.buffers.specs.Buffers.{plan_told};
 ghost use Rattle.delete_plans.specs.Deletes.{has_id, slot_of_id, delete_checks, delete_answer, delete_plan, delete_call, delete_call_plan};
 
-use buffers::{PlanAnswer, answer_word};
+use buffers::{PlanInfo, answer_word};
 use plan_words::{PlanWrite, word_of};
-use records::{Cause, Check, Mode, check_width};
+use records::{Cause, Mode, Refusal, check_width};
 use slots::{slot_count, slot_empty, slot_id};
 use table_checks::check_table;
 
@@ -31,56 +32,56 @@ fn slot_of_id(table: &[u64], id: u64, width: usize) -> usize
     ensures { result ≡ slot_of_id width table.now id }
 {
     let slots = slot_count(table, width);
-    let mut slot = 0;
-    while slot < slots {
+    for slot in 0..slots {
         if has_id(table, slot, id, width) {
             return slot;
         }
-        slot += 1;
     }
     slots
 }
 
 // Checks 1 to 4, 5 for id 0, and 7.
-fn check_delete(table: &[u64], id: u32, mode: Mode) -> Check
+fn check_delete(table: &[u64], id: u32, mode: Mode) -> Result<(), Refusal>
     requires { Width mode.width }
-    ensures { result ≡ delete_checks mode.width mode.uncounted table.now id }
+    ensures { checked result ≡ delete_checks mode.width mode.uncounted table.now id }
 {
-    let sound = check_table(table, mode);
-    if let Check::Fail(cause, spot) = sound {
-        return Check::Fail(cause, spot);
-    }
+    check_table(table, mode)?;
     if id == 0 {
-        return Check::Fail(Cause::Rule, 0);
+        return Err(Refusal {
+            cause: Cause::Rule,
+            spot: 0,
+        });
     }
     if slot_of_id(table, id as u64, mode.width) < slot_count(table, mode.width) {
-        return Check::Pass;
+        return Ok(());
     }
-    Check::Fail(Cause::Unknown, 0)
+    Err(Refusal {
+        cause: Cause::Unknown,
+        spot: 0,
+    })
 }
 
 // The plan of a delete at a width that there is.
-fn delete_at(table: &[u64], id: u32, plan: &mut [u32], mode: Mode) -> PlanAnswer
+fn delete_at(table: &[u64], id: u32, plan: &mut [u32], mode: Mode) -> Result<PlanInfo, Refusal>
     requires { Width mode.width }
     ensures result_value { plan_told result ≡ delete_answer mode.width mode.uncounted table.now id (length plan.old) }
     ensures plan_after { plan.new ≡ delete_plan mode.width mode.uncounted table.now id plan.old }
 {
-    let check = check_delete(table, id, mode);
-    if let Check::Fail(cause, spot) = check {
-        return PlanAnswer::Refused(cause, spot);
-    }
+    check_delete(table, id, mode)?;
     let slot = slot_of_id(table, id as u64, mode.width) as u32;
     answer_word(word_of(PlanWrite::Clear(slot)), plan)
 }
 
 // The plan of a delete: one emptying word, or a refusal that leaves the buffer as it was.
-pub fn plan_delete(table: &[u64], id: u32, plan: &mut [u32], mode: Mode) -> PlanAnswer
+pub fn plan_delete(
+    table: &[u64],
+    id: u32,
+    plan: &mut [u32],
+    mode: Mode,
+) -> Result<PlanInfo, Refusal>
     ensures result_value { plan_told result ≡ delete_call mode.width mode.uncounted table.now id (length plan.old) }
     ensures plan_after { plan.new ≡ delete_call_plan mode.width mode.uncounted table.now id plan.old }
 {
-    let known = check_width(mode.width);
-    if let Check::Fail(cause, spot) = known {
-        return PlanAnswer::Refused(cause, spot);
-    }
+    check_width(mode.width)?;
     delete_at(table, id, plan, mode)
 }

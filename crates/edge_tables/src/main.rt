@@ -4,12 +4,14 @@
 
 ghost use Rattle.std.specs.Prelude.{◌≡◌, length};
 
-use buffers::{InsertAnswer, PlanAnswer, without_cover};
+use buffers::{InsertInfo, PlanInfo, without_cover};
 use delete_plans::plan_delete;
 use insert_plans::{plan_insert, plan_rule};
-use lookups::LookupAnswer;
 use lookups::lookup::{lookup, slot_record};
-use records::{Cause, Check, EDITION_13, Mode, NARROW, Rule, WIDE, WIDE_TABLE, cause_number};
+use records::{
+    Cause, EDITION_13, NARROW, NARROW_COUNTED, Refusal, Rule, WIDE, WIDE_COUNTED, WIDE_TABLE,
+    cause_number,
+};
 use slots::rules::{record_of, rule_of, rule_sound};
 use slots::{put_record, slot_count};
 use table_checks::check_table;
@@ -29,17 +31,17 @@ fn refused(cause: Cause, spot: u32) {
 // Looks a key up at a width and prints the answer.
 fn show_lookup_at(table: &[u64], key: &[u64], width: usize) {
     match lookup(table, key, width) {
-        LookupAnswer::Found(hit) => {
+        Ok(Some(hit)) => {
             io::write_all(1, b"A");
             number(hit.slot as u64);
             number(hit.id as u64);
             number(hit.action as u64);
             io::write_all(1, b"\n");
         }
-        LookupAnswer::Miss => {
+        Ok(None) => {
             io::write_all(1, b"M\n");
         }
-        LookupAnswer::Refused(cause, spot) => refused(cause, spot),
+        Err(Refusal { cause, spot }) => refused(cause, spot),
     }
 }
 
@@ -50,17 +52,11 @@ fn show_lookup(table: &[u64], key: [u64; 2]) {
 
 // Makes checks 1 to 4 and prints the answer.
 fn show_checks(table: &[u64]) {
-    match check_table(
-        table,
-        Mode {
-            width: NARROW,
-            uncounted: false,
-        },
-    ) {
-        Check::Pass => {
+    match check_table(table, NARROW_COUNTED) {
+        Ok(()) => {
             io::write_all(1, b"C\n");
         }
-        Check::Fail(cause, spot) => refused(cause, spot),
+        Err(Refusal { cause, spot }) => refused(cause, spot),
     }
 }
 
@@ -188,14 +184,14 @@ fn wide(word: u32) -> u64 {
 }
 
 // Prints a planning call's answer and the buffer's first two words, which keep their filler where nothing is written.
-fn show_plan(answer: PlanAnswer, plan: &[u32]) {
+fn show_plan(answer: Result<PlanInfo, Refusal>, plan: &[u32]) {
     match answer {
-        PlanAnswer::Planned(info) => {
+        Ok(info) => {
             io::write_all(1, b"P");
             number(info.count as u64);
             io::write_all(1, b"\n");
         }
-        PlanAnswer::Refused(cause, spot) => refused(cause, spot),
+        Err(Refusal { cause, spot }) => refused(cause, spot),
     }
     io::write_all(1, b"B");
     if 0 < plan.len() {
@@ -208,8 +204,8 @@ fn show_plan(answer: PlanAnswer, plan: &[u32]) {
 }
 
 // The same of an insert's, with the slot of the rule that covers the new one before it.
-fn show_inserted(answer: InsertAnswer, plan: &[u32]) {
-    if let InsertAnswer::Planned(info) = answer {
+fn show_inserted(answer: Result<InsertInfo, Refusal>, plan: &[u32]) {
+    if let Ok(info) = answer {
         io::write_all(1, b"K");
         number(info.covered as u64);
         io::write_all(1, b"\n");
@@ -225,15 +221,7 @@ fn show_insert(table: &[u64], given: Rule) {
 
 fn show_delete(table: &[u64], id: u32) {
     let mut plan = [7u32; 2];
-    let answer = plan_delete(
-        table,
-        id,
-        &mut plan,
-        Mode {
-            width: NARROW,
-            uncounted: false,
-        },
-    );
+    let answer = plan_delete(table, id, &mut plan, NARROW_COUNTED);
     show_plan(answer, &plan);
 }
 
@@ -243,15 +231,7 @@ fn short_buffers(table: &[u64], given: Rule) {
     let answer = plan_rule(table, given, &mut one);
     show_inserted(answer, &one);
     let mut none = [7u32; 0];
-    let deleted = plan_delete(
-        table,
-        2,
-        &mut none,
-        Mode {
-            width: NARROW,
-            uncounted: false,
-        },
-    );
+    let deleted = plan_delete(table, 2, &mut none, NARROW_COUNTED);
     show_plan(deleted, &none);
 }
 
@@ -340,28 +320,10 @@ fn other_words(table: &[u64]) {
 fn wide_plans(table: &[u64]) {
     let new = [0u64, 0, 0, 0, 1, 0, 0, 0, 0, 1, 12884901897, 25];
     let mut plan = [7u32; 2];
-    let answer = plan_insert(
-        table,
-        &new,
-        EDITION_13,
-        &mut plan,
-        Mode {
-            width: WIDE,
-            uncounted: false,
-        },
-    );
+    let answer = plan_insert(table, &new, EDITION_13, &mut plan, WIDE_COUNTED);
     show_inserted(answer, &plan);
     let mut other = [7u32; 2];
-    let refusal = plan_insert(
-        table,
-        &new[0..11],
-        EDITION_13,
-        &mut other,
-        Mode {
-            width: WIDE,
-            uncounted: false,
-        },
-    );
+    let refusal = plan_insert(table, &new[0..11], EDITION_13, &mut other, WIDE_COUNTED);
     show_inserted(refusal, &other);
 }
 

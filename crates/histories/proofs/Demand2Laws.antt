@@ -26,7 +26,7 @@ use Rattle.records.specs.Writes.{fits_write, apply_words}
 use Rattle.records.specs.Editions.{Given, ranked, check_given}
 use Rattle.records.proofs.EditionsLaws.{given_law, ranked_action}
 use Rattle.records.specs.declared.Rule.{Rule}
-use Rattle.records.specs.declared.Check.TheVariants.{Pass}
+use Rattle.records.specs.Verdict.{Pass}
 use Rattle.records.proofs.EqualLaws.{equal_law}
 use Rattle.records.proofs.EntriesLaws.{entries_length, entry_laws, unique_entries, shaped_slots}
 use Rattle.records.proofs.WritesLaws.{apply_entries}

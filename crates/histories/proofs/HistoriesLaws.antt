@@ -12,7 +12,7 @@ use Rattle.records.proofs.Laws.{checks_loosened, slot_checks_law, table_checks_l
 use Rattle.records.specs.Entries.{vacant, entries, entry_occupied}
 use Rattle.records.specs.Editions.{Given, ranked}
 use Rattle.records.specs.declared.Rule.{Rule}
-use Rattle.records.specs.declared.Check.TheVariants.{Pass}
+use Rattle.records.specs.Verdict.{Pass}
 use Rattle.records.proofs.EntriesLaws.{entries_length, occupied_at_lem, entry_laws, order_entries, unique_entries, refuted}
 use Rattle.delete_plans.specs.Deletes.{delete_answer, delete_plan}
 use Rattle.insert_plans.specs.Inserts.{insert_answer, insert_plan}

@@ -19,11 +19,11 @@ use Rattle.records.specs.Checks.{check_twice, check_order, slot_checks, first_ma
 use Rattle.records.proofs.Laws.{table_checks_law, misordered_law, same_id_law}
 use Rattle.records.specs.Entries.{vacant, entries, entry_occupied, entry_same, entry_misordered}
 use Rattle.records.specs.declared.Rule.{Rule}
-use Rattle.records.specs.declared.Check.TheVariants.{Pass}
+use Rattle.records.specs.Verdict.{Pass}
 use Rattle.records.proofs.RulesLaws.{record_value, record_mask, record_rank, record_ident, record_action}
 use Rattle.records.proofs.EntriesLaws.{entry_laws, entry_same_lem, ident_cong, occupied_at_lem, order_entries, unique_entries, refuted}
 use Rattle.lookups.specs.Lookup.{lookup_answer, match_told, lookup_told, hit_at, reply}
-use Rattle.lookups.specs.declared.LookupAnswer.TheVariants.{Found, Miss}
+use Rattle.std.specs.Prelude.{Some, None, Ok}
 use Rattle.histories.specs.RuleSet.{rule_matches, highest_match, set_reply, Member, without, IsHighest, rule_reply}
 use Rattle.histories.proofs.RepliesLaws.{entry_matches, entry_observed, asked_actions, entries_conflict, option_told, reply_observed}
 use Rattle.histories.proofs.RuleSetLaws.{highest_law, without_law}
@@ -38,7 +38,7 @@ looked_up w u t key told e f = rw e (number (ltb m (slots w t)), f)
     m : ℕ
     m = first_match w t key
 
-    number : (b : Bool) → (cond b (lookup_told (Found (hit_at w t m))) (lookup_told Miss)).number ≡ 0
+    number : (b : Bool) → (cond b (lookup_told (Ok (Some (hit_at w t m)))) (lookup_told (Ok None))).number ≡ 0
     number true = refl
     number false = refl
 

@@ -9,7 +9,7 @@ use Rattle.plan_words.specs.PlanWords.{write_of}
 use Rattle.records.specs.Checks.{success, slot_checks}
 use Rattle.records.specs.Writes.{apply_word, apply_words}
 use Rattle.records.specs.Editions.{Given, ranked}
-use Rattle.records.specs.declared.Check.TheVariants.{Pass}
+use Rattle.records.specs.Verdict.{Pass}
 use Rattle.records.proofs.WritesLaws.{apply_words_next}
 use Rattle.carrying.specs.Carrying.{progress_checks, put_checks, fits_carried, write_checks, step_answer, step_table, step_done}
 use Rattle.carrying.specs.Calls.{after_calls, call_answer}

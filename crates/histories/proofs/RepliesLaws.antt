@@ -23,7 +23,7 @@ use Rattle.records.specs.Editions.{Given, ranked}
 use Rattle.records.specs.declared.Rule.{Rule}
 use Rattle.records.proofs.EntriesLaws.{entries_length, entry_same_lem, entry_laws, matches_at_lem, ident_cong, action_cong, order_entries, unique_entries}
 use Rattle.lookups.specs.Lookup.{lookup_told, hit_at, match_told, reply}
-use Rattle.lookups.specs.declared.LookupAnswer.TheVariants.{Found, Miss}
+use Rattle.std.specs.Prelude.{Some, None, Ok}
 use Rattle.insert_plans.specs.Insertable.{InsertableGiven}
 use Rattle.insert_plans.specs.Inserts.{insert_words}
 use Rattle.insert_plans.proofs.Demand3Laws.{shortest_words}
@@ -85,7 +85,7 @@ reply_shape : (w : ℕ) (t : List ℕ) (i : ℕ)
 unfolding match_told hit_at
 reply_shape w t i = pick (ltb i (slots w t))
   where
-    pick : (b : Bool) → drop 1 (cond b (lookup_told (Found (hit_at w t i))) (lookup_told Miss)).values
+    pick : (b : Bool) → drop 1 (cond b (lookup_told (Ok (Some (hit_at w t i)))) (lookup_told (Ok None))).values
         ≡ cond b (ident w (slot_words w t i) ∷ action w (slot_words w t i) ∷ []) []
     pick true = refl
     pick false = refl

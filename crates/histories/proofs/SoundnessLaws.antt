@@ -21,7 +21,7 @@ use Rattle.records.specs.Writes.{apply_write, apply_words}
 use Rattle.records.specs.Editions.{Given, ranked}
 use Rattle.records.proofs.EditionsLaws.{ranked_action}
 use Rattle.records.specs.declared.Rule.{Rule}
-use Rattle.records.specs.declared.Check.TheVariants.{Pass}
+use Rattle.records.specs.Verdict.{Pass}
 use Rattle.records.proofs.RulesLaws.{record_sound}
 use Rattle.records.proofs.EntriesLaws.{sound_same, EntriesUnique, entries_length, entry_same_lem, entry_laws, misordered_cong, occupied_at_lem, order_entries, unique_entries}
 use Rattle.records.proofs.EntriesLaws.{shaped_slots}

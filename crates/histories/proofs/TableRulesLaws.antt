@@ -12,7 +12,7 @@ use Rattle.records.specs.Checks.{table_checks}
 use Rattle.records.proofs.Laws.{slot_checks_law, table_checks_law, records_law, sound_rank}
 use Rattle.records.specs.Entries.{vacant, entries, entry_occupied}
 use Rattle.records.specs.declared.Rule.{Rule}
-use Rattle.records.specs.declared.Check.TheVariants.{Pass}
+use Rattle.records.specs.Verdict.{Pass}
 use Rattle.records.proofs.RulesLaws.{record_of_rule}
 use Rattle.records.proofs.EntriesLaws.{entries_length, entry_at_lem, occupied_at_lem}
 use Rattle.histories.specs.RuleSet.{Member}

@@ -7,7 +7,7 @@ use Rattle.records.specs.Record.{record_of}
 use Rattle.records.specs.Checks.{table_checks}
 use Rattle.records.specs.Entries.{vacant, entries, entry_occupied}
 use Rattle.records.specs.declared.Rule.{Rule}
-use Rattle.records.specs.declared.Check.TheVariants.{Pass}
+use Rattle.records.specs.Verdict.{Pass}
 use Rattle.lookups.specs.Lookup.{lookup_answer}
 use Rattle.histories.specs.RuleSet.{Member}
 

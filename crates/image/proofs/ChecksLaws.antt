@@ -14,8 +14,8 @@ use Rattle.records.specs.Checks.{or_else}
 use Rattle.records.proofs.Laws.{or_else_pass, or_else_fail, pass_law}
 use Rattle.records.specs.declared.Cause.{Cause}
 use Rattle.records.specs.declared.Cause.TheVariants.{Image}
-use Rattle.records.specs.declared.Check.{Check}
-use Rattle.records.specs.declared.Check.TheVariants.{Pass, Fail}
+use Rattle.records.specs.Verdict.{Check}
+use Rattle.records.specs.Verdict.{Pass, Fail}
 use Rattle.image.specs.Format.{image_bytes, entry_place, body_place, slots_in, rules_in, id_at, entry_slot, offset_at}
 use Rattle.image.specs.Checks.{field, in_turn, check_header, lowest_slot, check_entry, check_body, check_contents, check_bodies, image_checks}
 use Rattle.image.specs.Checks.{FirstFails, Sound}

@@ -9,8 +9,8 @@ use Rattle.records.specs.Order.{slots}
 use Rattle.records.specs.Checks.{success, refusal, unless, passes, or_else, check_shape, check_twice, check_order}
 use Rattle.records.proofs.Laws.{or_else_pass, failed, passed, shape_same, slot_within}
 use Rattle.records.specs.declared.Cause.{Cause}
-use Rattle.records.specs.declared.Check.{Check}
-use Rattle.records.specs.declared.Check.TheVariants.{Pass, Fail}
+use Rattle.records.specs.Verdict.{Check}
+use Rattle.records.specs.Verdict.{Pass, Fail}
 use Rattle.records.proofs.RulesLaws.{length_listed}
 use Rattle.image.specs.Bytes.{number_at, store}
 use Rattle.image.proofs.BytesLaws.{store_then}

@@ -19,7 +19,7 @@ use Rattle.records.specs.Record.{word, listed, record_words, slot_words, ident, 
 use Rattle.records.specs.Order.{slots}
 use Rattle.records.specs.Sound.{RankFits}
 use Rattle.records.proofs.Laws.{empty_law, rank_law, sound_law, ident_occupied}
-use Rattle.records.specs.declared.Check.TheVariants.{Pass}
+use Rattle.records.specs.Verdict.{Pass}
 use Rattle.records.specs.Entries.{SameRecord}
 use Rattle.records.proofs.RulesLaws.{length_listed, word_listed, zero_word, fits_cong}
 use Rattle.records.proofs.EntriesLaws.{occupied_cong}

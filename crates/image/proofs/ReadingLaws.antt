@@ -11,7 +11,7 @@ use Rattle.records.specs.Order.{slots}
 use Rattle.records.specs.Checks.{or_else, check_shape, check_records, check_twice, check_order, slot_checks, table_checks}
 use Rattle.records.proofs.Laws.{or_else_pass, records_law, sound_law, sound_rank}
 use Rattle.records.specs.Entries.{SameRecord}
-use Rattle.records.specs.declared.Check.TheVariants.{Pass}
+use Rattle.records.specs.Verdict.{Pass}
 use Rattle.records.proofs.EntriesLaws.{shaped_slots, sound_same}
 use Rattle.image.specs.Bytes.{bytes_of, number_at, part, pieces}
 use Rattle.image.specs.Format.{body_bytes, image_bytes, entry_place, body_place, entry_of, body_of, holds, rule_count, rule_slot, entry_bytes, rule_bytes}

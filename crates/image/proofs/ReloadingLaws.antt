@@ -10,7 +10,7 @@ use Rattle.records.specs.Order.{slots}
 use Rattle.records.specs.Checks.{success, or_else, check_shape, check_records, check_twice, check_order, slot_checks, table_checks}
 use Rattle.records.proofs.Laws.{or_else_pass, empty_law, shape_same}
 use Rattle.records.specs.Entries.{SameRecord}
-use Rattle.records.specs.declared.Check.TheVariants.{Pass}
+use Rattle.records.specs.Verdict.{Pass}
 use Rattle.records.proofs.EntriesLaws.{shaped_slots}
 use Rattle.image.specs.Indices.{indices}
 use Rattle.image.specs.Format.{holds, rule_count, rule_slot, image_of, rules_in, entry_slot, record_at}

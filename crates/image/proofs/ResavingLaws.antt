@@ -15,7 +15,7 @@ use Rattle.records.specs.Record.{word, record_words, slot_words, ident, empty, s
 use Rattle.records.specs.Checks.{check_records}
 use Rattle.records.proofs.Laws.{empty_law, records_law}
 use Rattle.records.specs.Entries.{SameRecord}
-use Rattle.records.specs.declared.Check.TheVariants.{Pass}
+use Rattle.records.specs.Verdict.{Pass}
 use Rattle.records.proofs.EntriesLaws.{ident_cong, action_cong, rank_cong, sound_same}
 use Rattle.image.specs.Bytes.{bytes_of, part, pieces, Bytes}
 use Rattle.image.specs.Format.{body_bytes, entry_place, body_place, entry_of, body_of, holds, rule_count, entry_bytes, rule_bytes, image_of, rules_in}

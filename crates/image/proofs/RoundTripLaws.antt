@@ -9,8 +9,8 @@ use Rattle.records.specs.Order.{slots}
 use Rattle.records.specs.Checks.{Told, success, unless, or_else, check_shape, check_records, check_twice, check_order, slot_checks, table_checks}
 use Rattle.records.proofs.Laws.{cause_not_zero, or_else_pass, shape_same, checks_loosened}
 use Rattle.records.specs.declared.Cause.TheVariants.{Short}
-use Rattle.records.specs.declared.Check.{Check}
-use Rattle.records.specs.declared.Check.TheVariants.{Pass, Fail}
+use Rattle.records.specs.Verdict.{Check}
+use Rattle.records.specs.Verdict.{Pass, Fail}
 use Rattle.records.proofs.EntriesLaws.{shaped_slots}
 use Rattle.records.specs.Widths.{Width, check_width, leaves}
 use Rattle.records.proofs.WidthsLaws.{width_law}

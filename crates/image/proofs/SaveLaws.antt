@@ -12,7 +12,7 @@ use Rattle.records.specs.Record.{slot_words, ident, action, rank}
 use Rattle.records.specs.Order.{slots}
 use Rattle.records.specs.Checks.{or_else, check_shape, check_records, check_twice, check_order, slot_checks, table_checks}
 use Rattle.records.proofs.Laws.{or_else_pass}
-use Rattle.records.specs.declared.Check.TheVariants.{Pass}
+use Rattle.records.specs.Verdict.{Pass}
 use Rattle.records.proofs.EntriesLaws.{shaped_slots}
 use Rattle.buffers.specs.Buffers.{buffer_answer}
 use Rattle.image.specs.Answers.{save_answer}

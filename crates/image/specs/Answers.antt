@@ -1,24 +1,20 @@
 -- What saving and loading answer, and what they leave in the lent buffers.
 -- A refused call leaves its buffer as it was; bytes past a saved image stay.
-use Rattle.std.specs.Prelude.{Bool, cond, List, [], ◌∷◌, ℕ, length}
-use Rattle.records.specs.Checks.{Told, success, refusal, unless, passes, table_checks}
+use Rattle.std.specs.Prelude.{Bool, cond, List, [], ◌∷◌, ℕ, length, Result}
+use Rattle.records.specs.Checks.{Told, success, answer_told, unless, passes, table_checks}
 use Rattle.records.specs.Widths.{check_width, leaves}
 use Rattle.buffers.specs.Buffers.{buffer_answer, buffer_after}
 use Rattle.image.specs.Format.{image_bytes, rule_count, image_of}
 use Rattle.image.specs.Checks.{meant, load_checks}
-use Rattle.image.specs.declared.SaveAnswer.{SaveAnswer}
-use Rattle.image.specs.declared.SaveAnswer.TheVariants.{Saved, Refused as SaveRefused}
-use Rattle.image.specs.declared.LoadAnswer.{LoadAnswer}
-use Rattle.image.specs.declared.LoadAnswer.TheVariants.{Loaded, Refused as LoadRefused}
+use Rattle.records.specs.declared.Refusal.{Refusal}
+use Rattle.image.specs.declared.SaveInfo.{SaveInfo}
 
 -- document 01's number and values for each case of a save's answer, and of a load's
-abbrev pub save_told : SaveAnswer → Told
-save_told (Saved info) = success (info.bytes ∷ [])
-save_told (SaveRefused cause spot) = refusal cause spot
+abbrev pub save_told : Result SaveInfo Refusal → Told
+save_told answer = answer_told (λ info. info.bytes ∷ []) answer
 
-abbrev pub load_told : LoadAnswer → Told
-load_told Loaded = success []
-load_told (LoadRefused cause spot) = refusal cause spot
+abbrev pub load_told : Result (Unit {0}) Refusal → Told
+load_told answer = answer_told (λ done. []) answer
 
 -- save makes checks 1 to 4, then 11 with the bytes needed: a buffer too short is one row for plans and images
 abbrev pub save_answer : ℕ → Bool → List ℕ → ℕ → Told

@@ -5,8 +5,8 @@ use Rattle.records.specs.Record.{word, sound, put_slot}
 use Rattle.records.specs.Order.{slots}
 use Rattle.records.specs.Checks.{or_else, check_shape, check_twice, check_order}
 use Rattle.records.specs.declared.Cause.TheVariants.{Image}
-use Rattle.records.specs.declared.Check.{Check}
-use Rattle.records.specs.declared.Check.TheVariants.{Pass, Fail}
+use Rattle.records.specs.Verdict.{Check}
+use Rattle.records.specs.Verdict.{Pass, Fail}
 use Rattle.records.specs.declared.Cause.{Cause}
 use Rattle.image.specs.Format.{image_bytes, entry_place, body_place, slots_in, rules_in, id_at, entry_slot, offset_at, record_at}
 

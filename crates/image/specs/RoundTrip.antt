@@ -2,7 +2,7 @@
 -- Stated of the functions that the contracts of save and load cite.
 use Rattle.std.specs.Prelude.{◌≡◌, Bool, List, ℕ, length}
 use Rattle.records.specs.Checks.{table_checks}
-use Rattle.records.specs.declared.Check.TheVariants.{Pass}
+use Rattle.records.specs.Verdict.{Pass}
 use Rattle.image.specs.Format.{image_of}
 use Rattle.image.specs.Answers.{load_table}
 use Rattle.image.specs.Reading.{Words64}

@@ -3,23 +3,15 @@
 ghost use Rattle.std.specs.Prelude.{◌≡◌, ◌+◌, ◌≤◌, length};
 ghost use Rattle.image.specs.Bytes.{bytes_of, number_at, store};
 
-fn wide(byte: u8) -> u64
-    ensures { result ≡ byte }
-{
-    byte as u64
-}
-
 // The number that the bytes at an offset are.
 pub fn number_at(image: &[u8], at: usize, bytes: usize) -> u64
     requires { (bytes ≤ 8) × (at + bytes ≤ length image.now) }
     ensures { result ≡ number_at image.now at bytes }
 {
     let mut number: u64 = 0;
-    let mut read = 0;
-    while read < bytes {
-        let byte = wide(image[at + read]);
+    for read in 0..bytes {
+        let byte = u64::from(image[at + read]);
         number = number * 256 + byte;
-        read += 1;
     }
     number
 }
@@ -39,10 +31,8 @@ pub fn put_number(image: &mut [u8], at: usize, bytes: usize, number: u64)
     requires { at + bytes ≤ length image.old }
     ensures { image.new ≡ store image.old at (bytes_of bytes number) }
 {
-    let mut left = bytes;
     let mut rest = number;
-    while 0 < left {
-        left -= 1;
+    for left in (0..bytes).rev() {
         image[at + left] = (rest % 256) as u8;
         rest = rest / 256;
     }

@@ -5,24 +5,8 @@
 pub mod fields;
 pub mod sizes;
 
-use records::Cause;
-
 // What a save tells: how many bytes the image has.
 #[derive(Clone, Copy)]
 pub struct SaveInfo {
     pub bytes: u32,
-}
-
-// What a save answers.
-#[derive(Clone, Copy)]
-pub enum SaveAnswer {
-    Saved(SaveInfo),
-    Refused(Cause, u32),
-}
-
-// What a load answers.
-#[derive(Clone, Copy)]
-pub enum LoadAnswer {
-    Loaded,
-    Refused(Cause, u32),
 }

@@ -4,6 +4,7 @@
 
 ghost use Rattle.std.specs.Prelude.{◌≡◌, ◌&&◌, [], ◌∷◌, ℕ, ◌+◌, ◌*◌, ◌≤◌, ◌<◌, length};
 ghost use Rattle.ternary.specs.Pattern.{within, full_mask};
+ghost use Rattle.records.specs.Verdict.{checked};
 ghost use Rattle.records.specs.Record.{most_slots, listed, mask, rank_fits, put_slot};
 ghost use Rattle.records.specs.Order.{slots as slots_of};
 ghost use Rattle.records.specs.Checks.{or_else, check_shape};
@@ -14,27 +15,36 @@ ghost use Rattle.image.specs.Checks.{check_header, lowest_slot, check_entry, che
 
 use image::fields::{number_at, word_at};
 use image::sizes::{body_place, entry_place, image_bytes};
-use records::{Cause, Check, NARROW, WIDE, record_words};
+use records::{Cause, NARROW, Refusal, WIDE, at_width, record_words};
 use slots::slot_count;
 use table_checks::check_shape;
 
 // Slots as the lent table's; rules no more than slots, and as many bytes as so many rules have.
-fn check_header(image: &[u8], slots: usize, width: usize) -> Check
+fn check_header(image: &[u8], slots: usize, width: usize) -> Result<(), Refusal>
     requires { Width width }
-    ensures { result ≡ check_header width image.now slots }
+    ensures { checked result ≡ check_header width image.now slots }
 {
     let bytes = image.len();
     if bytes < 4 {
-        return Check::Fail(Cause::Image, 0);
+        return Err(Refusal {
+            cause: Cause::Image,
+            spot: 0,
+        });
     }
     if number_at(image, 0, 2) as usize != slots {
-        return Check::Fail(Cause::Image, 0);
+        return Err(Refusal {
+            cause: Cause::Image,
+            spot: 0,
+        });
     }
     let rules = number_at(image, 2, 2) as usize;
     if (rules <= slots) & (bytes == image_bytes(width, rules)) {
-        return Check::Pass;
+        return Ok(());
     }
-    Check::Fail(Cause::Image, 2)
+    Err(Refusal {
+        cause: Cause::Image,
+        spot: 2,
+    })
 }
 
 // The lowest slot that an entry may name: above the entry before.
@@ -49,23 +59,38 @@ fn lowest_slot(image: &[u8], entry: usize) -> u64
 }
 
 // An entry of the contents: id, slot and offset, each a field of its own.
-fn check_entry(image: &[u8], slots: usize, rules: usize, entry: usize, width: usize) -> Check
+fn check_entry(
+    image: &[u8],
+    slots: usize,
+    rules: usize,
+    entry: usize,
+    width: usize,
+) -> Result<(), Refusal>
     requires { (Width width) × (rules ≤ most_slots) × (entry < rules) × (image_bytes width rules ≤ length image.now) }
-    ensures { result ≡ check_entry width image.now slots rules entry }
+    ensures { checked result ≡ check_entry width image.now slots rules entry }
 {
     let at = entry_place(entry);
     if number_at(image, at, 4) == 0 {
-        return Check::Fail(Cause::Image, at as u32);
+        return Err(Refusal {
+            cause: Cause::Image,
+            spot: at as u32,
+        });
     }
     let slot = number_at(image, at + 4, 2);
     let lowest = lowest_slot(image, entry);
     if !((slot < slots as u64) & (lowest <= slot)) {
-        return Check::Fail(Cause::Image, (at + 4) as u32);
+        return Err(Refusal {
+            cause: Cause::Image,
+            spot: (at + 4) as u32,
+        });
     }
     if number_at(image, at + 6, 4) as usize != body_place(width, rules, entry) {
-        return Check::Fail(Cause::Image, (at + 6) as u32);
+        return Err(Refusal {
+            cause: Cause::Image,
+            spot: (at + 6) as u32,
+        });
     }
-    Check::Pass
+    Ok(())
 }
 
 // Puts the value and mask words of a body into a table, from a word on.
@@ -73,10 +98,8 @@ fn put_pattern_by(image: &[u8], at: usize, table: &mut [u64], first: usize, widt
     requires { (Width width) × (at + 16 * width ≤ length image.now) × (first + 2 * width ≤ length table.old) }
     ensures { table.new ≡ store table.old first (listed (2 * width) (body_word image.now at)) }
 {
-    let mut word = 0;
-    while word < 2 * width {
+    for word in 0..2 * width {
         table[first + word] = word_at(image, at + word * 8);
-        word += 1;
     }
 }
 
@@ -133,14 +156,12 @@ fn body_within_by(image: &[u8], at: usize, width: usize) -> bool
     requires { (Width width) × (at + 16 * width ≤ length image.now) }
     ensures { result ≡ within width (body_word image.now at) (mask width (body_word image.now at)) }
 {
-    let mut index = 0;
-    while index < width {
+    for index in 0..width {
         let value = word_at(image, at + index * 8);
         let mask = word_at(image, at + (width + index) * 8);
         if !ternary::word_within(value, mask) {
             return false;
         }
-        index += 1;
     }
     true
 }
@@ -150,10 +171,7 @@ fn body_within(image: &[u8], at: usize, width: usize) -> bool
     requires { (Width width) × (at + 16 * width ≤ length image.now) }
     ensures { result ≡ within width (body_word image.now at) (mask width (body_word image.now at)) }
 {
-    if width == NARROW {
-        return body_within_by(image, at, NARROW);
-    }
-    body_within_by(image, at, WIDE)
+    at_width(width, |width| body_within_by(image, at, width))
 }
 
 // Whether every mask bit of a body is set.
@@ -161,12 +179,10 @@ fn body_full_by(image: &[u8], at: usize, width: usize) -> bool
     requires { (Width width) × (at + 16 * width ≤ length image.now) }
     ensures { result ≡ full_mask width (mask width (body_word image.now at)) }
 {
-    let mut index = 0;
-    while index < width {
+    for index in 0..width {
         if !ternary::word_full(word_at(image, at + (width + index) * 8)) {
             return false;
         }
-        index += 1;
     }
     true
 }
@@ -176,10 +192,7 @@ fn body_full(image: &[u8], at: usize, width: usize) -> bool
     requires { (Width width) × (at + 16 * width ≤ length image.now) }
     ensures { result ≡ full_mask width (mask width (body_word image.now at)) }
 {
-    if width == NARROW {
-        return body_full_by(image, at, NARROW);
-    }
-    body_full_by(image, at, WIDE)
+    at_width(width, |width| body_full_by(image, at, width))
 }
 
 // Whether a body's rank is a record's: at most 65,535, or 65,536 where every mask bit is set. Read in halves of two bytes: of a priority the upper is 0.
@@ -211,74 +224,58 @@ fn body_sound(image: &[u8], at: usize, width: usize) -> bool
 }
 
 // A body: its value and rank are a sound record's. Its id, of the contents, has passed.
-fn check_body(image: &[u8], rules: usize, entry: usize, width: usize) -> Check
+fn check_body(image: &[u8], rules: usize, entry: usize, width: usize) -> Result<(), Refusal>
     requires { (Width width) × (rules ≤ most_slots) × (entry < rules) × (image_bytes width rules ≤ length image.now) × (id_at image.now entry ≡ 0 → ⊥) }
-    ensures { result ≡ check_body width image.now rules entry }
+    ensures { checked result ≡ check_body width image.now rules entry }
 {
     let at = body_place(width, rules, entry);
     if body_sound(image, at, width) {
-        return Check::Pass;
+        return Ok(());
     }
-    Check::Fail(Cause::Image, at as u32)
+    Err(Refusal {
+        cause: Cause::Image,
+        spot: at as u32,
+    })
 }
 
 // Each contents entry in turn.
-fn check_contents(image: &[u8], slots: usize, rules: usize, width: usize) -> Check
+fn check_contents(image: &[u8], slots: usize, rules: usize, width: usize) -> Result<(), Refusal>
     requires { (Width width) × (rules ≤ most_slots) × (image_bytes width rules ≤ length image.now) }
-    ensures { result ≡ check_contents width image.now slots rules }
+    ensures { checked result ≡ check_contents width image.now slots rules }
 {
-    let mut entry = 0;
-    while entry < rules {
-        let check = check_entry(image, slots, rules, entry, width);
-        if let Check::Fail(cause, spot) = check {
-            return Check::Fail(cause, spot);
-        }
-        entry += 1;
+    for entry in 0..rules {
+        check_entry(image, slots, rules, entry, width)?;
     }
-    Check::Pass
+    Ok(())
 }
 
 // Each body in turn, once every id has passed.
-fn check_bodies(image: &[u8], rules: usize, width: usize) -> Check
+fn check_bodies(image: &[u8], rules: usize, width: usize) -> Result<(), Refusal>
     requires { (Width width) × (rules ≤ most_slots) × (image_bytes width rules ≤ length image.now) × ((k : ℕ) → k < rules → id_at image.now k ≡ 0 → ⊥) }
-    ensures { result ≡ check_bodies width image.now rules }
+    ensures { checked result ≡ check_bodies width image.now rules }
 {
-    let mut entry = 0;
-    while entry < rules {
-        let check = check_body(image, rules, entry, width);
-        if let Check::Fail(cause, spot) = check {
-            return Check::Fail(cause, spot);
-        }
-        entry += 1;
+    for entry in 0..rules {
+        check_body(image, rules, entry, width)?;
     }
-    Check::Pass
+    Ok(())
 }
 
 // Every field of an image, for a table of so many slots.
-fn check_image(image: &[u8], slots: usize, width: usize) -> Check
+fn check_image(image: &[u8], slots: usize, width: usize) -> Result<(), Refusal>
     requires { (Width width) × (slots ≤ most_slots) }
-    ensures { result ≡ image_checks width image.now slots }
+    ensures { checked result ≡ image_checks width image.now slots }
 {
-    let header = check_header(image, slots, width);
-    if let Check::Fail(cause, spot) = header {
-        return Check::Fail(cause, spot);
-    }
+    check_header(image, slots, width)?;
     let rules = number_at(image, 2, 2) as usize;
-    let contents = check_contents(image, slots, rules, width);
-    if let Check::Fail(cause, spot) = contents {
-        return Check::Fail(cause, spot);
-    }
+    check_contents(image, slots, rules, width)?;
     check_bodies(image, rules, width)
 }
 
 // The shape of the lent table, then the image.
-pub fn check_fields(image: &[u8], table: &[u64], width: usize) -> Check
+pub fn check_fields(image: &[u8], table: &[u64], width: usize) -> Result<(), Refusal>
     requires { Width width }
-    ensures { result ≡ or_else (check_shape width table.now) (image_checks width image.now (slots_of width table.now)) }
+    ensures { checked result ≡ or_else (check_shape width table.now) (image_checks width image.now (slots_of width table.now)) }
 {
-    let shape = check_shape(table, width);
-    if let Check::Fail(cause, spot) = shape {
-        return Check::Fail(cause, spot);
-    }
+    check_shape(table, width)?;
     check_image(image, slot_count(table, width), width)
 }

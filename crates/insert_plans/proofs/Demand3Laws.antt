@@ -11,7 +11,7 @@ use Rattle.records.specs.Inserts.{insert_choice_of}
 use Rattle.records.specs.Editions.{Given, under13, ranked}
 use Rattle.records.proofs.EditionsLaws.{ranked_13, ranked_action}
 use Rattle.records.specs.declared.Rule.{Rule}
-use Rattle.records.specs.declared.Check.TheVariants.{Pass}
+use Rattle.records.specs.Verdict.{Pass}
 use Rattle.records.proofs.EntriesLaws.{entries_length}
 use Rattle.records.proofs.InsertsLaws.{ValidPlan, plan_words_count, plan_words_class, plan_words_between, plan_words_placed, plan_words_least}
 use Rattle.buffers.proofs.BuffersLaws.{buffer_written}

@@ -21,8 +21,8 @@ use Rattle.records.specs.Editions.{Given, ranked, check_given}
 use Rattle.records.proofs.EditionsLaws.{given_law, rank_sound}
 use Rattle.records.specs.declared.Rule.{Rule}
 use Rattle.records.specs.declared.Cause.TheVariants.{Known, Tie, Full, Crossed}
-use Rattle.records.specs.declared.Check.{Check}
-use Rattle.records.specs.declared.Check.TheVariants.{Pass, Fail}
+use Rattle.records.specs.Verdict.{Check}
+use Rattle.records.specs.Verdict.{Pass, Fail}
 use Rattle.neighbours.specs.Neighbours.{check_known, check_tie, check_full, check_crossed, after_a, slot_b, replaced_slot, replaces, new_checks, place_checks}
 use Rattle.neighbours.specs.Neighbours.{rule_words, rule_checks, insert_checks}
 use Rattle.neighbours.proofs.NeighboursLaws.{room_at, crossed_yes, crossed_no, replaced_equal, replaced_lowest, replaced_none, none_replaced, untied_none, insert_passes}

@@ -18,10 +18,9 @@ use Rattle.records.proofs.Laws.{cause_not_zero, failed, passed, or_else_pass, so
 use Rattle.records.specs.Entries.{vacant, entries, entry_occupied, entry_same, entry_misordered}
 use Rattle.records.specs.Inserts.{insert_choice_of, plan_words}
 use Rattle.records.specs.declared.Rule.{Rule}
-use Rattle.records.specs.declared.Cause.{Cause}
 use Rattle.records.specs.declared.Cause.TheVariants.{Short}
-use Rattle.records.specs.declared.Check.{Check}
-use Rattle.records.specs.declared.Check.TheVariants.{Pass, Fail}
+use Rattle.records.specs.Verdict.{Check}
+use Rattle.records.specs.Verdict.{Pass, Fail}
 use Rattle.records.specs.Widths.{check_rule, leaves}
 use Rattle.records.proofs.RulesLaws.{rule_action}
 use Rattle.records.specs.Editions.{Given, lent_rule, ranked, ranked_record, check_given}
@@ -40,8 +39,8 @@ use Rattle.planner.proofs.AgreeLaws.{plan_law, numbers_law}
 use Rattle.neighbours.specs.Neighbours.{after_a, slot_b, check_crossed, replaces, new_checks, place_checks, rule_words, rule_checks, insert_checks}
 use Rattle.neighbours.specs.Neighbours.{found_check, FoundIn, covering_slot}
 use Rattle.neighbours.proofs.NeighboursLaws.{insert_passes}
-use Rattle.neighbours.specs.declared.NewRule.{NewRule}
-use Rattle.neighbours.specs.declared.NewRule.TheVariants.{Adds, Replaces, Declined}
+use Rattle.std.specs.Prelude.{Option, Some, None, Result, Ok, Err}
+use Rattle.records.specs.declared.Refusal.{Refusal}
 use Rattle.windows.specs.Windows.{end_at}
 use Rattle.insert_plans.specs.Insertable.{Insertable, Replacing}
 use Rattle.insert_plans.specs.Joined.{Costed}
@@ -162,22 +161,22 @@ pub planned_replaced : (w : ℕ) (u : Bool) (t : List ℕ) (rule : Rule) (s : �
 planned_replaced w u t rule s r = let found = replacing_slot w u t rule s r in rw (found.1, found.0)
 
 -- a rule that is checked, as the code plans it: by what it was found to be
-module _ (w : ℕ) (u : Bool) (t : List ℕ) (new : Words) (plan : List ℕ) {found : NewRule} where
-  pub found_declined : {cause : Cause} {spot : ℕ} → found ≡ Declined cause spot
-      → (refusal cause spot ≡ buffer_answer (or_else (found_check found) (place_checks w u t new)) (length (record_plan w u t new)) (length plan))
+module _ (w : ℕ) (u : Bool) (t : List ℕ) (new : Words) (plan : List ℕ) {found : Result (Option ℕ) Refusal} where
+  pub found_declined : {refused : Refusal} → found ≡ Err refused
+      → (refusal refused.cause refused.spot ≡ buffer_answer (or_else (found_check found) (place_checks w u t new)) (length (record_plan w u t new)) (length plan))
       × (plan ≡ buffer_after (or_else (found_check found) (place_checks w u t new)) (record_plan w u t new) plan)
   found_declined e = rw e (buffer_refused (record_plan w u t new) plan refl refl)
 
-  pub found_replaces : {slot : ℕ} → found ≡ Replaces slot → FoundIn w u t new found
+  pub found_replaces : {slot : ℕ} → found ≡ Ok (Some slot) → FoundIn w u t new found
       → (buffer_answer Pass (length (replacement_words slot)) (length plan)
       ≡ buffer_answer (or_else (found_check found) (place_checks w u t new)) (length (record_plan w u t new)) (length plan))
       × (buffer_after Pass (replacement_words slot) plan ≡ buffer_after (or_else (found_check found) (place_checks w u t new)) (record_plan w u t new) plan)
   unfolding place_checks
   found_replaces {slot} e f =
-      let in_slot : FoundIn w u t new (Replaces slot) = subst (FoundIn w u t new) e f in
+      let in_slot : FoundIn w u t new (Ok (Some slot)) = subst (FoundIn w u t new) e f in
       rw e (rw in_slot.1, rw (in_slot.1, in_slot.0))
 
-  pub found_adds : found ≡ Adds → FoundIn w u t new found
+  pub found_adds : found ≡ Ok None → FoundIn w u t new found
       → (found_check found ≡ Pass) × (replaces w u t new ≡ false) × (place_checks w u t new ≡ check_crossed w u t new) × (record_plan w u t new ≡ plan_words (record_choice w u t new))
   unfolding place_checks
   found_adds e f =

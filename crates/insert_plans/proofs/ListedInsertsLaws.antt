@@ -8,8 +8,8 @@ use Rattle.records.specs.Widths.{check_rule, check_words, leaves}
 use Rattle.records.proofs.WidthsLaws.{leaves_same, words_law, shape_turn, call_refused, call_answered}
 use Rattle.records.specs.Editions.{lent_rule}
 use Rattle.records.specs.declared.Cause.{Cause}
-use Rattle.records.specs.declared.Check.{Check}
-use Rattle.records.specs.declared.Check.TheVariants.{Pass, Fail}
+use Rattle.records.specs.Verdict.{Check}
+use Rattle.records.specs.Verdict.{Pass, Fail}
 use Rattle.buffers.specs.Buffers.{with_refreshed, with_cover, without_cover}
 use Rattle.buffers.proofs.BuffersLaws.{cover_refused, refreshed_refused, refreshed_dropped}
 use Rattle.neighbour_lists.specs.Lists.{list_numbers, list_of, stale_list}

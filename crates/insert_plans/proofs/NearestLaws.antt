@@ -13,7 +13,7 @@ use Rattle.records.specs.Order.{slots}
 use Rattle.records.specs.Checks.{table_checks, check_order}
 use Rattle.records.proofs.Laws.{table_checks_law}
 use Rattle.records.specs.Entries.{vacant, entries, entry_occupied, entry_misordered}
-use Rattle.records.specs.declared.Check.TheVariants.{Pass}
+use Rattle.records.specs.Verdict.{Pass}
 use Rattle.records.proofs.EntriesLaws.{entries_length, occupied_at_lem, misordered_at}
 use Rattle.windows.specs.ListedLaws.{dependant_after}
 use Rattle.insert_plans.specs.Nearest.{depends_at, precedes_at, InReach, CostOfReach}

@@ -18,7 +18,7 @@ use Rattle.records.proofs.Laws.{table_checks_law}
 use Rattle.records.specs.Entries.{vacant, entries, entry_occupied, entry_misordered}
 use Rattle.records.specs.Inserts.{insert_choice_of}
 use Rattle.records.specs.declared.Rule.{Rule}
-use Rattle.records.specs.declared.Check.TheVariants.{Pass}
+use Rattle.records.specs.Verdict.{Pass}
 use Rattle.records.proofs.EntriesLaws.{entries_length, occupied_at_lem}
 use Rattle.records.proofs.InsertsLaws.{after_preceding_slots, first_dependant_slots}
 use Rattle.neighbours.specs.Neighbours.{rule_words}

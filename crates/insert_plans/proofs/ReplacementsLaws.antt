@@ -6,7 +6,7 @@ use Rattle.records.specs.Checks.{success, refusal}
 use Rattle.records.specs.Editions.{Given, ranked}
 use Rattle.records.specs.declared.Rule.{Rule}
 use Rattle.records.specs.declared.Cause.TheVariants.{Short}
-use Rattle.records.specs.declared.Check.TheVariants.{Pass}
+use Rattle.records.specs.Verdict.{Pass}
 use Rattle.buffers.proofs.BuffersLaws.{buffer_short, buffer_written}
 use Rattle.neighbours.specs.Neighbours.{insert_checks}
 use Rattle.insert_plans.specs.Insertable.{InsertableGiven, ReplacingGiven}

@@ -29,8 +29,8 @@ use Rattle.records.specs.Editions.{Given, ranked, Edition}
 use Rattle.records.proofs.EditionsLaws.{given_law, rank_sound, ranked_action}
 use Rattle.records.specs.declared.Rule.{Rule}
 use Rattle.records.specs.declared.Cause.TheVariants.{Known, Tie, Full, Short, Unknown}
-use Rattle.records.specs.declared.Check.{Check}
-use Rattle.records.specs.declared.Check.TheVariants.{Pass, Fail}
+use Rattle.records.specs.Verdict.{Check}
+use Rattle.records.specs.Verdict.{Pass, Fail}
 use Rattle.records.proofs.ChecksLaws.{lowest_none}
 use Rattle.records.proofs.RulesLaws.{zero_word, length_listed, record_length, record_rank, rule_of_record}
 use Rattle.records.proofs.EqualLaws.{equal_overlapping}

@@ -8,7 +8,7 @@ use Rattle.records.specs.Widths.{Width}
 use Rattle.records.specs.Editions.{Given, lent_rule, ranked, Edition}
 use Rattle.records.specs.Inserts.{Untied, IdNew}
 use Rattle.records.specs.declared.Rule.{Rule}
-use Rattle.records.specs.declared.Check.TheVariants.{Pass}
+use Rattle.records.specs.Verdict.{Pass}
 
 -- document 01: A > B is crossed. Not crossed: every rule that precedes the new one stands before every rule that depends on it
 abbrev pub Uncrossed : ℕ → Bool → List ℕ → Words → Type 0

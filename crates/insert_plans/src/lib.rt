@@ -9,7 +9,7 @@ ghost use Rattle.records.specs.Widths.{Width};
 ghost use Rattle.records.specs.Editions.{lent_rule, under13, ranked};
 ghost use Rattle.records.specs.Checks.{or_else, check_records, table_checks};
 ghost use Rattle.records.specs.Inserts.{plan_words};
-ghost use Rattle.records.specs.declared.Check.TheVariants.{Pass};
+ghost use Rattle.records.specs.Verdict.{Pass};
 ghost use Rattle.buffers.specs.Buffers.{plan_told, insert_answer_told, listed_answer_told, with_refreshed, with_cover, without_cover, buffer_answer, buffer_after};
 ghost use Rattle.neighbour_lists.specs.Lists.{Listed, list_numbers, list_of, stale_list};
 ghost use Rattle.costs.specs.Costs.{cost_of};
@@ -22,17 +22,14 @@ ghost use Rattle.insert_plans.specs.Demand3.{Demand3};
 ghost use Rattle.insert_plans.specs.ListedInserts.{listed_insert_reply, listed_insert_plan, listed_insert_list};
 ghost use Rattle.insert_plans.specs.Inserts.{choice_between, record_choice, replacement_words, record_plan, insert_reply, insert_plan, insert_call_reply, insert_call_plan};
 
-use buffers::{
-    InsertAnswer, InsertInfo, ListedAnswer, ListedInfo, PlanAnswer, PlanInfo, answer_word,
-};
+use buffers::{InsertInfo, ListedInfo, PlanInfo, answer_word};
 use costs::fill_costs;
 use neighbour_lists::lent::{check_list, store_list};
-use neighbours::NewRule;
 use neighbours::checks::{after_a, check_crossed, check_for_insert, covering_slot, slot_b};
 use plan_words::{PlanWrite, word_of};
 use planner::{PositionChoice, SlotRange, choose, write_plan};
 use records::{
-    Cause, Check, EDITION_13, LIST_NUMBERS, MOST_SLOTS, Mode, NARROW, Rule, WIDE_RECORD,
+    Cause, EDITION_13, LIST_NUMBERS, MOST_SLOTS, Mode, NARROW_COUNTED, Refusal, Rule, WIDE_RECORD,
     check_rule, record_words,
 };
 use slots::rules::record_of;
@@ -95,7 +92,7 @@ fn write_choice(
     slots: usize,
     choice: PositionChoice,
     plan: &mut [u32],
-) -> PlanAnswer
+) -> Result<PlanInfo, Refusal>
     requires slots_le_most_slots { (slots ≤ most_slots) × (slots ≤ length down.now) × (slots ≤ length up.now) × (choice.cost < slots) }
     requires stays { Stays (cost_of (cond choice.up up.now down.now)) slots choice.position choice.cost }
     ensures result_value { plan_told result ≡ buffer_answer Pass (length (choice_words (cost_of (cond choice.up up.now down.now)) slots choice)) (length plan.old) }
@@ -103,16 +100,19 @@ fn write_choice(
 {
     let count = choice.cost + 1;
     if plan.len() < count {
-        return PlanAnswer::Refused(Cause::Short, count as u32);
+        return Err(Refusal {
+            cause: Cause::Short,
+            spot: count as u32,
+        });
     }
     if choice.up {
         write_plan(up, slots, choice, plan);
-        return PlanAnswer::Planned(PlanInfo {
+        return Ok(PlanInfo {
             count: count as u32,
         });
     }
     write_plan(down, slots, choice, plan);
-    PlanAnswer::Planned(PlanInfo {
+    Ok(PlanInfo {
         count: count as u32,
     })
 }
@@ -128,7 +128,7 @@ fn plan_with(
     up: &mut [u16],
     plan: &mut [u32],
     mode: Mode,
-) -> PlanAnswer
+) -> Result<PlanInfo, Refusal>
     requires width { (Width mode.width) × (table_checks mode.width mode.uncounted table.now ≡ Pass) × (2 * most_slots ≤ length near.now) × Listed mode.width mode.uncounted table.now near.now }
     requires dependant_bound { (dependant ≤ slots_of mode.width table.now) × ((choice_between mode.width mode.uncounted table.now after dependant).cost < slots_of mode.width table.now) }
     requires most_slots_in_bounds { (most_slots ≤ length ends.old) × (most_slots ≤ length down.old) × (most_slots ≤ length up.old) }
@@ -150,7 +150,7 @@ fn plan_between(
     dependant: usize,
     plan: &mut [u32],
     mode: Mode,
-) -> PlanAnswer
+) -> Result<PlanInfo, Refusal>
     requires width { (Width mode.width) × (table_checks mode.width mode.uncounted table.now ≡ Pass) × (2 * most_slots ≤ length near.now) × Listed mode.width mode.uncounted table.now near.now }
     requires dependant_bound { (dependant ≤ slots_of mode.width table.now) × ((choice_between mode.width mode.uncounted table.now after dependant).cost < slots_of mode.width table.now) }
     ensures result_value { plan_told result ≡ buffer_answer Pass (length (plan_words (choice_between mode.width mode.uncounted table.now after dependant))) (length plan.old) }
@@ -171,7 +171,7 @@ fn plan_between_neighbours(
     new: &[u64],
     plan: &mut [u32],
     mode: Mode,
-) -> PlanAnswer
+) -> Result<PlanInfo, Refusal>
     requires width { (Width mode.width) × (table_checks mode.width mode.uncounted table.now ≡ Pass) × (2 * most_slots ≤ length near.now) × Listed mode.width mode.uncounted table.now near.now }
     requires len { (length new.now ≡ record_words mode.width) × (check_records mode.width new.now ≡ Pass) }
     requires bound { check_crossed mode.width mode.uncounted table.now (slot_words mode.width new.now 0) ≡ Pass
@@ -183,15 +183,12 @@ fn plan_between_neighbours(
 {
     let after = after_a(table, new, mode);
     let dependant = slot_b(table, new, mode);
-    let crossed = check_crossed(after, dependant);
-    if let Check::Fail(cause, spot) = crossed {
-        return PlanAnswer::Refused(cause, spot);
-    }
+    check_crossed(after, dependant)?;
     plan_between(table, near, after, dependant, plan, mode)
 }
 
 // The plan of a replacement: one put-in at the slot of the rule that is replaced.
-fn plan_replacement(slot: usize, plan: &mut [u32]) -> PlanAnswer
+fn plan_replacement(slot: usize, plan: &mut [u32]) -> Result<PlanInfo, Refusal>
     requires { slot < most_slots }
     ensures result_value { plan_told result ≡ buffer_answer Pass (length (replacement_words slot)) (length plan.old) }
     ensures plan_after { plan.new ≡ buffer_after Pass (replacement_words slot) plan.old }
@@ -204,10 +201,10 @@ fn plan_checked(
     table: &[u64],
     near: &[u16],
     new: &[u64],
-    found: NewRule,
+    found: Result<Option<u32>, Refusal>,
     plan: &mut [u32],
     mode: Mode,
-) -> PlanAnswer
+) -> Result<PlanInfo, Refusal>
     requires width { (Width mode.width) × (table_checks mode.width mode.uncounted table.now ≡ Pass) × (2 * most_slots ≤ length near.now) × Listed mode.width mode.uncounted table.now near.now }
     requires len { (length new.now ≡ record_words mode.width) × FoundIn mode.width mode.uncounted table.now (slot_words mode.width new.now 0) found × (found_check found ≡ Pass → check_records mode.width new.now ≡ Pass) }
     requires bound { found_check found ≡ Pass → replaces mode.width mode.uncounted table.now (slot_words mode.width new.now 0) ≡ false
@@ -218,10 +215,9 @@ fn plan_checked(
     ensures plan_after { plan.new ≡ buffer_after (or_else (found_check found) (place_checks mode.width mode.uncounted table.now (slot_words mode.width new.now 0)))
         (record_plan mode.width mode.uncounted table.now (slot_words mode.width new.now 0)) plan.old }
 {
-    match found {
-        NewRule::Adds => plan_between_neighbours(table, near, new, plan, mode),
-        NewRule::Replaces(slot) => plan_replacement(slot as usize, plan),
-        NewRule::Declined(cause, spot) => PlanAnswer::Refused(cause, spot),
+    match found? {
+        None => plan_between_neighbours(table, near, new, plan, mode),
+        Some(slot) => plan_replacement(slot as usize, plan),
     }
 }
 
@@ -230,10 +226,10 @@ fn plan_covered(
     table: &[u64],
     near: &[u16],
     new: &[u64],
-    found: NewRule,
+    found: Result<Option<u32>, Refusal>,
     plan: &mut [u32],
     mode: Mode,
-) -> InsertAnswer
+) -> Result<InsertInfo, Refusal>
     requires width { (Width mode.width) × (table_checks mode.width mode.uncounted table.now ≡ Pass) × (2 * most_slots ≤ length near.now) × Listed mode.width mode.uncounted table.now near.now }
     requires len { (length new.now ≡ record_words mode.width) × FoundIn mode.width mode.uncounted table.now (slot_words mode.width new.now 0) found × (found_check found ≡ Pass → check_records mode.width new.now ≡ Pass) }
     requires bound { found_check found ≡ Pass → replaces mode.width mode.uncounted table.now (slot_words mode.width new.now 0) ≡ false
@@ -245,13 +241,11 @@ fn plan_covered(
     ensures plan_after { plan.new ≡ buffer_after (or_else (found_check found) (place_checks mode.width mode.uncounted table.now (slot_words mode.width new.now 0)))
         (record_plan mode.width mode.uncounted table.now (slot_words mode.width new.now 0)) plan.old }
 {
-    match plan_checked(table, near, new, found, plan, mode) {
-        PlanAnswer::Planned(info) => InsertAnswer::Planned(InsertInfo {
-            count: info.count,
-            covered: covering_slot(table, new, mode.width),
-        }),
-        PlanAnswer::Refused(cause, spot) => InsertAnswer::Refused(cause, spot),
-    }
+    let info = plan_checked(table, near, new, found, plan, mode)?;
+    Ok(InsertInfo {
+        count: info.count,
+        covered: covering_slot(table, new, mode.width),
+    })
 }
 
 // The plan of an insert into a table that passes checks 1 to 4, by its neighbour list: what a rule is checked for, and its plan.
@@ -262,7 +256,7 @@ fn plan_listed(
     edition: u32,
     plan: &mut [u32],
     mode: Mode,
-) -> InsertAnswer
+) -> Result<InsertInfo, Refusal>
     requires width { (Width mode.width) × (table_checks mode.width mode.uncounted table.now ≡ Pass) × (2 * most_slots ≤ length near.now) × Listed mode.width mode.uncounted table.now near.now }
     requires rule_len { length rule.now ≡ record_words mode.width }
     ensures result_value { insert_answer_told result ≡ insert_reply mode.width mode.uncounted table.now (lent_rule mode.width edition rule.now) (length plan.old) }
@@ -282,16 +276,13 @@ fn insert_near(
     rule: &[u64],
     edition: u32,
     mode: Mode,
-) -> InsertAnswer
+) -> Result<InsertInfo, Refusal>
     requires { (Width mode.width) × (length rule.now ≡ record_words mode.width) × (2 * most_slots ≤ length near.old) }
     ensures result_value { insert_answer_told result ≡ insert_reply mode.width mode.uncounted table.now (lent_rule mode.width edition rule.now) (length plan.old) }
     ensures plan_after { plan.new ≡ insert_plan mode.width mode.uncounted table.now (lent_rule mode.width edition rule.now) plan.old }
     ensures table_value { (insert_answer_told result).number ≡ 0 → (table_checks mode.width mode.uncounted table.now ≡ Pass) × Listed mode.width mode.uncounted table.now near.new }
 {
-    let check = check_listed(table, near, mode);
-    if let Check::Fail(cause, spot) = check {
-        return InsertAnswer::Refused(cause, spot);
-    }
+    check_listed(table, near, mode)?;
     plan_listed(table, near, rule, edition, plan, mode)
 }
 
@@ -302,7 +293,7 @@ fn insert_at(
     edition: u32,
     plan: &mut [u32],
     mode: Mode,
-) -> InsertAnswer
+) -> Result<InsertInfo, Refusal>
     requires { (Width mode.width) × (length rule.now ≡ record_words mode.width) }
     ensures result_value { insert_answer_told result ≡ insert_reply mode.width mode.uncounted table.now (lent_rule mode.width edition rule.now) (length plan.old) }
     ensures plan_after { plan.new ≡ insert_plan mode.width mode.uncounted table.now (lent_rule mode.width edition rule.now) plan.old }
@@ -318,16 +309,13 @@ pub fn plan_insert(
     edition: u32,
     plan: &mut [u32],
     mode: Mode,
-) -> InsertAnswer
+) -> Result<InsertInfo, Refusal>
     ensures result_value { insert_answer_told result ≡ insert_call_reply mode.width mode.uncounted edition table.now rule.now (length plan.old) }
     ensures plan_after { plan.new ≡ insert_call_plan mode.width mode.uncounted edition table.now rule.now plan.old }
     ensures shortest { InsertableCall mode.width mode.uncounted edition table.now rule.now
         → Demand3 mode.width mode.uncounted table.now (ranked mode.width (lent_rule mode.width edition rule.now)) (without_cover (insert_answer_told result)) plan.old plan.new }
 {
-    let lent = check_rule(mode.width, rule.len());
-    if let Check::Fail(cause, spot) = lent {
-        return InsertAnswer::Refused(cause, spot);
-    }
+    check_rule(mode.width, rule.len())?;
     insert_at(table, rule, edition, plan, mode)
 }
 
@@ -339,7 +327,7 @@ fn insert_listed_at(
     list: &mut [u16],
     plan: &mut [u32],
     mode: Mode,
-) -> ListedAnswer
+) -> Result<ListedInfo, Refusal>
     requires { (Width mode.width) × (length rule.now ≡ record_words mode.width) × (length list.old ≡ list_numbers mode.width table.now) }
     ensures result_value { listed_answer_told result ≡ with_refreshed (insert_reply mode.width mode.uncounted table.now (lent_rule mode.width edition rule.now) (length plan.old))
         (stale_list mode.width mode.uncounted table.now list.old) }
@@ -348,14 +336,12 @@ fn insert_listed_at(
         (list_of mode.width mode.uncounted table.now) list.old }
 {
     let mut near = [0u16; LIST_NUMBERS];
-    match insert_near(table, &mut near, plan, rule, edition, mode) {
-        InsertAnswer::Planned(info) => ListedAnswer::Planned(ListedInfo {
-            count: info.count,
-            covered: info.covered,
-            refreshed: store_list(&near, list),
-        }),
-        InsertAnswer::Refused(cause, spot) => ListedAnswer::Refused(cause, spot),
-    }
+    let info = insert_near(table, &mut near, plan, rule, edition, mode)?;
+    Ok(ListedInfo {
+        count: info.count,
+        covered: info.covered,
+        refreshed: store_list(&near, list),
+    })
 }
 
 // The shortest plan of an insert with a neighbour list lent, or a refusal that leaves buffer and list as they were.
@@ -366,40 +352,25 @@ pub fn plan_insert_listed(
     list: &mut [u16],
     plan: &mut [u32],
     mode: Mode,
-) -> ListedAnswer
+) -> Result<ListedInfo, Refusal>
     ensures result_value { listed_answer_told result ≡ listed_insert_reply mode.width mode.uncounted edition table.now rule.now list.old (length plan.old) }
     ensures plan_after { plan.new ≡ listed_insert_plan mode.width mode.uncounted edition table.now rule.now (length list.old) plan.old }
     ensures list_after { list.new ≡ listed_insert_list mode.width mode.uncounted edition table.now rule.now list.old (length plan.old) }
     ensures shortest { length list.old ≡ list_numbers mode.width table.now → InsertableCall mode.width mode.uncounted edition table.now rule.now
         → Demand3 mode.width mode.uncounted table.now (ranked mode.width (lent_rule mode.width edition rule.now)) (without_cover (listed_answer_told result)) plan.old plan.new }
 {
-    let lent = check_rule(mode.width, rule.len());
-    if let Check::Fail(cause, spot) = lent {
-        return ListedAnswer::Refused(cause, spot);
-    }
-    let numbers = check_list(table, list.len(), mode.width);
-    if let Check::Fail(cause, spot) = numbers {
-        return ListedAnswer::Refused(cause, spot);
-    }
+    check_rule(mode.width, rule.len())?;
+    check_list(table, list.len(), mode.width)?;
     insert_listed_at(table, rule, edition, list, plan, mode)
 }
 
 // The same of document 01's rule struct, at two words, under 1.3.
-pub fn plan_rule(table: &[u64], rule: Rule, plan: &mut [u32]) -> InsertAnswer
+pub fn plan_rule(table: &[u64], rule: Rule, plan: &mut [u32]) -> Result<InsertInfo, Refusal>
     ensures result_value { insert_answer_told result ≡ insert_reply 2 false table.now (under13 rule) (length plan.old) }
     ensures plan_after { plan.new ≡ insert_plan 2 false table.now (under13 rule) plan.old }
     ensures shortest { InsertableGiven 2 false table.now (under13 rule)
         → Demand3 2 false table.now rule (without_cover (insert_answer_told result)) plan.old plan.new }
 {
     let words = record_of(rule);
-    insert_at(
-        table,
-        &words,
-        EDITION_13,
-        plan,
-        Mode {
-            width: NARROW,
-            uncounted: false,
-        },
-    )
+    insert_at(table, &words, EDITION_13, plan, NARROW_COUNTED)
 }

@@ -9,7 +9,7 @@ ghost use Rattle.records.specs.Record.{most_slots, slot_words, empty};
 ghost use Rattle.records.specs.Order.{slots};
 ghost use Rattle.records.specs.Checks.{check_records};
 ghost use Rattle.records.specs.Widths.{Width};
-ghost use Rattle.records.specs.declared.Check.TheVariants.{Pass};
+ghost use Rattle.records.specs.Verdict.{Pass};
 ghost use Rattle.neighbour_lists.specs.Lists.{precedes_slot, Listed};
 ghost use Rattle.list_updates.specs.Updates.{bounded_by, number_along, place_along, nearest_from, reaches_slot, asks_number, asks_at, ListedAlong, ListedBefore, AlongBefore, NumberBefore};
 
@@ -57,13 +57,11 @@ fn search_along(table: &[u64], slot: usize, from: usize, up: bool, mode: Mode) -
     ensures { result ≡ nearest_from mode.width mode.uncounted table.now up slot from }
 {
     let slots = slot_count(table, mode.width);
-    let mut position = from;
-    while position < slots {
+    for position in from..slots {
         let other = slot_at(slots, up, position);
         if bounded_at(table, slot, other, up, mode) {
             return other as u16;
         }
-        position += 1;
     }
     NO_NUMBER
 }
@@ -154,14 +152,12 @@ fn skip_unasked(
 {
     let slots = slot_count(table, width);
     let end = slot_at(slots, up, written);
-    let mut position = from;
-    while position < end {
+    for position in from..end {
         let slot = slot_at(slots, up, position);
         let number = list[place_along(slot, up)];
         if asks(table, number, slot, written, vacant, up, width) {
             return position;
         }
-        position += 1;
     }
     end
 }

@@ -1,19 +1,21 @@
 -- Document 02, 2026-10: carrying out with a neighbour list lent. But for 1 by the list's length a step answers and writes as the one without a list.
-use Rattle.std.specs.Prelude.{Bool, cond, ◌&&◌, List, [], ◌∷◌, ℕ, ◌+◌, length}
-use Rattle.records.specs.Checks.{Told, success, refusal, unless, passes}
+use Rattle.std.specs.Prelude.{Bool, cond, ◌&&◌, List, [], ◌∷◌, ℕ, ◌+◌, length, Option, Some, None, Result}
+use Rattle.records.specs.Checks.{Told, success, answer_told, unless, passes}
 use Rattle.records.specs.Widths.{check_words, check_rule, leaves}
 use Rattle.records.specs.Editions.{lent_rule}
 use Rattle.buffers.specs.Buffers.{flag_number}
 use Rattle.neighbour_lists.specs.Lists.{list_numbers, list_of, stale_list}
 use Rattle.carrying.specs.Carrying.{step_writes, step_call, step_call_table, step_call_done}
-use Rattle.listed_steps.specs.declared.ListedStepAnswer.{ListedStepAnswer}
-use Rattle.listed_steps.specs.declared.ListedStepAnswer.TheVariants.{Wrote, Finished, Refused}
+use Rattle.records.specs.declared.Refusal.{Refusal}
+use Rattle.listed_steps.specs.declared.ListedStepInfo.{ListedStepInfo}
 
 -- document 01's number and values for each case of a step's answer; a write tells too whether the list was worked out afresh
-abbrev pub listed_step_told : ListedStepAnswer → Told
-listed_step_told (Wrote info) = success (info.done ∷ flag_number info.refreshed ∷ [])
-listed_step_told Finished = success []
-listed_step_told (Refused cause spot) = refusal cause spot
+abbrev pub listed_step_values : Option ListedStepInfo → List ℕ
+listed_step_values (Some info) = info.done ∷ flag_number info.refreshed ∷ []
+listed_step_values None = []
+
+abbrev pub listed_step_told : Result (Option ListedStepInfo) Refusal → Told
+listed_step_told answer = answer_told listed_step_values answer
 
 -- 1 for a list of another length than the table's; else the answer without a list
 abbrev pub listed_step : ℕ → ℕ → List ℕ → List ℕ → List ℕ → ℕ → ℕ → ℕ → Told

@@ -1,6 +1,6 @@
 -- End theorems on a step with a list: its equations by the step without one, and that its answer loses nothing.
-use Rattle.std.specs.Prelude.{◌≡◌, refl, Bool, false, List, [], ◌∷◌, ℕ, ◌+◌, ◌≤◌, eqb, length, get_or}
-use Rattle.std.proofs.Common.{sym, ap₂, ◌∙◌, true≢false, arith}
+use Rattle.std.specs.Prelude.{◌≡◌, refl, Bool, false, List, [], ◌∷◌, ℕ, ◌+◌, ◌≤◌, length, get_or, Option, Some, None, Result, Ok}
+use Rattle.std.proofs.Common.{sym, ◌∙◌, arith}
 use Rattle.std.proofs.Math.Path.{ap}
 use Rattle.std.proofs.Math.Bool.{cond, and-false}
 use Rattle.plan_words.specs.PlanWords.{write_of}
@@ -8,13 +8,13 @@ use Rattle.records.specs.Order.{slots}
 use Rattle.records.proofs.EntriesLaws.{shaped_slots}
 use Rattle.records.proofs.WritesLaws.{apply_slots}
 use Rattle.records.specs.Checks.{Told, success, refusal, check_records, slot_checks}
-use Rattle.records.proofs.Laws.{cause_number_once, cause_not_zero, slot_checks_law, or_else_pass}
+use Rattle.records.proofs.Laws.{answer_told_once, slot_checks_law, or_else_pass}
 use Rattle.records.specs.Widths.{check_rule, check_words}
 use Rattle.records.proofs.WidthsLaws.{leaves_same, shape_turn}
 use Rattle.records.specs.Editions.{Given, lent_rule, ranked}
 use Rattle.records.specs.declared.Cause.{Cause}
-use Rattle.records.specs.declared.Check.{Check}
-use Rattle.records.specs.declared.Check.TheVariants.{Pass, Fail}
+use Rattle.records.specs.Verdict.{Check}
+use Rattle.records.specs.Verdict.{Pass, Fail}
 use Rattle.buffers.specs.Buffers.{flag_number}
 use Rattle.buffers.proofs.BuffersLaws.{flag_once}
 use Rattle.neighbour_lists.specs.Lists.{list_numbers, list_of, stale_list}
@@ -22,25 +22,20 @@ use Rattle.carrying.specs.Carrying.{step_told, done_told, progress_checks, step_
 use Rattle.carrying.specs.Steps.{Writes}
 use Rattle.carrying.proofs.StepsLaws.{carried_below, answer_done, step_moved}
 use Rattle.carrying.specs.declared.StepInfo.{StepInfo}
-use Rattle.carrying.specs.declared.StepAnswer.{StepAnswer}
-use Rattle.carrying.specs.declared.StepAnswer.TheVariants.{Wrote}
-use Rattle.listed_steps.specs.declared.ListedStepAnswer.{ListedStepAnswer}
-use Rattle.listed_steps.specs.declared.ListedStepAnswer.TheVariants.{Wrote as WroteListed, Finished as FinishedListed, Refused as RefusedListed}
-use Rattle.listed_steps.specs.ListedSteps.{listed_step_told, listed_step_reply, listed_step_table, listed_step_list}
+use Rattle.records.specs.declared.Refusal.{Refusal}
+use Rattle.listed_steps.specs.declared.ListedStepInfo.{ListedStepInfo}
+use Rattle.listed_steps.specs.ListedSteps.{listed_step_told, listed_step_values, listed_step_reply, listed_step_table, listed_step_list}
 
 -- an answer's number and values lose nothing
-pub listed_step_told_once : (a b : ListedStepAnswer) → listed_step_told a ≡ listed_step_told b → a ≡ b
-listed_step_told_once (WroteListed x) (WroteListed y) e =
-    λ i. WroteListed (record { done = ap (λ (t : Told). get_or t.values 0 0) e i; refreshed = flag_once x.refreshed y.refreshed (ap (λ (t : Told). get_or t.values 1 0) e) i })
-listed_step_told_once (WroteListed x) FinishedListed e = absurd (omega (arith, ap (λ (t : Told). length t.values) e))
-listed_step_told_once (WroteListed x) (RefusedListed c s) e = absurd (true≢false (ap (λ (t : Told). eqb t.number 0) e ∙ cause_not_zero c))
-listed_step_told_once FinishedListed (WroteListed y) e = absurd (omega (arith, ap (λ (t : Told). length t.values) e))
-listed_step_told_once FinishedListed FinishedListed e = refl
-listed_step_told_once FinishedListed (RefusedListed c s) e = absurd (true≢false (ap (λ (t : Told). eqb t.number 0) e ∙ cause_not_zero c))
-listed_step_told_once (RefusedListed c s) (WroteListed y) e = absurd (true≢false (ap (λ (t : Told). eqb t.number 0) (sym e) ∙ cause_not_zero c))
-listed_step_told_once (RefusedListed c s) FinishedListed e = absurd (true≢false (ap (λ (t : Told). eqb t.number 0) (sym e) ∙ cause_not_zero c))
-listed_step_told_once (RefusedListed c s) (RefusedListed d u) e =
-    ap₂ RefusedListed (cause_number_once c d (ap (λ (t : Told). t.number) e)) (ap (λ (t : Told). get_or t.values 0 0) e)
+pub listed_step_told_once : (a b : Result (Option ListedStepInfo) Refusal) → listed_step_told a ≡ listed_step_told b → a ≡ b
+listed_step_told_once = answer_told_once listed_step_values same
+  where
+    same : (x y : Option ListedStepInfo) → listed_step_values x ≡ listed_step_values y → x ≡ y
+    same (Some x) (Some y) e =
+        λ i. Some (record { done = ap (λ (l : List ℕ). get_or l 0 0) e i; refreshed = flag_once x.refreshed y.refreshed (ap (λ (l : List ℕ). get_or l 1 0) e) i })
+    same (Some x) None e = absurd (omega (arith, ap (λ (l : List ℕ). length l) e))
+    same None (Some y) e = absurd (omega (arith, ap (λ (l : List ℕ). length l) e))
+    same None None e = refl
 
 -- a step that writes: its table passes checks 1 and 2, and has as many slots afterwards
 module _ (w : ℕ) (t plan : List ℕ) (given : Given) (done total : ℕ) where
@@ -56,12 +51,12 @@ module _ (w : ℕ) (t plan : List ℕ) (given : Given) (done total : ℕ) where
       ∙ apply_slots w t (ranked w given) (write_of (get_or plan done 0)) (carried_below w t (ranked w given) (write_of (get_or plan done 0)) step.fits)
 
   -- the writes done that it tells
-  pub writes_done : {a : StepAnswer} (info : StepInfo) → a ≡ Wrote info → step_told a ≡ step_answer w t plan given done total → Writes w t plan given done total → info.done ≡ done + 1
+  pub writes_done : {a : Result (Option StepInfo) Refusal} (info : StepInfo) → a ≡ Ok (Some info) → step_told a ≡ step_answer w t plan given done total → Writes w t plan given done total → info.done ≡ done + 1
   unfolding step_done
   writes_done info e told step = answer_done w t plan given done total e told ∙ ap (λ (b : Bool). cond b (done + 1) done) step.writes
 
   -- an answer by which as many writes are done as before
-  pub answer_still : {a b : StepAnswer} → a ≡ b → step_told a ≡ step_answer w t plan given done total → done_told (step_told b) done ≡ done → step_writes w t plan given done total ≡ false
+  pub answer_still : {a b : Result (Option StepInfo) Refusal} → a ≡ b → step_told a ≡ step_answer w t plan given done total → done_told (step_told b) done ≡ done → step_writes w t plan given done total ≡ false
   answer_still e told same = (step_moved w t plan given done total done (sym same ∙ answer_done w t plan given done total e told)).1 (omega arith)
 
 -- the ways in which a call ends: its answer, the table and the list

@@ -12,10 +12,9 @@ ghost use Rattle.neighbour_lists.specs.Lists.{list_numbers, list_of, stale_list}
 ghost use Rattle.carrying.specs.Carrying.{step_answer, step_writes, step_table};
 ghost use Rattle.listed_steps.specs.ListedSteps.{listed_step_told, listed_step_reply, listed_step_table, listed_step_list};
 
-use carrying::StepAnswer;
 use listed_writes::write_listed;
 use neighbour_lists::lent::{check_list, refresh_list};
-use records::{Cause, Check, Mode, check_rule};
+use records::{Cause, Mode, Refusal, check_rule};
 use step_checks::next_step;
 
 // What a step that wrote tells: how many writes are done now, and whether the list was worked out afresh before the write.
@@ -23,14 +22,6 @@ use step_checks::next_step;
 pub struct ListedStepInfo {
     pub done: u32,
     pub refreshed: bool,
-}
-
-// What a step with a list answers.
-#[derive(Clone, Copy)]
-pub enum ListedStepAnswer {
-    Wrote(ListedStepInfo),
-    Finished,
-    Refused(Cause, u32),
 }
 
 // The next write of a plan at a width that there is, its rule lent as a record, with a list of the table's length. The list is worked out from the table before
@@ -44,7 +35,7 @@ fn step_listed_at(
     done: u32,
     total: u32,
     mode: Mode,
-) -> ListedStepAnswer
+) -> Result<Option<ListedStepInfo>, Refusal>
     requires { (Width mode.width) × (length rule.now ≡ record_words mode.width) × (length list.old ≡ list_numbers mode.width table.old) }
     ensures result_value { listed_step_told result ≡ cond (step_writes mode.width table.old plan.now (lent_rule mode.width edition rule.now) done total)
         (success ((done + 1) ∷ flag_number (stale_list mode.width mode.uncounted table.old list.old) ∷ []))
@@ -53,17 +44,16 @@ fn step_listed_at(
     ensures list_after { list.new ≡ cond (step_writes mode.width table.old plan.now (lent_rule mode.width edition rule.now) done total)
         (list_of mode.width mode.uncounted (step_table mode.width table.old plan.now (lent_rule mode.width edition rule.now) done total)) list.old }
 {
-    match next_step(table, plan, rule, edition, done, total, mode.width) {
-        StepAnswer::Wrote(info) => {
+    match next_step(table, plan, rule, edition, done, total, mode.width)? {
+        None => Ok(None),
+        Some(info) => {
             let refreshed = refresh_list(table, list, mode);
             write_listed(table, list, rule, edition, plan[done as usize], mode);
-            ListedStepAnswer::Wrote(ListedStepInfo {
+            Ok(Some(ListedStepInfo {
                 done: info.done,
                 refreshed,
-            })
+            }))
         }
-        StepAnswer::Finished => ListedStepAnswer::Finished,
-        StepAnswer::Refused(cause, spot) => ListedStepAnswer::Refused(cause, spot),
     }
 }
 
@@ -77,18 +67,12 @@ pub fn step_listed(
     done: u32,
     total: u32,
     mode: Mode,
-) -> ListedStepAnswer
+) -> Result<Option<ListedStepInfo>, Refusal>
     ensures result_value { listed_step_told result ≡ listed_step_reply mode.width mode.uncounted edition table.old plan.now rule.now list.old done total }
     ensures table_after { table.new ≡ listed_step_table mode.width edition table.old plan.now rule.now (length list.old) done total }
     ensures list_after { list.new ≡ listed_step_list mode.width mode.uncounted edition table.old plan.now rule.now list.old done total }
 {
-    let lent = check_rule(mode.width, rule.len());
-    if let Check::Fail(cause, spot) = lent {
-        return ListedStepAnswer::Refused(cause, spot);
-    }
-    let numbers = check_list(table, list.len(), mode.width);
-    if let Check::Fail(cause, spot) = numbers {
-        return ListedStepAnswer::Refused(cause, spot);
-    }
+    check_rule(mode.width, rule.len())?;
+    check_list(table, list.len(), mode.width)?;
     step_listed_at(table, plan, rule, edition, list, done, total, mode)
 }

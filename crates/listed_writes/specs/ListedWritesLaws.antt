@@ -18,7 +18,7 @@ use Rattle.records.proofs.Laws.{records_law, empty_law}
 use Rattle.records.specs.Editions.{Given, ranked}
 use Rattle.records.proofs.EditionsLaws.{given_law, rank_sound}
 use Rattle.records.specs.declared.Rule.{Rule}
-use Rattle.records.specs.declared.Check.TheVariants.{Pass}
+use Rattle.records.specs.Verdict.{Pass}
 use Rattle.carrying.specs.Carrying.{written_slot, put_checks}
 use Rattle.list_updates.specs.Updates.{BeforeWrite}
 

@@ -10,7 +10,7 @@ ghost use Rattle.records.specs.Widths.{Width};
 ghost use Rattle.records.specs.Editions.{lent_rule, ranked};
 ghost use Rattle.records.specs.Checks.{check_records};
 ghost use Rattle.records.specs.Writes.{apply_word};
-ghost use Rattle.records.specs.declared.Check.TheVariants.{Pass};
+ghost use Rattle.records.specs.Verdict.{Pass};
 ghost use Rattle.neighbour_lists.specs.Lists.{Listed, list_numbers};
 ghost use Rattle.carrying.specs.Carrying.{put_checks, fits_carried};
 

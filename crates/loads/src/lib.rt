@@ -7,16 +7,15 @@ ghost use Rattle.records.specs.Record.{most_slots, most_words};
 ghost use Rattle.records.specs.Order.{slots};
 ghost use Rattle.records.specs.Checks.{or_else, check_shape, check_records, check_twice, check_order};
 ghost use Rattle.records.specs.Widths.{Width};
-ghost use Rattle.records.specs.declared.Check.TheVariants.{Pass};
+ghost use Rattle.records.specs.Verdict.{checked, Pass};
 ghost use Rattle.image.specs.Format.{image_bytes, entry_slot};
 ghost use Rattle.image.specs.Checks.{image_checks, rules_put};
 ghost use Rattle.image.specs.Answers.{load_told, load_answer, load_table, load_call, load_call_table};
 
-use image::LoadAnswer;
 use image::fields::number_at;
 use image::sizes::entry_place;
 use image_checks::{check_fields, put_meant};
-use records::{Cause, Check, LIST_NUMBERS, Mode, NARROW, NARROW_TABLE, WIDE_TABLE, check_width};
+use records::{Cause, LIST_NUMBERS, Mode, NARROW, NARROW_TABLE, Refusal, WIDE_TABLE, check_width};
 use table_checks::check_pairs;
 
 // Puts each rule's record into its slot.
@@ -25,38 +24,29 @@ fn fill(image: &[u8], rules: usize, table: &mut [u64], width: usize)
     requires by_index { (k : ℕ) → k < rules → entry_slot image.now k < slots width table.old }
     ensures { table.new ≡ rules_put width image.now rules table.old rules }
 {
-    let mut entry = 0;
-    while entry < rules {
+    for entry in 0..rules {
         let slot = number_at(image, entry_place(entry) + 4, 2) as usize;
         put_meant(image, rules, entry, table, slot, width);
-        entry += 1;
     }
 }
 
 // Checks 3 and 4 of the table meant.
-fn check_meant(table: &[u64], mode: Mode) -> Check
+fn check_meant(table: &[u64], mode: Mode) -> Result<(), Refusal>
     requires width { (Width mode.width) × (slots mode.width table.now ≤ most_slots) }
     requires table_value { check_records mode.width table.now ≡ Pass }
-    ensures { result ≡ or_else (check_twice mode.width table.now) (check_order mode.width mode.uncounted table.now) }
+    ensures { checked result ≡ or_else (check_twice mode.width table.now) (check_order mode.width mode.uncounted table.now) }
 {
     let mut near = [0u16; LIST_NUMBERS];
     check_pairs(table, &mut near, mode)
 }
 
-// Writes a table's words over another's.
-fn copy_words(from: &[u64], to: &mut [u64])
-    requires { length from.now ≡ length to.old }
-    ensures { to.new ≡ from.now }
-{
-    let mut word = 0;
-    while word < from.len() {
-        to[word] = from[word];
-        word += 1;
-    }
-}
-
 // The table meant by an image that passes its checks: built in a working table of zeros, checked there, then written.
-fn load_through(image: &[u8], working: &mut [u64], table: &mut [u64], mode: Mode) -> LoadAnswer
+fn load_through(
+    image: &[u8],
+    working: &mut [u64],
+    table: &mut [u64],
+    mode: Mode,
+) -> Result<(), Refusal>
     requires width { Width mode.width }
     requires table_value { (or_else (check_shape mode.width table.old) (image_checks mode.width image.now (slots mode.width table.old)) ≡ Pass) × (working.old ≡ replicate (length table.old) 0) }
     ensures result_value { load_told result ≡ load_answer mode.width mode.uncounted image.now table.old }
@@ -64,41 +54,28 @@ fn load_through(image: &[u8], working: &mut [u64], table: &mut [u64], mode: Mode
 {
     let rules = number_at(image, 2, 2) as usize;
     fill(image, rules, working, mode.width);
-    let check = check_meant(working, mode);
-    if let Check::Fail(cause, spot) = check {
-        return LoadAnswer::Refused(cause, spot);
-    }
-    copy_words(working, table);
-    LoadAnswer::Loaded
+    check_meant(working, mode)?;
+    table.copy_from_slice(working);
+    Ok(())
 }
 
-// With a working table for values of two words, and of five: each of its own, so that the smaller load has the smaller stack.
-fn load_narrow(image: &[u8], table: &mut [u64], mode: Mode) -> LoadAnswer
-    requires width { (Width mode.width) × (length table.old ≤ most_words 2) }
+// With a working table of so many words: a copy for each number, so that the smaller load has the smaller stack.
+fn load_with<const WORDS: usize>(image: &[u8], table: &mut [u64], mode: Mode) -> Result<(), Refusal>
+    requires width { (Width mode.width) × (length table.old ≤ WORDS) × (WORDS ≤ most_words 5) }
     requires table_value { or_else (check_shape mode.width table.old) (image_checks mode.width image.now (slots mode.width table.old)) ≡ Pass }
     ensures result_value { load_told result ≡ load_answer mode.width mode.uncounted image.now table.old }
     ensures table_after { table.new ≡ load_table mode.width mode.uncounted image.now table.old }
 {
     let words = table.len();
-    let mut working = [0u64; NARROW_TABLE];
-    load_through(image, &mut working[0..words], table, mode)
-}
-
-fn load_wide(image: &[u8], table: &mut [u64], mode: Mode) -> LoadAnswer
-    requires width { (Width mode.width) × (length table.old ≤ most_words 5) }
-    requires table_value { or_else (check_shape mode.width table.old) (image_checks mode.width image.now (slots mode.width table.old)) ≡ Pass }
-    ensures result_value { load_told result ≡ load_answer mode.width mode.uncounted image.now table.old }
-    ensures table_after { table.new ≡ load_table mode.width mode.uncounted image.now table.old }
-{
-    let words = table.len();
-    let mut working = [0u64; WIDE_TABLE];
-    load_through(image, &mut working[0..words], table, mode)
+    let mut working = [0u64; WORDS];
+    let zeros = &mut working[..];
+    load_through(image, &mut zeros[0..words], table, mode)
 }
 
 // Through a working table of its width's size. No table that passes check 1 is longer than the larger one, so that the call of itself is never made: it keeps
 // the compiler from making one frame of this function and those below, in which a load at two words would have the larger table too. It would answer the other
 // way round, so that the compiler cannot make a loop of it.
-fn load_sized(image: &[u8], table: &mut [u64], mode: Mode) -> LoadAnswer
+fn load_sized(image: &[u8], table: &mut [u64], mode: Mode) -> Result<(), Refusal>
     requires width { Width mode.width }
     requires table_value { or_else (check_shape mode.width table.old) (image_checks mode.width image.now (slots mode.width table.old)) ≡ Pass }
     ensures result_value { load_told result ≡ load_answer mode.width mode.uncounted image.now table.old }
@@ -106,37 +83,34 @@ fn load_sized(image: &[u8], table: &mut [u64], mode: Mode) -> LoadAnswer
 {
     if WIDE_TABLE < table.len() {
         return match load_sized(image, table, mode) {
-            LoadAnswer::Loaded => LoadAnswer::Refused(Cause::Shape, 0),
-            LoadAnswer::Refused(_, _) => LoadAnswer::Loaded,
+            Ok(()) => Err(Refusal {
+                cause: Cause::Shape,
+                spot: 0,
+            }),
+            Err(_) => Ok(()),
         };
     }
     if mode.width == NARROW {
-        return load_narrow(image, table, mode);
+        return load_with::<NARROW_TABLE>(image, table, mode);
     }
-    load_wide(image, table, mode)
+    load_with::<WIDE_TABLE>(image, table, mode)
 }
 
 // The table of an image at a width that there is.
-fn load_at(image: &[u8], table: &mut [u64], mode: Mode) -> LoadAnswer
+fn load_at(image: &[u8], table: &mut [u64], mode: Mode) -> Result<(), Refusal>
     requires { Width mode.width }
     ensures result_value { load_told result ≡ load_answer mode.width mode.uncounted image.now table.old }
     ensures table_after { table.new ≡ load_table mode.width mode.uncounted image.now table.old }
 {
-    let check = check_fields(image, table, mode.width);
-    if let Check::Fail(cause, spot) = check {
-        return LoadAnswer::Refused(cause, spot);
-    }
+    check_fields(image, table, mode.width)?;
     load_sized(image, table, mode)
 }
 
 // The table of an image, into the lent table, or a refusal that leaves it as it was.
-pub fn load(image: &[u8], table: &mut [u64], mode: Mode) -> LoadAnswer
+pub fn load(image: &[u8], table: &mut [u64], mode: Mode) -> Result<(), Refusal>
     ensures result_value { load_told result ≡ load_call mode.width mode.uncounted image.now table.old }
     ensures table_after { table.new ≡ load_call_table mode.width mode.uncounted image.now table.old }
 {
-    let known = check_width(mode.width);
-    if let Check::Fail(cause, spot) = known {
-        return LoadAnswer::Refused(cause, spot);
-    }
+    check_width(mode.width)?;
     load_at(image, table, mode)
 }

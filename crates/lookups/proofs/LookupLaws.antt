@@ -1,7 +1,8 @@
 -- End theorems on lookup: its three cases in words, the reply, and where a slot's record lies.
-use Rattle.std.specs.Prelude.{◌≡◌, refl, true, false, ◌&&◌, ◌↔◌, ◌⊎◌, List, [], ◌∷◌, ℕ, ◌*◌, ◌<◌, ltb, length, get_or}
+use Rattle.std.specs.Prelude.{◌≡◌, refl, true, false, ◌&&◌, ◌↔◌, ◌⊎◌, List, [], ◌∷◌, ℕ, ◌*◌, ◌<◌, ltb, length, get_or, Option, Some, None, Result, Ok, Err}
 use Rattle.std.proofs.Math.Path.{ap}
-use Rattle.std.proofs.Common.{ap₂, ◌∙◌, ⊎_elim, arith, length-take, length-drop}
+use Rattle.std.specs.Result.{is_err}
+use Rattle.std.proofs.Common.{◌∙◌, ⊎_elim, arith, length-take, length-drop}
 use Rattle.std.proofs.lemmas.Bool.{false≢true}
 use Rattle.std.proofs.Math.Logic.◌⊎◌.{inl, inr}
 use Rattle.std.proofs.Math.ListN.{drop}
@@ -13,20 +14,24 @@ use Rattle.ternary.specs.Pattern.{Words}
 use Rattle.records.specs.Record.{record_words, slot_words, slot_matches, ident, action, occupied}
 use Rattle.records.specs.Order.{slots}
 use Rattle.records.specs.Checks.{Told, refusal, passes, slot_checks, first_match}
-use Rattle.records.proofs.Laws.{cause_number_once, slot_within, first_match_law, hit_id}
+use Rattle.records.proofs.Laws.{answer_told_once, slot_within, first_match_law, hit_id}
 use Rattle.records.specs.Widths.{Width, check_width}
 use Rattle.records.proofs.WidthsLaws.{width_law}
 use Rattle.records.specs.declared.Cause.{Cause}
-use Rattle.records.specs.declared.Check.{Check}
-use Rattle.records.specs.declared.Check.TheVariants.{Pass, Fail}
-use Rattle.lookups.specs.declared.LookupAnswer.{LookupAnswer}
-use Rattle.lookups.specs.declared.LookupAnswer.TheVariants.{Found, Miss, Refused}
-use Rattle.lookups.specs.Lookup.{lookup_answer, reply, hit_at, Case, NoMatch, FirstAt, lookup_told, shown, match_told}
+use Rattle.records.specs.Verdict.{Check, Pass, Fail, checked}
+use Rattle.records.specs.declared.Refusal.{Refusal}
+use Rattle.lookups.specs.declared.Hit.{Hit}
+use Rattle.lookups.specs.Lookup.{lookup_answer, reply, hit_at, Case, NoMatch, FirstAt, lookup_told, lookup_values, shown, match_told}
 use Rattle.lookups.specs.Lookup.{shown_call, part_start_call, part_length_call, record_part_call, hit, refused_by, miss}
 
 pub passes_law : (c : Check) → passes c ≡ true → c ≡ Pass
 passes_law Pass e = refl
 passes_law (Fail cause spot) e = absurd (false≢true e)
+
+-- a check that is an error has not passed
+pub declined : (r : Result (Unit {0}) Refusal) → is_err r ≡ true → passes (checked r) ≡ false
+declined (Ok done) e = absurd (false≢true e)
+declined (Err refused) e = refl
 
 pub shown_law : (w : ℕ) (t : List ℕ) (i : ℕ)
     → (shown w t i ≡ true) ↔ ((slot_checks w t ≡ Pass) × (i < slots w t) × (occupied w (slot_words w t i) ≡ true))
@@ -82,19 +87,16 @@ counts : {a b : Told} → a ≡ b → (length a.values ≡ length b.values → �
 counts e f = f (ap (λ (t : Told). length t.values) e)
 
 -- answers that tell the same are the same: the number and the values of a case lose nothing
-pub lookup_told_once : (a b : LookupAnswer) → lookup_told a ≡ lookup_told b → a ≡ b
-lookup_told_once (Found h) (Found g) e =
-    let at : (k : ℕ) → get_or (lookup_told (Found h)).values k 0 ≡ get_or (lookup_told (Found g)).values k 0 = λ k. ap (λ (t : Told). get_or t.values k 0) e in
-    λ i. Found (record { slot = at 0 i; id = at 1 i; action = at 2 i })
-lookup_told_once (Found h) Miss e = absurd (counts e (λ n. omega arith))
-lookup_told_once (Found h) (Refused c s) e = absurd (counts e (λ n. omega arith))
-lookup_told_once Miss (Found g) e = absurd (counts e (λ n. omega arith))
-lookup_told_once Miss Miss e = refl
-lookup_told_once Miss (Refused c s) e = absurd (counts e (λ n. omega arith))
-lookup_told_once (Refused c s) (Found g) e = absurd (counts e (λ n. omega arith))
-lookup_told_once (Refused c s) Miss e = absurd (counts e (λ n. omega arith))
-lookup_told_once (Refused c s) (Refused d u) e =
-    ap₂ Refused (cause_number_once c d (ap (λ (t : Told). t.number) e)) (ap (λ (t : Told). get_or t.values 0 0) e)
+pub lookup_told_once : (a b : Result (Option Hit) Refusal) → lookup_told a ≡ lookup_told b → a ≡ b
+lookup_told_once = answer_told_once lookup_values same
+  where
+    same : (x y : Option Hit) → lookup_values x ≡ lookup_values y → x ≡ y
+    same (Some h) (Some g) e =
+        let at : (k : ℕ) → get_or (lookup_values (Some h)) k 0 ≡ get_or (lookup_values (Some g)) k 0 = λ k. ap (λ (l : List ℕ). get_or l k 0) e in
+        λ i. Some (record { slot = at 0 i; id = at 1 i; action = at 2 i })
+    same (Some h) None e = absurd (omega (arith, ap (λ (l : List ℕ). length l) e))
+    same None (Some g) e = absurd (omega (arith, ap (λ (l : List ℕ). length l) e))
+    same None None e = refl
 
 -- What lookup answers, in words: each case has its answer, and one of the cases holds.
 module _ (w : ℕ) (t : List ℕ) (key : Words) where
@@ -106,19 +108,19 @@ module _ (w : ℕ) (t : List ℕ) (key : Words) where
   unfolding first_match
   first_none f = least_none (λ (k : ℕ). slot_matches w key (slot_words w t k)) (slots w t) f
 
-  match_hit : (i : ℕ) → FirstAt w t key i → match_told w t (first_match w t key) ≡ lookup_told (Found (hit_at w t i))
+  match_hit : (i : ℕ) → FirstAt w t key i → match_told w t (first_match w t key) ≡ lookup_told (Ok (Some (hit_at w t i)))
   unfolding match_told
   match_hit i f = rw (first_at i f, lt-ltb i (slots w t) f.0)
 
-  match_miss : NoMatch w t key → match_told w t (first_match w t key) ≡ lookup_told Miss
+  match_miss : NoMatch w t key → match_told w t (first_match w t key) ≡ lookup_told (Ok None)
   unfolding match_told
   match_miss f = rw (first_none f, le-ltb (slots w t) (slots w t) (omega arith))
 
-  pub lookup_hit : (i : ℕ) → slot_checks w t ≡ Pass → FirstAt w t key i → lookup_answer w t key ≡ lookup_told (Found (hit_at w t i))
+  pub lookup_hit : (i : ℕ) → slot_checks w t ≡ Pass → FirstAt w t key i → lookup_answer w t key ≡ lookup_told (Ok (Some (hit_at w t i)))
   unfolding lookup_answer
   lookup_hit i e f = rw e (match_hit i f)
 
-  pub lookup_miss : slot_checks w t ≡ Pass → NoMatch w t key → lookup_answer w t key ≡ lookup_told Miss
+  pub lookup_miss : slot_checks w t ≡ Pass → NoMatch w t key → lookup_answer w t key ≡ lookup_told (Ok None)
   unfolding lookup_answer
   lookup_miss e f = rw e (match_miss f)
 

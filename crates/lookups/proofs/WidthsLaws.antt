@@ -5,7 +5,7 @@ use Rattle.records.specs.Record.{word}
 use Rattle.records.specs.Checks.{unless}
 use Rattle.records.specs.Widths.{Width}
 use Rattle.records.proofs.WidthsLaws.{key_law}
-use Rattle.records.specs.declared.Check.{Check}
+use Rattle.records.specs.Verdict.{Check}
 use Rattle.lookups.specs.Lookup.{lookup_answer, lookup_call}
 
 -- with a key of as many words, the call has the lookup's answer

@@ -1,22 +1,23 @@
 -- Lookup: what a key is answered; and a slot's record as a part of the lent table.
 -- The contracts of lookup and slot_record are equations with these definitions, at the width that the call names.
-use Rattle.std.specs.Prelude.{◌≡◌, Bool, true, false, cond, ◌&&◌, List, [], ◌∷◌, ℕ, ◌*◌, ◌<◌, ltb, length, take, drop}
+use Rattle.std.specs.Prelude.{◌≡◌, Bool, true, false, cond, ◌&&◌, List, [], ◌∷◌, ℕ, ◌*◌, ◌<◌, ltb, length, take, drop, Option, Some, None, Result, Ok}
 use Rattle.ternary.specs.Pattern.{Words}
 use Rattle.records.specs.Record.{word, record_words, slot_words, slot_matches, ident, action, occupied}
 use Rattle.records.specs.Order.{slots}
-use Rattle.records.specs.Checks.{Told, success, refusal, unless, passes, slot_checks, first_match}
+use Rattle.records.specs.Checks.{Told, answer_told, unless, passes, slot_checks, first_match}
 use Rattle.records.specs.Widths.{check_width, check_key}
 use Rattle.records.specs.declared.Cause.{Cause}
-use Rattle.records.specs.declared.Check.TheVariants.{Pass, Fail}
+use Rattle.records.specs.declared.Refusal.{Refusal}
+use Rattle.records.specs.Verdict.{Pass, Fail}
 use Rattle.lookups.specs.declared.Hit.{Hit}
-use Rattle.lookups.specs.declared.LookupAnswer.{LookupAnswer}
-use Rattle.lookups.specs.declared.LookupAnswer.TheVariants.{Found, Miss, Refused}
 
 -- document 01's number and values for each case of the answer
-abbrev pub lookup_told : LookupAnswer → Told
-lookup_told (Found hit) = success (hit.slot ∷ hit.id ∷ hit.action ∷ [])
-lookup_told Miss = success []
-lookup_told (Refused cause spot) = refusal cause spot
+abbrev pub lookup_values : Option Hit → List ℕ
+lookup_values (Some hit) = hit.slot ∷ hit.id ∷ hit.action ∷ []
+lookup_values None = []
+
+abbrev pub lookup_told : Result (Option Hit) Refusal → Told
+lookup_told answer = answer_told lookup_values answer
 
 -- slot, id and action of the rule in a slot
 unfoldable pub hit_at : ℕ → List ℕ → ℕ → Hit
@@ -24,7 +25,7 @@ hit_at w t i = record { slot = i; id = ident w (slot_words w t i); action = acti
 
 -- the match in a slot; a miss where there is no such slot
 unfoldable pub match_told : ℕ → List ℕ → ℕ → Told
-match_told w t i = cond (ltb i (slots w t)) (lookup_told (Found (hit_at w t i))) (lookup_told Miss)
+match_told w t i = cond (ltb i (slots w t)) (lookup_told (Ok (Some (hit_at w t i)))) (lookup_told (Ok None))
 
 -- document 01: lookup makes checks 1 and 2; the lowest-numbered matching slot wins
 unfoldable pub lookup_answer : ℕ → List ℕ → Words → Told

@@ -4,20 +4,10 @@
 
 pub mod lookup;
 
-use records::Cause;
-
 // What a lookup that hits tells.
 #[derive(Clone, Copy)]
 pub struct Hit {
     pub slot: u32,
     pub id: u32,
     pub action: u32,
-}
-
-// What a lookup answers.
-#[derive(Clone, Copy)]
-pub enum LookupAnswer {
-    Found(Hit),
-    Miss,
-    Refused(Cause, u32),
 }

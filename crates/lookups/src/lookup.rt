@@ -6,8 +6,8 @@ ghost use Rattle.records.specs.Order.{slots};
 ghost use Rattle.records.specs.Widths.{Width};
 ghost use Rattle.lookups.specs.Lookup.{lookup_told, hit_at, match_told, lookup_answer, lookup_call, shown, shown_call, part_start_call, record_part_call};
 
-use crate::{Hit, LookupAnswer};
-use records::{Check, check_key, check_width, record_words};
+use crate::Hit;
+use records::{Refusal, check_key, check_width, record_words};
 use slots::rules::{lower_half, upper_half};
 use slots::{named_word, slot_count, slot_empty};
 use table_checks::{check_slots, first_match};
@@ -26,36 +26,30 @@ fn hit_at(table: &[u64], slot: usize, width: usize) -> Hit
 }
 
 // The answer for a slot: its hit, or a miss where there is no such slot.
-fn match_answer(table: &[u64], slot: usize, width: usize) -> LookupAnswer
+fn match_answer(table: &[u64], slot: usize, width: usize) -> Result<Option<Hit>, Refusal>
     requires { (Width width) × (slots width table.now ≤ most_slots) }
     ensures { lookup_told result ≡ match_told width table.now slot }
 {
     if slot < slot_count(table, width) {
         let hit = hit_at(table, slot, width);
-        return LookupAnswer::Found(hit);
+        return Ok(Some(hit));
     }
-    LookupAnswer::Miss
+    Ok(None)
 }
 
-fn lookup_at(table: &[u64], key: &[u64], width: usize) -> LookupAnswer
+fn lookup_at(table: &[u64], key: &[u64], width: usize) -> Result<Option<Hit>, Refusal>
     requires { (Width width) × (length key.now ≡ width) }
     ensures { lookup_told result ≡ lookup_answer width table.now (word key.now) }
 {
-    let check = check_slots(table, width);
-    if let Check::Fail(cause, spot) = check {
-        return LookupAnswer::Refused(cause, spot);
-    }
+    check_slots(table, width)?;
     match_answer(table, first_match(table, key, width), width)
 }
 
 // The lowest-numbered slot that matches a key, with its id and action; a miss; or a refusal by check 1 or 2.
-pub fn lookup(table: &[u64], key: &[u64], width: usize) -> LookupAnswer
+pub fn lookup(table: &[u64], key: &[u64], width: usize) -> Result<Option<Hit>, Refusal>
     ensures { lookup_told result ≡ lookup_call width table.now key.now }
 {
-    let lent = check_key(width, key.len());
-    if let Check::Fail(cause, spot) = lent {
-        return LookupAnswer::Refused(cause, spot);
-    }
+    check_key(width, key.len())?;
     lookup_at(table, key, width)
 }
 
@@ -64,8 +58,7 @@ fn shown_at(table: &[u64], slot: usize, width: usize) -> bool
     requires { Width width }
     ensures { result ≡ shown width table.now slot }
 {
-    let check = check_slots(table, width);
-    if let Check::Fail(_, _) = check {
+    if check_slots(table, width).is_err() {
         return false;
     }
     if slot < slot_count(table, width) {
@@ -77,8 +70,7 @@ fn shown_at(table: &[u64], slot: usize, width: usize) -> bool
 fn slot_shown(table: &[u64], slot: usize, width: usize) -> bool
     ensures { result ≡ shown_call width table.now slot }
 {
-    let known = check_width(width);
-    if let Check::Fail(_, _) = known {
+    if check_width(width).is_err() {
         return false;
     }
     shown_at(table, slot, width)

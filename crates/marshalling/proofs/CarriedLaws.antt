@@ -1,12 +1,12 @@
 -- End theorems on the number that carrying out returns: each case has its own, and a refusal's halves are its number and its spot.
-use Rattle.std.specs.Prelude.{◌≡◌, refl, Bool, true, false, not, cond, ◌&&◌, List, [], ◌∷◌, eqb, length, get_or}
+use Rattle.std.specs.Prelude.{◌≡◌, refl, Bool, true, false, not, cond, ◌&&◌, List, [], ◌∷◌, eqb, length, get_or, Option, Some, None, Result, Ok, Err}
 use Rattle.std.proofs.Common.{sym, ap, ◌∙◌, true≢false, arith}
 use Prim.Native.Nat.{ℕ, zero, suc, ◌+◌, ◌*◌, ◌/◌, ◌%◌, ◌≤◌, ◌<◌}
 use Rattle.records.specs.Checks.{Told, cause_number, success, refusal, unless, passes}
 use Rattle.records.specs.Widths.{check_words, check_rule, leaves}
 use Rattle.records.specs.Editions.{lent_rule}
-use Rattle.records.specs.declared.Check.{Check}
-use Rattle.records.specs.declared.Check.TheVariants.{Pass, Fail}
+use Rattle.records.specs.Verdict.{Check}
+use Rattle.records.specs.Verdict.{Pass, Fail}
 use Rattle.records.proofs.Laws.{cause_not_zero, cause_number_once}
 use Rattle.records.specs.declared.Cause.{Cause}
 use Rattle.records.specs.declared.Cause.TheVariants.{Shape, Record, Twice, Order, Rule as RuleCause, Known, Unknown, Tie, Full, Crossed, Short}
@@ -15,8 +15,7 @@ use Rattle.buffers.specs.Buffers.{flag_number}
 use Rattle.neighbour_lists.specs.Lists.{list_numbers, stale_list}
 use Rattle.carrying.specs.Carrying.{step_told, done_told, step_call, progress_checks, write_checks, step_answer, step_writes, step_done}
 use Rattle.carrying.specs.declared.StepInfo.{StepInfo}
-use Rattle.carrying.specs.declared.StepAnswer.{StepAnswer}
-use Rattle.carrying.specs.declared.StepAnswer.TheVariants.{Wrote, Finished, Refused}
+use Rattle.records.specs.declared.Refusal.{Refusal}
 use Rattle.carrying.proofs.StepsLaws.{done_refused, call_done_told}
 use Rattle.carrying.proofs.SpotsLaws.{call_spot}
 use Rattle.listed_steps.specs.ListedSteps.{listed_step, listed_step_reply, listed_step_done, listed_step_cell}
@@ -24,13 +23,13 @@ use Rattle.marshalling.specs.declared.Carried.{Carried}
 use Rattle.marshalling.specs.Carried.{SameCase, SpotFits, carried_step, carry_result, carried_told, listed_carried_step}
 
 -- each case of an answer has its number
-pub carry_wrote : (info : StepInfo) → carry_result (step_told (Wrote info)) ≡ 0
+pub carry_wrote : (info : StepInfo) → carry_result (step_told (Ok (Some info))) ≡ 0
 carry_wrote info = refl
 
-pub carry_finished : carry_result (step_told Finished) ≡ 4294967295
+pub carry_finished : carry_result (step_told (Ok None)) ≡ 4294967295
 carry_finished = refl
 
-pub carry_refused : (cause : Cause) (spot : ℕ) → carry_result (step_told (Refused cause spot)) ≡ cause_number cause + spot * 4294967296
+pub carry_refused : (cause : Cause) (spot : ℕ) → carry_result (step_told (Err (record { cause = cause; spot = spot }))) ≡ cause_number cause + spot * 4294967296
 carry_refused cause spot = rw (cause_not_zero cause)
 
 pub cause_small : (cause : Cause) → cause_number cause ≤ 22
@@ -59,7 +58,7 @@ cause_small Room = omega arith
 
 -- a refusal's number and spot are the halves of it
 pub carry_halves : (cause : Cause) (spot : ℕ) → spot < 4294967296
-    → (carry_result (step_told (Refused cause spot)) % 4294967296 ≡ cause_number cause) × (carry_result (step_told (Refused cause spot)) / 4294967296 ≡ spot)
+    → (carry_result (step_told (Err (record { cause = cause; spot = spot }))) % 4294967296 ≡ cause_number cause) × (carry_result (step_told (Err (record { cause = cause; spot = spot }))) / 4294967296 ≡ spot)
 carry_halves cause spot f =
     let e = carry_refused cause spot in
     let low = cause_small cause in
@@ -74,25 +73,27 @@ cause_some cause = by (cause_number cause) (cause_not_zero cause)
     by (suc n) e = omega arith
 
 -- answers with one number are the same case
-pub carry_result_once : (a b : StepAnswer) → SpotFits a → SpotFits b → carry_result (step_told a) ≡ carry_result (step_told b) → SameCase a b
-carry_result_once (Wrote info) (Wrote other) f g e = tt
-carry_result_once (Wrote info) Finished f g e = omega (arith, e)
-carry_result_once (Wrote info) (Refused cause spot) f g e = omega (arith, e ∙ carry_refused cause spot, cause_some cause, cause_small cause)
-carry_result_once Finished (Wrote other) f g e = omega (arith, e)
-carry_result_once Finished Finished f g e = tt
-carry_result_once Finished (Refused cause spot) f g e = omega (arith, e ∙ carry_refused cause spot, cause_some cause, cause_small cause)
-carry_result_once (Refused cause spot) (Wrote other) f g e = omega (arith, sym e ∙ carry_refused cause spot, cause_some cause, cause_small cause)
-carry_result_once (Refused cause spot) Finished f g e = omega (arith, sym e ∙ carry_refused cause spot, cause_some cause, cause_small cause)
-carry_result_once (Refused cause spot) (Refused other place) f g e =
-    let same = sym (carry_refused cause spot) ∙ (e ∙ carry_refused other place) in
-    (cause_number_once cause other (omega (arith, same, cause_small cause, cause_small other)), omega (arith, same, cause_small cause, cause_small other))
+pub carry_result_once : (a b : Result (Option StepInfo) Refusal) → SpotFits a → SpotFits b → carry_result (step_told a) ≡ carry_result (step_told b) → SameCase a b
+carry_result_once (Ok (Some info)) (Ok (Some other)) f g e = tt
+carry_result_once (Ok (Some info)) (Ok None) f g e = omega (arith, e)
+carry_result_once (Ok (Some info)) (Err refused) f g e = omega (arith, e ∙ carry_refused refused.cause refused.spot, cause_some refused.cause, cause_small refused.cause)
+carry_result_once (Ok None) (Ok (Some other)) f g e = omega (arith, e)
+carry_result_once (Ok None) (Ok None) f g e = tt
+carry_result_once (Ok None) (Err refused) f g e = omega (arith, e ∙ carry_refused refused.cause refused.spot, cause_some refused.cause, cause_small refused.cause)
+carry_result_once (Err refused) (Ok (Some other)) f g e = omega (arith, sym e ∙ carry_refused refused.cause refused.spot, cause_some refused.cause, cause_small refused.cause)
+carry_result_once (Err refused) (Ok None) f g e = omega (arith, sym e ∙ carry_refused refused.cause refused.spot, cause_some refused.cause, cause_small refused.cause)
+carry_result_once (Err refused) (Err other) f g e =
+    let same = sym (carry_refused refused.cause refused.spot) ∙ (e ∙ carry_refused other.cause other.spot) in (
+      cause_number_once refused.cause other.cause (omega (arith, same, cause_small refused.cause, cause_small other.cause)),
+      omega (arith, same, cause_small refused.cause, cause_small other.cause),
+    )
 
 -- the spot of every call's answer has 32 bits where the writes done have, so that this is said of any two calls
-pub step_spot_fits : (w edition : ℕ) (t plan rule : List ℕ) (done total : ℕ) (a : StepAnswer) → step_told a ≡ step_call w edition t plan rule done total
+pub step_spot_fits : (w edition : ℕ) (t plan rule : List ℕ) (done total : ℕ) (a : Result (Option StepInfo) Refusal) → step_told a ≡ step_call w edition t plan rule done total
     → done < 4294967296 → SpotFits a
-step_spot_fits w edition t plan rule done total (Wrote info) e h = tt
-step_spot_fits w edition t plan rule done total Finished e h = tt
-step_spot_fits w edition t plan rule done total (Refused cause spot) e h = call_spot w edition t plan rule done total 4294967296 (omega arith) h cause spot e
+step_spot_fits w edition t plan rule done total (Ok (Some info)) e h = tt
+step_spot_fits w edition t plan rule done total (Ok None) e h = tt
+step_spot_fits w edition t plan rule done total (Err refused) e h = call_spot w edition t plan rule done total 4294967296 (omega arith) h refused.cause refused.spot e
 
 -- a refusal, as it crosses
 pub carried_refused : (cause : Cause) (spot done : ℕ) {n : ℕ} → n ≡ cause_number cause

@@ -1,11 +1,11 @@
 -- A step of a plan on its progress as numbers: the writes done after it, and its answer as one number.
 -- The answer, the table and the writes done are the step's, at the width w and with the edition e that the call names.
-use Rattle.std.specs.Prelude.{◌≡◌, cond, List, ℕ, ◌+◌, ◌*◌, ◌<◌, eqb, length, get_or}
+use Rattle.std.specs.Prelude.{◌≡◌, cond, List, ℕ, ◌+◌, ◌*◌, ◌<◌, eqb, length, get_or, Option, Some, None, Result, Ok, Err}
 use Rattle.records.specs.Checks.{Told}
 use Rattle.carrying.specs.Carrying.{done_told, step_call, step_call_done}
 use Rattle.listed_steps.specs.ListedSteps.{listed_step, listed_step_done}
-use Rattle.carrying.specs.declared.StepAnswer.{StepAnswer}
-use Rattle.carrying.specs.declared.StepAnswer.TheVariants.{Wrote, Finished, Refused}
+use Rattle.records.specs.declared.Refusal.{Refusal}
+use Rattle.carrying.specs.declared.StepInfo.{StepInfo}
 use Rattle.marshalling.specs.declared.Carried.{Carried}
 
 -- the number that tells a step's answer: 0 where a write is done, 2^32 − 1 for "finished", the success without values, and for a refusal
@@ -33,19 +33,19 @@ listed_carried_step w e t plan rule numbers done total = record {
 }
 
 -- a spot is a number of 32 bits
-abbrev pub SpotFits : StepAnswer → Type 0
-SpotFits (Wrote info) = Unit {0}
-SpotFits Finished = Unit {0}
-SpotFits (Refused cause spot) = spot < 4294967296
+abbrev pub SpotFits : Result (Option StepInfo) Refusal → Type 0
+SpotFits (Ok (Some info)) = Unit {0}
+SpotFits (Ok None) = Unit {0}
+SpotFits (Err refused) = refused.spot < 4294967296
 
 -- two answers are the same case, with the same cause and spot
-abbrev pub SameCase : StepAnswer → StepAnswer → Type 0
-SameCase (Wrote info) (Wrote other) = Unit {0}
-SameCase (Wrote info) Finished = ⊥
-SameCase (Wrote info) (Refused cause spot) = ⊥
-SameCase Finished (Wrote other) = ⊥
-SameCase Finished Finished = Unit {0}
-SameCase Finished (Refused cause spot) = ⊥
-SameCase (Refused cause spot) (Wrote other) = ⊥
-SameCase (Refused cause spot) Finished = ⊥
-SameCase (Refused cause spot) (Refused other place) = (cause ≡ other) × (spot ≡ place)
+abbrev pub SameCase : Result (Option StepInfo) Refusal → Result (Option StepInfo) Refusal → Type 0
+SameCase (Ok (Some info)) (Ok (Some other)) = Unit {0}
+SameCase (Ok (Some info)) (Ok None) = ⊥
+SameCase (Ok (Some info)) (Err refused) = ⊥
+SameCase (Ok None) (Ok (Some other)) = ⊥
+SameCase (Ok None) (Ok None) = Unit {0}
+SameCase (Ok None) (Err refused) = ⊥
+SameCase (Err refused) (Ok (Some other)) = ⊥
+SameCase (Err refused) (Ok None) = ⊥
+SameCase (Err refused) (Err other) = (refused.cause ≡ other.cause) × (refused.spot ≡ other.spot)

@@ -9,33 +9,33 @@ ghost use Rattle.listed_steps.specs.ListedSteps.{listed_step_table, listed_step_
 ghost use Rattle.marshalling.specs.Cells.{data_cell, spot_cell, flag_of};
 ghost use Rattle.marshalling.specs.Carried.{carried_step, carried_told, listed_carried_step};
 
-use buffers::{InsertAnswer, InsertInfo, ListedAnswer, PlanAnswer, PlanInfo};
-use carrying::{StepAnswer, StepInfo};
-use listed_steps::{ListedStepAnswer, step_listed};
-use records::{Mode, cause_number};
+use buffers::{InsertInfo, ListedInfo, PlanInfo};
+use carrying::StepInfo;
+use listed_steps::step_listed;
+use records::{Mode, Refusal, cause_number};
 use steps::step::step;
 
 // A planning call's answer, spread over its number and the lent cells.
-pub fn spread(answer: PlanAnswer, count: &mut u32, spot: &mut u32) -> u32
+pub fn spread(answer: Result<PlanInfo, Refusal>, count: &mut u32, spot: &mut u32) -> u32
     ensures value { result ≡ (plan_told answer).number }
     ensures count_after { count.new ≡ data_cell (plan_told answer) 0 count.old }
     ensures spot_after { spot.new ≡ spot_cell (plan_told answer) spot.old }
 {
     match answer {
-        PlanAnswer::Planned(info) => {
+        Ok(info) => {
             *count = info.count;
             0
         }
-        PlanAnswer::Refused(cause, at) => {
-            *spot = at;
-            cause_number(cause)
+        Err(refusal) => {
+            *spot = refusal.spot;
+            cause_number(refusal.cause)
         }
     }
 }
 
 // The same of an insert's, with the cell for the slot of the rule that covers the new one.
 pub fn spread_insert(
-    answer: InsertAnswer,
+    answer: Result<InsertInfo, Refusal>,
     count: &mut u32,
     covered: &mut u32,
     spot: &mut u32,
@@ -46,21 +46,17 @@ pub fn spread_insert(
     ensures spot_after { spot.new ≡ spot_cell (insert_answer_told answer) spot.old }
 {
     match answer {
-        InsertAnswer::Planned(info) => {
+        Ok(info) => {
             *covered = info.covered;
-            spread(
-                PlanAnswer::Planned(PlanInfo { count: info.count }),
-                count,
-                spot,
-            )
+            spread(Ok(PlanInfo { count: info.count }), count, spot)
         }
-        InsertAnswer::Refused(cause, at) => spread(PlanAnswer::Refused(cause, at), count, spot),
+        Err(refusal) => spread(Err(refusal), count, spot),
     }
 }
 
 // The same of an insert's with a neighbour list, with the cell for whether the list was worked out afresh: 1 or 0.
 pub fn spread_listed(
-    answer: ListedAnswer,
+    answer: Result<ListedInfo, Refusal>,
     count: &mut u32,
     covered: &mut u32,
     refreshed: &mut u32,
@@ -73,10 +69,10 @@ pub fn spread_listed(
     ensures spot_after { spot.new ≡ spot_cell (listed_answer_told answer) spot.old }
 {
     match answer {
-        ListedAnswer::Planned(info) => {
+        Ok(info) => {
             *refreshed = info.refreshed as u32;
             spread_insert(
-                InsertAnswer::Planned(InsertInfo {
+                Ok(InsertInfo {
                     count: info.count,
                     covered: info.covered,
                 }),
@@ -85,9 +81,7 @@ pub fn spread_listed(
                 spot,
             )
         }
-        ListedAnswer::Refused(cause, at) => {
-            spread_insert(InsertAnswer::Refused(cause, at), count, covered, spot)
-        }
+        Err(refusal) => spread_insert(Err(refusal), count, covered, spot),
     }
 }
 
@@ -99,19 +93,19 @@ pub struct Carried {
 }
 
 // A step's answer, as it crosses.
-fn carry_answer(answer: StepAnswer, done: u32) -> Carried
+fn carry_answer(answer: Result<Option<StepInfo>, Refusal>, done: u32) -> Carried
     ensures { result ≡ carried_told (step_told answer) done }
 {
     let end = 4294967295;
     match answer {
-        StepAnswer::Wrote(info) => Carried {
+        Ok(Some(info)) => Carried {
             done: info.done,
             result: 0,
         },
-        StepAnswer::Finished => Carried { done, result: end },
-        StepAnswer::Refused(cause, spot) => Carried {
+        Ok(None) => Carried { done, result: end },
+        Err(refusal) => Carried {
             done,
-            result: cause_number(cause) as u64 + spot as u64 * 4294967296,
+            result: cause_number(refusal.cause) as u64 + refusal.spot as u64 * 4294967296,
         },
     }
 }
@@ -158,11 +152,11 @@ pub fn carry_listed(
         uncounted: uncounted != 0,
     };
     match step_listed(table, plan, rule, edition, list, done, total, mode) {
-        ListedStepAnswer::Wrote(info) => {
+        Ok(Some(info)) => {
             *refreshed = info.refreshed as u32;
-            carry_answer(StepAnswer::Wrote(StepInfo { done: info.done }), done)
+            carry_answer(Ok(Some(StepInfo { done: info.done })), done)
         }
-        ListedStepAnswer::Finished => carry_answer(StepAnswer::Finished, done),
-        ListedStepAnswer::Refused(cause, at) => carry_answer(StepAnswer::Refused(cause, at), done),
+        Ok(None) => carry_answer(Ok(None), done),
+        Err(refusal) => carry_answer(Err(refusal), done),
     }
 }

@@ -1,11 +1,12 @@
 -- Laws on the pass: where a row begins and ends, what noting a rule leaves, and from one slot to the next.
-use Rattle.std.specs.Prelude.{◌≡◌, refl, Bool, true, false, cond, ◌⊎◌, List, ℕ, ◌+◌, ◌-◌, ◌*◌, ◌/◌, ◌%◌, ◌<◌, ◌≤◌, ltb, length, set}
+use Rattle.std.specs.Prelude.{◌≡◌, refl, Bool, true, false, cond, ◌⊎◌, List, ℕ, ◌+◌, ◌-◌, ◌*◌, ◌/◌, ◌%◌, ◌<◌, ◌≤◌, ltb, length, set, take}
 use Rattle.std.proofs.Math.Path.{sym}
 use Rattle.std.proofs.Common.{ap, ◌∙◌, ⊎_elim, add-zero, add-one, arith, length-set, get_or-set_same, ltb-true, ltb-false}
 use Rattle.std.proofs.Math.Logic.◌⊎◌.{inl, inr}
 use Rattle.std.proofs.Math.Decide.{ℕ_discrete}
 use Rattle.std.proofs.Math.ListN.{get_or}
 use Rattle.std.proofs.Math.Seq.{get_or-set_other}
+use Rattle.std.proofs.lemmas.List.{get_or-take, length-take-le}
 use Rattle.search.specs.Search.{any}
 use Rattle.search.specs.SearchLaws.{decided, any_some, any_none}
 use Rattle.ternary.specs.Bit.{bit}
@@ -180,6 +181,19 @@ tells_screen w u t places maps rows count j used screen within other b s l h e =
     let pair = pattern_apart w u x y (screen_apart w t places maps rows count j j b used s screen l within other e) in
     (pair.1, pair.0)
 
+-- the rows used so far, taken by themselves
+pub rows_front : (w : ℕ) (t places others own : List ℕ) (count j used : ℕ) → RowsOf w t places count j others own used
+    → RowsOf w t places count j (take used others) (take used own) used
+rows_front w t places others own count j used filled m h =
+    rw (get_or-take used others m 0 h, get_or-take used own m 0 h) (filled m h)
+
+-- the front of a list keeps a bound
+pub front_below : (xs : List ℕ) (n b : ℕ) → n ≤ length xs → ((m : ℕ) → m < n → get_or xs m 0 < b)
+    → (m : ℕ) → m < length (take n xs) → get_or (take n xs) m 0 < b
+front_below xs n b room below m h =
+    let l : m < n = omega (arith, h, length-take-le n xs room) in
+    rw (get_or-take n xs m 0 l) (below m l)
+
 -- a row of the maps lies within them
 pub row_fits : (row count size : ℕ) → row % 16 ≡ 0 → row / 32 < count → 32 * count ≤ size → row + 16 ≤ size
 row_fits row count size a b c = omega arith
@@ -294,22 +308,19 @@ taken_listed w u t places near full free low maps small taken i h =
     (taken.nexts i h ∙ rw (sym (add-one i)) (seen_first (precedes_slot w u t i) (i + 1) (slots w t) (omega arith) small), taken.befores i h)
 
 -- room is kept with the lengths of the working arrays
-pub room_kept : (w n : ℕ) (near full free low maps places : List ℕ) (count : ℕ) (chosen starts others own near' full' free' low' maps' others' own' : List ℕ)
-    → length near' ≡ length near → length full' ≡ length full → length free' ≡ length free → length low' ≡ length low → length maps' ≡ length maps
+pub room_kept : (w n : ℕ) (near maps places : List ℕ) (count : ℕ) (chosen starts others own near' maps' others' own' : List ℕ)
+    → length near' ≡ length near → length maps' ≡ length maps
     → length others' ≡ length others → length own' ≡ length own
-    → Room w n near full free low maps places count chosen starts others own
-    → Room w n near' full' free' low' maps' places count chosen starts others' own'
-room_kept w n near full free low maps places count chosen starts others own near' full' free' low' maps' others' own' a b c d e f g room = record {
+    → Room w n near maps places count chosen starts others own
+    → Room w n near' maps' places count chosen starts others' own'
+room_kept w n near maps places count chosen starts others own near' maps' others' own' a b c d room = record {
   numbers = rw a room.numbers;
-  blocks = rw b room.blocks;
-  blocks_free = rw c room.blocks_free;
-  blocks_low = rw d room.blocks_low;
-  rows = rw e room.rows;
+  rows = rw b room.rows;
   few = room.few;
   words = room.words;
   by_place = room.by_place;
-  row_others = rw f room.row_others;
-  row_own = rw g room.row_own;
+  row_others = rw c room.row_others;
+  row_own = rw d room.row_own;
   inside = room.inside;
   bits = room.bits;
   spread = room.spread;

@@ -1,11 +1,10 @@
 // One slot against the earlier ones, in blocks of 64 going down, the highest slot of a block first.
-// full: the rules before the slot; free: those of them without a dependant yet; low: for each block a number that no rank of its rules is below.
 ghost use Rattle.std.specs.Prelude.{◌≡◌, true, false, ℕ, ◌+◌, ◌*◌, ◌/◌, ◌<◌, ◌≤◌, length, get_or};
 ghost use Rattle.records.specs.Record.{most_slots};
 ghost use Rattle.records.specs.Order.{slots};
 ghost use Rattle.records.specs.Checks.{check_records};
 ghost use Rattle.records.specs.Widths.{Width};
-ghost use Rattle.records.specs.declared.Check.TheVariants.{Pass};
+ghost use Rattle.records.specs.Verdict.{Pass};
 ghost use Rattle.neighbour_lists.specs.Lists.{precedes_slot, misordered_slots, rank_at, occupied_at};
 ghost use Rattle.neighbour_lists.specs.Row.{InRow, Marks, Tells, Inside, needed_bits, settled_pair, asked, asked_free, both_kept, closed, Quiet, Skipped};
 
@@ -15,28 +14,28 @@ use pairs::{rules_overlap, slots_overlap};
 use records::{Mode, NO_NUMBER};
 use slots::slot_rank;
 
+// For each block the rules before the slot, those of them without a dependant yet, and a number that no rank of its rules is below.
+#[derive(Drop)]
+pub struct Blocks {
+    pub full: [u64; 16],
+    pub free: [u64; 16],
+    pub low: [u64; 16],
+}
+
 // The slots of a block that are to be asked. Once the later slot has its preceding rule, a block of higher ranks has nothing to
 // tell but to the rules that have no dependant.
-fn needed(
-    near: &[u16],
-    full: &[u64],
-    free: &[u64],
-    low: &[u64],
-    block: usize,
-    later: usize,
-    rank: u64,
-) -> u64
-    requires { (2 * later + 1 < length near.now) × (block < length full.now) × (block < length free.now) × (block < length low.now) }
-    ensures { result ≡ needed_bits near.now full.now free.now low.now block later rank }
+fn needed(near: &[u16], blocks: &Blocks, block: usize, later: usize, rank: u64) -> u64
+    requires { (2 * later + 1 < length near.now) × (block < 16) }
+    ensures { result ≡ needed_bits near.now blocks.now.full blocks.now.free blocks.now.low block later rank }
 {
     let before = near[2 * later + 1];
     if before == NO_NUMBER {
-        return full[block];
+        return blocks.full[block];
     }
-    if low[block] <= rank {
-        return full[block];
+    if blocks.low[block] <= rank {
+        return blocks.full[block];
     }
-    free[block]
+    blocks.free[block]
 }
 
 // Whether nothing is left to learn from a pair: the later slot has its preceding rule, the earlier one its dependant, and their ranks fall.
@@ -137,9 +136,7 @@ fn skip_quiet(
 fn ask_block(
     table: &[u64],
     near: &mut [u16],
-    full: &[u64],
-    free: &mut [u64],
-    low: &[u64],
+    blocks: &mut Blocks,
     block: usize,
     some: u64,
     later: usize,
@@ -147,19 +144,28 @@ fn ask_block(
     before: bool,
     mode: Mode,
 ) -> bool
-    requires width { (Width mode.width) × (later < slots mode.width table.now) × (later < most_slots) × (2 * later + 1 < length near.old) × (16 ≤ length full.now) × (16 ≤ length free.old) × (16 ≤ length low.now) × (block < 16) }
+    requires width { (Width mode.width) × (later < slots mode.width table.now) × (later < most_slots) × (2 * later + 1 < length near.old) × (block < 16) }
     requires table_value { (check_records mode.width table.now ≡ Pass) × (rank ≡ rank_at mode.width table.now later) × Inside later block some }
     requires in_row { InRow (precedes_slot mode.width mode.uncounted table.now) (misordered_slots mode.width mode.uncounted table.now) near.old later block some before }
-    requires marks { Marks (rank_at mode.width table.now) (occupied_at mode.width table.now) near.old full.now free.old low.now later }
+    requires marks { Marks (rank_at mode.width table.now) (occupied_at mode.width table.now) near.old blocks.old.full blocks.old.free blocks.old.low later }
     ensures in_row_2 { InRow (precedes_slot mode.width mode.uncounted table.now) (misordered_slots mode.width mode.uncounted table.now) near.new later block 0 result }
-    ensures marks_2 { Marks (rank_at mode.width table.now) (occupied_at mode.width table.now) near.new full.now free.new low.now later }
+    ensures marks_2 { Marks (rank_at mode.width table.now) (occupied_at mode.width table.now) near.new blocks.new.full blocks.new.free blocks.new.low later }
+    ensures kept { (blocks.new.full ≡ blocks.old.full) × (blocks.new.low ≡ blocks.old.low) × (length blocks.new.free ≡ length blocks.old.free) }
 {
     let mut left = some;
     let mut bad = before;
     while left != 0 {
         let t = top(left);
-        bad = ask_pair(table, near, free, 64 * block + t, later, rank, mode) | bad;
-        let rest = drop_bit(left, t) & needed(near, full, free, low, block, later, rank);
+        bad = ask_pair(
+            table,
+            near,
+            &mut blocks.free,
+            64 * block + t,
+            later,
+            rank,
+            mode,
+        ) | bad;
+        let rest = drop_bit(left, t) & needed(near, blocks, block, later, rank);
         left = skip_quiet(table, near, block, rest, later, rank, mode);
     }
     bad
@@ -169,38 +175,34 @@ fn ask_block(
 fn ask_some(
     table: &[u64],
     near: &mut [u16],
-    full: &[u64],
-    free: &mut [u64],
-    low: &[u64],
+    blocks: &mut Blocks,
     maps: &[u64],
     rows: &[usize],
-    used: usize,
     block: usize,
     later: usize,
     rank: u64,
     before: bool,
     mode: Mode,
 ) -> bool
-    requires width { (Width mode.width) × (later < slots mode.width table.now) × (later < most_slots) × (2 * later + 1 < length near.old) × (16 ≤ length full.now) × (16 ≤ length free.old) × (16 ≤ length low.now) × (block < 16) × (used ≤ length rows.now) }
+    requires width { (Width mode.width) × (later < slots mode.width table.now) × (later < most_slots) × (2 * later + 1 < length near.old) × (block < 16) }
     requires table_value { (check_records mode.width table.now ≡ Pass) × (rank ≡ rank_at mode.width table.now later) }
     requires in_row { InRow (precedes_slot mode.width mode.uncounted table.now) (misordered_slots mode.width mode.uncounted table.now) near.old later (block + 1) 0 before }
-    requires marks { Marks (rank_at mode.width table.now) (occupied_at mode.width table.now) near.old full.now free.old low.now later }
-    requires by_index { (m : ℕ) → m < used → get_or rows.now m 0 + 16 ≤ length maps.now }
-    requires tells { Tells (precedes_slot mode.width mode.uncounted table.now) (misordered_slots mode.width mode.uncounted table.now) maps.now rows.now used later }
+    requires marks { Marks (rank_at mode.width table.now) (occupied_at mode.width table.now) near.old blocks.old.full blocks.old.free blocks.old.low later }
+    requires by_index { (m : ℕ) → m < length rows.now → get_or rows.now m 0 + 16 ≤ length maps.now }
+    requires tells { Tells (precedes_slot mode.width mode.uncounted table.now) (misordered_slots mode.width mode.uncounted table.now) maps.now rows.now (length rows.now) later }
     ensures in_row_2 { InRow (precedes_slot mode.width mode.uncounted table.now) (misordered_slots mode.width mode.uncounted table.now) near.new later block 0 result }
-    ensures marks_2 { Marks (rank_at mode.width table.now) (occupied_at mode.width table.now) near.new full.now free.new low.now later }
+    ensures marks_2 { Marks (rank_at mode.width table.now) (occupied_at mode.width table.now) near.new blocks.new.full blocks.new.free blocks.new.low later }
+    ensures kept { (blocks.new.full ≡ blocks.old.full) × (blocks.new.low ≡ blocks.old.low) × (length blocks.new.free ≡ length blocks.old.free) }
 {
-    let some = needed(near, full, free, low, block, later, rank);
+    let some = needed(near, blocks, block, later, rank);
     if some == 0 {
         return before;
     }
-    let apart = apart_in(maps, rows, used, block);
+    let apart = apart_in(maps, rows, block);
     ask_block(
         table,
         near,
-        full,
-        free,
-        low,
+        blocks,
         block,
         lacking(some, apart),
         later,
@@ -214,31 +216,27 @@ fn ask_some(
 pub fn ask_row(
     table: &[u64],
     near: &mut [u16],
-    full: &[u64],
-    free: &mut [u64],
-    low: &[u64],
+    blocks: &mut Blocks,
     maps: &[u64],
     rows: &[usize],
-    used: usize,
     later: usize,
     mode: Mode,
 ) -> bool
-    requires width { (Width mode.width) × (later < slots mode.width table.now) × (later < most_slots) × (2 * later + 1 < length near.old) × (16 ≤ length full.now) × (16 ≤ length free.old) × (16 ≤ length low.now) × (used ≤ length rows.now) }
+    requires width { (Width mode.width) × (later < slots mode.width table.now) × (later < most_slots) × (2 * later + 1 < length near.old) }
     requires table_value { check_records mode.width table.now ≡ Pass }
     requires in_row { InRow (precedes_slot mode.width mode.uncounted table.now) (misordered_slots mode.width mode.uncounted table.now) near.old later (later / 64 + 1) 0 false }
-    requires marks { Marks (rank_at mode.width table.now) (occupied_at mode.width table.now) near.old full.now free.old low.now later }
-    requires by_index { (m : ℕ) → m < used → get_or rows.now m 0 + 16 ≤ length maps.now }
-    requires tells { Tells (precedes_slot mode.width mode.uncounted table.now) (misordered_slots mode.width mode.uncounted table.now) maps.now rows.now used later }
+    requires marks { Marks (rank_at mode.width table.now) (occupied_at mode.width table.now) near.old blocks.old.full blocks.old.free blocks.old.low later }
+    requires by_index { (m : ℕ) → m < length rows.now → get_or rows.now m 0 + 16 ≤ length maps.now }
+    requires tells { Tells (precedes_slot mode.width mode.uncounted table.now) (misordered_slots mode.width mode.uncounted table.now) maps.now rows.now (length rows.now) later }
     ensures in_row_2 { InRow (precedes_slot mode.width mode.uncounted table.now) (misordered_slots mode.width mode.uncounted table.now) near.new later 0 0 result }
-    ensures marks_2 { Marks (rank_at mode.width table.now) (occupied_at mode.width table.now) near.new full.now free.new low.now later }
+    ensures marks_2 { Marks (rank_at mode.width table.now) (occupied_at mode.width table.now) near.new blocks.new.full blocks.new.free blocks.new.low later }
+    ensures kept { (blocks.new.full ≡ blocks.old.full) × (blocks.new.low ≡ blocks.old.low) × (length blocks.new.free ≡ length blocks.old.free) }
 {
     let rank = slot_rank(table, later, mode.width);
-    let mut block = later / 64 + 1;
     let mut bad = false;
-    while 0 < block {
-        block -= 1;
+    for block in (0..later / 64 + 1).rev() {
         bad = ask_some(
-            table, near, full, free, low, maps, rows, used, block, later, rank, bad, mode,
+            table, near, blocks, maps, rows, block, later, rank, bad, mode,
         );
     }
     bad

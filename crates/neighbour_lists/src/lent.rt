@@ -4,17 +4,17 @@ ghost use Rattle.records.specs.Record.{most_slots};
 ghost use Rattle.records.specs.Order.{slots};
 ghost use Rattle.records.specs.Checks.{check_records};
 ghost use Rattle.records.specs.Widths.{Width, check_words};
-ghost use Rattle.records.specs.declared.Check.TheVariants.{Pass};
+ghost use Rattle.records.specs.Verdict.{checked, Pass};
 ghost use Rattle.neighbour_lists.specs.Lists.{list_of, stale_list, list_numbers, differing};
 
 use crate::passing::fill_near;
-use records::{Check, LIST_NUMBERS, Mode, check_words};
+use records::{LIST_NUMBERS, Mode, Refusal, check_words};
 use slots::slot_count;
 
 // 1 for a list of another length than two numbers for each slot.
-pub fn check_list(table: &[u64], numbers: usize, width: usize) -> Check
+pub fn check_list(table: &[u64], numbers: usize, width: usize) -> Result<(), Refusal>
     requires { Width width }
-    ensures { result ≡ check_words numbers (list_numbers width table.now) }
+    ensures { checked result ≡ check_words numbers (list_numbers width table.now) }
 {
     check_words(numbers, 2 * slot_count(table, width))
 }
@@ -26,11 +26,9 @@ pub fn store_list(near: &[u16], list: &mut [u16]) -> bool
     ensures value { result ≡ differing near.now list.old (length list.old) }
 {
     let mut changed = false;
-    let mut index = 0;
-    while index < list.len() {
+    for index in 0..list.len() {
         changed = (list[index] != near[index]) | changed;
         list[index] = near[index];
-        index += 1;
     }
     changed
 }

@@ -1,5 +1,5 @@
 -- Laws on a new rule's checks and neighbours, and on the rule that covers it: the searches of the code, and how each check ends.
-use Rattle.std.specs.Prelude.{◌≡◌, refl, Bool, true, false, cond, ◌↔◌, ◌⊎◌, List, ℕ, suc, ◌+◌, ◌-◌, ◌≤◌, ◌<◌}
+use Rattle.std.specs.Prelude.{◌≡◌, refl, Bool, true, false, cond, ◌||◌, ◌↔◌, ◌⊎◌, List, ℕ, suc, ◌+◌, ◌-◌, ◌≤◌, ◌<◌}
 use Rattle.std.proofs.Common.{sym, ap, ◌∙◌, true≢false, arith, lt-ltb, le-ltb, ltb-true, ltb-false}
 use Rattle.search.specs.Search.{least}
 use Rattle.search.specs.SearchLaws.{any_some, any_none, least_law, least_none, after_last_law, first_is, first_none, first_either}
@@ -13,8 +13,8 @@ use Rattle.records.proofs.ObscuredLaws.{obscures_law}
 use Rattle.records.specs.Checks.{or_else, table_checks}
 use Rattle.records.specs.Editions.{Given, ranked}
 use Rattle.records.specs.declared.Cause.TheVariants.{Known, Tie, Full, Crossed}
-use Rattle.records.specs.declared.Check.{Check}
-use Rattle.records.specs.declared.Check.TheVariants.{Pass, Fail}
+use Rattle.records.specs.Verdict.{Check}
+use Rattle.records.specs.Verdict.{Pass, Fail}
 use Rattle.neighbours.specs.Neighbours.{check_known, check_tie, check_full, after_a, slot_b, crossed_by, replaced_slot, replaces, covering_slot, CoveredAt, Uncovered, new_checks, place_checks, rule_words, rule_checks, insert_checks}
 
 -- a loop over the slots ends in one of two ways
@@ -41,6 +41,11 @@ crossed_yes a b h = rw (lt-ltb (suc b) a (omega arith))
 
 pub crossed_no : (a b : ℕ) → a ≤ b + 1 → Pass ≡ crossed_by a b
 crossed_no a b h = rw (le-ltb (suc b) a (omega arith))
+
+-- a choice that is not taken for either of two reasons has neither
+pub neither : (a b : Bool) → (a || b) ≡ false → (a ≡ false) × (b ≡ false)
+neither true b e = absurd (true≢false e)
+neither false b e = (refl, e)
 
 -- the searches for the rule that is replaced, as the code makes them: of 8 and 9 nothing is left where there is one
 pub new_passed : (w : ℕ) (u : Bool) (t : List ℕ) (new : Words) {x : Check} → x ≡ or_else (check_tie w u t new) (check_full w t) → x ≡ Pass

@@ -1,7 +1,7 @@
 -- A new rule against a table: is its id known, does it replace a rule, does it tie, is there room, its neighbours A and B, and which rule covers it. Checks 6 and 8 to 10 of
 -- document 01, and all checks of an insert in their order.
 -- The new rule is given by its record's words, new.
-use Rattle.std.specs.Prelude.{◌≡◌, Bool, true, false, cond, List, ℕ, suc, ◌-◌, ◌<◌, ltb}
+use Rattle.std.specs.Prelude.{◌≡◌, Bool, true, false, cond, List, ℕ, suc, ◌-◌, ◌<◌, ltb, Option, Some, None, Result, Ok, Err}
 use Prim.{Unit}
 use Rattle.search.specs.Search.{any, least, after_last, first_from}
 use Rattle.ternary.specs.Pattern.{Words}
@@ -11,10 +11,9 @@ use Rattle.records.specs.Checks.{lowest, or_else, table_checks}
 use Rattle.records.specs.Editions.{Given, ranked, check_given}
 use Rattle.records.specs.declared.Rule.{Rule}
 use Rattle.records.specs.declared.Cause.TheVariants.{Known, Tie, Full, Crossed}
-use Rattle.records.specs.declared.Check.{Check}
-use Rattle.records.specs.declared.Check.TheVariants.{Pass, Fail}
-use Rattle.neighbours.specs.declared.NewRule.{NewRule}
-use Rattle.neighbours.specs.declared.NewRule.TheVariants.{Adds, Replaces, Declined}
+use Rattle.records.specs.Verdict.{Check}
+use Rattle.records.specs.Verdict.{Pass, Fail}
+use Rattle.records.specs.declared.Refusal.{Refusal}
 
 -- 6: the id is present, in the slot named
 unfoldable pub check_known : ℕ → List ℕ → Words → Check
@@ -88,13 +87,12 @@ unfoldable pub insert_checks : ℕ → Bool → List ℕ → Given → Check
 insert_checks w u t given = or_else (table_checks w u t) (or_else (rule_checks w u t given) (place_checks w u t (rule_words w (ranked w given))))
 
 -- what the code tells of a new rule: the check that it comes to, ..
-abbrev pub found_check : NewRule → Check
-found_check Adds = Pass
-found_check (Replaces slot) = Pass
-found_check (Declined cause spot) = Fail cause spot
+abbrev pub found_check : Result (Option ℕ) Refusal → Check
+found_check (Ok replaced) = Pass
+found_check (Err refused) = Fail refused.cause refused.spot
 
 -- .. and which rule it replaces
-abbrev pub FoundIn : ℕ → Bool → List ℕ → Words → NewRule → Type 0
-FoundIn w u t new Adds = replaces w u t new ≡ false
-FoundIn w u t new (Replaces slot) = (slot ≡ replaced_slot w u t new) × (replaces w u t new ≡ true)
-FoundIn w u t new (Declined cause spot) = Unit {0}
+abbrev pub FoundIn : ℕ → Bool → List ℕ → Words → Result (Option ℕ) Refusal → Type 0
+FoundIn w u t new (Ok None) = replaces w u t new ≡ false
+FoundIn w u t new (Ok (Some slot)) = (slot ≡ replaced_slot w u t new) × (replaces w u t new ≡ true)
+FoundIn w u t new (Err refused) = Unit {0}

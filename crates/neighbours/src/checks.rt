@@ -5,77 +5,64 @@ ghost use Rattle.records.specs.Record.{most_slots, record_words, slot_words};
 ghost use Rattle.records.specs.Order.{slots};
 ghost use Rattle.records.specs.Widths.{Width, leaves};
 ghost use Rattle.records.specs.Checks.{or_else, check_records};
-ghost use Rattle.records.specs.declared.Check.TheVariants.{Pass};
+ghost use Rattle.records.specs.Verdict.{checked, Pass};
 ghost use Rattle.records.specs.Editions.{lent_rule, ranked_record, check_given};
 ghost use Rattle.neighbours.specs.Neighbours.{check_known, check_tie, check_full, after_a, slot_b, crossed_by, replaced_slot, replaces, covering_slot, new_checks, rule_checks, found_check, FoundIn};
 
-use crate::NewRule;
 use pairs::{obscures_pair, precedes_pair, replaceable_pair, same_id, tied_pair};
-use records::{Cause, Check, Mode, NARROW, NO_SLOT, WIDE};
+use records::{Cause, Mode, NARROW, NO_SLOT, Refusal, WIDE, at_width};
 use slots::given::{check_given, rank_record};
 use slots::{slot_count, slot_empty};
 
 // Check 6: the id is not in the table.
-fn check_known_by(table: &[u64], new: &[u64], mode: Mode) -> Check
+fn check_known_by(table: &[u64], new: &[u64], mode: Mode) -> Result<(), Refusal>
     requires { (Width mode.width) × (slots mode.width table.now ≤ most_slots) × (length new.now ≡ record_words mode.width) }
-    ensures { result ≡ check_known mode.width table.now (slot_words mode.width new.now 0) }
+    ensures { checked result ≡ check_known mode.width table.now (slot_words mode.width new.now 0) }
 {
     let slots = slot_count(table, mode.width);
-    let mut slot = 0;
-    while slot < slots {
+    for slot in 0..slots {
         if same_id(table, slot, new, 0, mode.width) {
-            return Check::Fail(Cause::Known, slot as u32);
+            return Err(Refusal {
+                cause: Cause::Known,
+                spot: slot as u32,
+            });
         }
-        slot += 1;
     }
-    Check::Pass
+    Ok(())
 }
 
 // The same, with the width a constant for the compiler: it makes a copy for each.
-pub fn check_known(table: &[u64], new: &[u64], mode: Mode) -> Check
+pub fn check_known(table: &[u64], new: &[u64], mode: Mode) -> Result<(), Refusal>
     requires { (Width mode.width) × (slots mode.width table.now ≤ most_slots) × (length new.now ≡ record_words mode.width) }
-    ensures { result ≡ check_known mode.width table.now (slot_words mode.width new.now 0) }
+    ensures { checked result ≡ check_known mode.width table.now (slot_words mode.width new.now 0) }
 {
-    if mode.width == NARROW {
-        return check_known_by(
-            table,
-            new,
-            Mode {
-                width: NARROW,
-                uncounted: mode.uncounted,
-            },
-        );
-    }
-    check_known_by(
-        table,
-        new,
-        Mode {
-            width: WIDE,
-            uncounted: mode.uncounted,
-        },
-    )
+    at_width(mode.width, |width| {
+        check_known_by(table, new, Mode { width, ..mode })
+    })
 }
 
 // Check 8: no rule overlaps the new one at equal rank.
-fn check_tie_by(table: &[u64], new: &[u64], mode: Mode) -> Check
+fn check_tie_by(table: &[u64], new: &[u64], mode: Mode) -> Result<(), Refusal>
     requires { (Width mode.width) × (slots mode.width table.now ≤ most_slots) × (length new.now ≡ record_words mode.width) × (check_records mode.width table.now ≡ Pass) × (check_records mode.width new.now ≡ Pass) }
-    ensures { result ≡ check_tie mode.width mode.uncounted table.now (slot_words mode.width new.now 0) }
+    ensures { checked result ≡ check_tie mode.width mode.uncounted table.now (slot_words mode.width new.now 0) }
 {
     let slots = slot_count(table, mode.width);
-    let mut slot = 0;
-    while slot < slots {
+    for slot in 0..slots {
         if tied_pair(table, slot, new, 0, mode) {
-            return Check::Fail(Cause::Tie, slot as u32);
+            return Err(Refusal {
+                cause: Cause::Tie,
+                spot: slot as u32,
+            });
         }
-        slot += 1;
     }
-    Check::Pass
+    Ok(())
 }
 
-// The same, with the width a constant for the compiler, which may make a copy for each.
-pub fn check_tie(table: &[u64], new: &[u64], mode: Mode) -> Check
+// The same, with the width a constant for the compiler, which may make a copy for each. By `at_width` it makes none here, nor of the three searches below:
+// a fifth more instructions in this one.
+pub fn check_tie(table: &[u64], new: &[u64], mode: Mode) -> Result<(), Refusal>
     requires { (Width mode.width) × (slots mode.width table.now ≤ most_slots) × (length new.now ≡ record_words mode.width) × (check_records mode.width table.now ≡ Pass) × (check_records mode.width new.now ≡ Pass) }
-    ensures { result ≡ check_tie mode.width mode.uncounted table.now (slot_words mode.width new.now 0) }
+    ensures { checked result ≡ check_tie mode.width mode.uncounted table.now (slot_words mode.width new.now 0) }
 {
     if mode.width == NARROW {
         return check_tie_by(
@@ -98,19 +85,20 @@ pub fn check_tie(table: &[u64], new: &[u64], mode: Mode) -> Check
 }
 
 // Check 9: a slot is empty.
-pub fn check_full(table: &[u64], mode: Mode) -> Check
+pub fn check_full(table: &[u64], mode: Mode) -> Result<(), Refusal>
     requires { Width mode.width }
-    ensures { result ≡ check_full mode.width table.now }
+    ensures { checked result ≡ check_full mode.width table.now }
 {
     let slots = slot_count(table, mode.width);
-    let mut slot = 0;
-    while slot < slots {
+    for slot in 0..slots {
         if slot_empty(table, slot, mode.width) {
-            return Check::Pass;
+            return Ok(());
         }
-        slot += 1;
     }
-    Check::Fail(Cause::Full, 0)
+    Err(Refusal {
+        cause: Cause::Full,
+        spot: 0,
+    })
 }
 
 // One past the highest slot with a rule that precedes the new one; 0 where there is none.
@@ -118,12 +106,11 @@ fn after_a_by(table: &[u64], new: &[u64], mode: Mode) -> usize
     requires { (Width mode.width) × (length new.now ≡ record_words mode.width) × (check_records mode.width table.now ≡ Pass) × (check_records mode.width new.now ≡ Pass) }
     ensures { result ≡ after_a mode.width mode.uncounted table.now (slot_words mode.width new.now 0) }
 {
-    let mut after = slot_count(table, mode.width);
-    while 0 < after {
-        if precedes_pair(table, after - 1, new, 0, mode) {
-            return after;
+    let slots = slot_count(table, mode.width);
+    for slot in (0..slots).rev() {
+        if precedes_pair(table, slot, new, 0, mode) {
+            return slot + 1;
         }
-        after -= 1;
     }
     0
 }
@@ -159,12 +146,10 @@ fn slot_b_by(table: &[u64], new: &[u64], mode: Mode) -> usize
     ensures { result ≡ slot_b mode.width mode.uncounted table.now (slot_words mode.width new.now 0) }
 {
     let slots = slot_count(table, mode.width);
-    let mut slot = 0;
-    while slot < slots {
+    for slot in 0..slots {
         if precedes_pair(new, 0, table, slot, mode) {
             return slot;
         }
-        slot += 1;
     }
     slots
 }
@@ -195,14 +180,17 @@ pub fn slot_b(table: &[u64], new: &[u64], mode: Mode) -> usize
 }
 
 // Check 10, of A + 1 and B: A is not after B.
-pub fn check_crossed(after: usize, dependant: usize) -> Check
+pub fn check_crossed(after: usize, dependant: usize) -> Result<(), Refusal>
     requires { (after ≤ most_slots) × (dependant ≤ most_slots) }
-    ensures { result ≡ crossed_by after dependant }
+    ensures { checked result ≡ crossed_by after dependant }
 {
     if dependant + 1 < after {
-        return Check::Fail(Cause::Crossed, (after - 1) as u32);
+        return Err(Refusal {
+            cause: Cause::Crossed,
+            spot: (after - 1) as u32,
+        });
     }
-    Check::Pass
+    Ok(())
 }
 
 // The lowest slot with a rule that the new one replaces, or the number of slots.
@@ -211,12 +199,10 @@ fn replaced_slot_by(table: &[u64], new: &[u64], mode: Mode) -> usize
     ensures { result ≡ replaced_slot mode.width mode.uncounted table.now (slot_words mode.width new.now 0) }
 {
     let slots = slot_count(table, mode.width);
-    let mut slot = 0;
-    while slot < slots {
+    for slot in 0..slots {
         if replaceable_pair(table, slot, new, 0, mode) {
             return slot;
         }
-        slot += 1;
     }
     slots
 }
@@ -247,52 +233,46 @@ fn replaced_slot(table: &[u64], new: &[u64], mode: Mode) -> usize
 }
 
 // Checks 8 and 9, as for a rule that replaces none.
-fn check_tie_full(table: &[u64], new: &[u64], mode: Mode) -> Check
+fn check_tie_full(table: &[u64], new: &[u64], mode: Mode) -> Result<(), Refusal>
     requires { (Width mode.width) × (slots mode.width table.now ≤ most_slots) × (length new.now ≡ record_words mode.width) × (check_records mode.width table.now ≡ Pass) × (check_records mode.width new.now ≡ Pass) }
-    ensures { result ≡ or_else (check_tie mode.width mode.uncounted table.now (slot_words mode.width new.now 0)) (check_full mode.width table.now) }
+    ensures { checked result ≡ or_else (check_tie mode.width mode.uncounted table.now (slot_words mode.width new.now 0)) (check_full mode.width table.now) }
 {
-    let tie = check_tie(table, new, mode);
-    if let Check::Fail(cause, spot) = tie {
-        return Check::Fail(cause, spot);
-    }
+    check_tie(table, new, mode)?;
     check_full(table, mode)
 }
 
-// What a rule of new id is found to be, of which 8 and 9 say `room`: the rule that it replaces is looked for, and they count where there is none.
-fn found_with(table: &[u64], new: &[u64], room: Check, mode: Mode) -> NewRule
+// What a rule of new id is found to be, of which 8 and 9 say `room`: the slot of the rule that it replaces is looked for, and they count where there is none.
+fn found_with(
+    table: &[u64],
+    new: &[u64],
+    room: Result<(), Refusal>,
+    mode: Mode,
+) -> Result<Option<u32>, Refusal>
     requires { (Width mode.width) × (slots mode.width table.now ≤ most_slots) × (length new.now ≡ record_words mode.width) }
-    ensures result_value { found_check result ≡ cond (replaces mode.width mode.uncounted table.now (slot_words mode.width new.now 0)) Pass room }
+    ensures result_value { found_check result ≡ cond (replaces mode.width mode.uncounted table.now (slot_words mode.width new.now 0)) Pass (checked room) }
     ensures found_in { FoundIn mode.width mode.uncounted table.now (slot_words mode.width new.now 0) result }
 {
     let slot = replaced_slot(table, new, mode);
     if slot < slot_count(table, mode.width) {
-        return NewRule::Replaces(slot as u32);
+        return Ok(Some(slot as u32));
     }
-    match room {
-        Check::Pass => NewRule::Adds,
-        Check::Fail(cause, spot) => NewRule::Declined(cause, spot),
-    }
+    room?;
+    Ok(None)
 }
 
-// Check 6; then none for a rule that replaces another, else 8 and 9. In a counted table a rule ties with the one that it replaces, so that this is looked
+// The slot of the rule that a new one replaces, or none: check 6; then none for a rule that replaces another, else 8 and 9. In a counted table a rule ties with the one that it replaces, so that this is looked
 // for only where 8 or 9 would decline.
-pub fn check_new(table: &[u64], new: &[u64], mode: Mode) -> NewRule
+pub fn check_new(table: &[u64], new: &[u64], mode: Mode) -> Result<Option<u32>, Refusal>
     requires { (Width mode.width) × (slots mode.width table.now ≤ most_slots) × (length new.now ≡ record_words mode.width) × (check_records mode.width table.now ≡ Pass) × (check_records mode.width new.now ≡ Pass) }
     ensures result_value { found_check result ≡ new_checks mode.width mode.uncounted table.now (slot_words mode.width new.now 0) }
     ensures found_in { FoundIn mode.width mode.uncounted table.now (slot_words mode.width new.now 0) result }
 {
-    let known = check_known(table, new, mode);
-    if let Check::Fail(cause, spot) = known {
-        return NewRule::Declined(cause, spot);
-    }
+    check_known(table, new, mode)?;
     let room = check_tie_full(table, new, mode);
-    if let Check::Fail(cause, spot) = room {
-        return found_with(table, new, Check::Fail(cause, spot), mode);
+    if room.is_err() | mode.uncounted {
+        return found_with(table, new, room, mode);
     }
-    if mode.uncounted {
-        return found_with(table, new, Check::Pass, mode);
-    }
-    NewRule::Adds
+    Ok(None)
 }
 
 // All that a rule is checked for as it is given: 5, 18, and those. Where 5 and 18 pass, its record with its rank is left in a lent record.
@@ -302,16 +282,13 @@ pub fn check_for_insert(
     edition: u32,
     new: &mut [u64],
     mode: Mode,
-) -> NewRule
+) -> Result<Option<u32>, Refusal>
     requires { (Width mode.width) × (slots mode.width table.now ≤ most_slots) × (length rule.now ≡ record_words mode.width) × (length new.old ≡ record_words mode.width) × (check_records mode.width table.now ≡ Pass) }
     ensures result_value { found_check result ≡ rule_checks mode.width mode.uncounted table.now (lent_rule mode.width edition rule.now) }
     ensures after { new.new ≡ leaves (check_given mode.width (lent_rule mode.width edition rule.now)) (ranked_record mode.width edition rule.now) new.old }
     ensures found_in { FoundIn mode.width mode.uncounted table.now (slot_words mode.width new.new 0) result }
 {
-    let given = check_given(rule, edition, mode.width);
-    if let Check::Fail(cause, spot) = given {
-        return NewRule::Declined(cause, spot);
-    }
+    check_given(rule, edition, mode.width)?;
     rank_record(rule, edition, new, mode.width);
     check_new(table, new, mode)
 }
@@ -322,12 +299,10 @@ pub fn covering_slot(table: &[u64], new: &[u64], width: usize) -> u32
     ensures { result ≡ covering_slot width table.now (slot_words width new.now 0) }
 {
     let slots = slot_count(table, width);
-    let mut slot = 0;
-    while slot < slots {
+    for slot in 0..slots {
         if obscures_pair(table, slot, new, 0, width) {
             return slot as u32;
         }
-        slot += 1;
     }
     NO_SLOT
 }

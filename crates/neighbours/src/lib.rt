@@ -3,13 +3,3 @@
 #![tactic(auto)]
 
 pub mod checks;
-
-use records::Cause;
-
-// What a new rule is found to be: one that adds to the table's rules, one that replaces the rule in a slot, or one that is declined.
-#[derive(Clone, Copy)]
-pub enum NewRule {
-    Adds,
-    Replaces(u32),
-    Declined(Cause, u32),
-}

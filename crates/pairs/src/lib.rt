@@ -7,10 +7,10 @@ ghost use Rattle.records.specs.Record.{slot_words, mask, action, occupied};
 ghost use Rattle.ternary.specs.Comparison.{masks_within};
 ghost use Rattle.records.specs.Checks.{check_records};
 ghost use Rattle.records.specs.Widths.{Width};
-ghost use Rattle.records.specs.declared.Check.TheVariants.{Pass};
+ghost use Rattle.records.specs.Verdict.{Pass};
 ghost use Rattle.records.specs.Order.{slots, same_id, actions_compared, compared, tied, precedes, obscures, overlap_at, overlapping, mask_within_at, slot_comparison, same_pattern, equal_rule, replaceable};
 
-use records::{Mode, NARROW, WIDE};
+use records::{Mode, NARROW, WIDE, at_width};
 use slots::{
     mask_word, slot_action, slot_empty, slot_id, slot_rank, slot_vacant, slot_word, value_word,
 };
@@ -83,14 +83,12 @@ fn compare_slots(
     }
     let mut first = mask_within(table, slot, others, other, 0, width);
     let mut second = mask_within(others, other, table, slot, 0, width);
-    let mut index = 1;
-    while index < width {
+    for index in 1..width {
         if !word_overlaps(table, slot, others, other, index, width) {
             return Comparison::Apart;
         }
         first = first & mask_within(table, slot, others, other, index, width);
         second = second & mask_within(others, other, table, slot, index, width);
-        index += 1;
     }
     compare_masks(first, second)
 }
@@ -108,10 +106,10 @@ pub fn slots_overlap(table: &[u64], slot: usize, others: &[u64], other: usize, w
     requires { (Width width) × (slot < slots width table.now) × (other < slots width others.now) }
     ensures { result ≡ overlapping width (slot_words width table.now slot) (slot_words width others.now other) }
 {
-    if width == NARROW {
-        return slots_overlap_by(table, slot, others, other, NARROW);
-    }
-    slots_overlap_by(table, slot, others, other, WIDE)
+    at_width(
+        width,
+        |width| slots_overlap_by(table, slot, others, other, width),
+    )
 }
 
 // Whether both slots are occupied.
@@ -215,12 +213,10 @@ pub fn same_pattern(table: &[u64], slot: usize, others: &[u64], other: usize, wi
     requires { (Width width) × (slot < slots width table.now) × (other < slots width others.now) }
     ensures { result ≡ same_pattern width (slot_words width table.now slot) (slot_words width others.now other) }
 {
-    let mut place = 0;
-    while place < 2 * width {
+    for place in 0..2 * width {
         if slot_word(table, slot, place, width) != slot_word(others, other, place, width) {
             return false;
         }
-        place += 1;
     }
     true
 }
@@ -280,12 +276,10 @@ fn masks_within(table: &[u64], slot: usize, others: &[u64], other: usize, width:
     requires { (Width width) × (slot < slots width table.now) × (other < slots width others.now) }
     ensures { result ≡ masks_within width (mask width (slot_words width table.now slot)) (mask width (slot_words width others.now other)) }
 {
-    let mut index = 0;
-    while index < width {
+    for index in 0..width {
         if !mask_within(table, slot, others, other, index, width) {
             return false;
         }
-        index += 1;
     }
     true
 }
@@ -310,6 +304,7 @@ pub fn obscures_pair(table: &[u64], slot: usize, others: &[u64], other: usize, w
     requires { (Width width) × (slot < slots width table.now) × (other < slots width others.now) }
     ensures { result ≡ obscures width (slot_words width table.now slot) (slot_words width others.now other) }
 {
+    // Not by `at_width`, which would keep one copy: a fifth more instructions.
     if width == NARROW {
         return obscures_by(table, slot, others, other, NARROW);
     }

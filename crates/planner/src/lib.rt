@@ -11,7 +11,7 @@ ghost use Rattle.costs.specs.Costs.{cost_of};
 ghost use Rattle.planner.specs.Emit.{Walkable, emitted};
 ghost use Rattle.planner.specs.Choice.{best_of, preferred, choice_of, choice_words};
 
-use costs::{least_between, lesser};
+use costs::least_between;
 use plan_words::{PlanWrite, word_of};
 use positions::slot_at;
 
@@ -42,14 +42,12 @@ pub fn first_of_cost(costs: &[u16], from: usize, to: usize, cost: usize) -> usiz
     requires { to ≤ length costs.now }
     ensures { result ≡ least (λ (j : ℕ). eqb (cost_of costs.now j) cost) (to - from) from }
 {
-    let mut at = from;
-    while at < to {
+    for at in from..to {
         if costs[at] as usize == cost {
             return at;
         }
-        at += 1;
     }
-    at
+    from.max(to)
 }
 
 // The plan word of a move between two positions.
@@ -88,13 +86,6 @@ fn best_between(costs: &[u16], slots: usize, from: usize, to: usize) -> Best
     Best { cost, position }
 }
 
-// How many slots there are from this one on: the position, going up, just past it.
-fn slots_from(slots: usize, slot: usize) -> usize
-    ensures { result ≡ slots - slot }
-{
-    if slot < slots { slots - slot } else { 0 }
-}
-
 // The smaller of the two wins, down if equal.
 fn prefer(down: Best, up: Best) -> PositionChoice
     ensures { result ≡ preferred down up }
@@ -126,10 +117,11 @@ pub fn choose(
     requires slots_in_bounds_2 { slots ≤ length up.now }
     ensures { result ≡ choice_of (cost_of down.now) (cost_of up.now) slots below above }
 {
-    let end = lesser(below.to, slots);
+    let end = below.to.min(slots);
     let best_down = best_between(down, slots, below.from, end);
-    let start = slots_from(slots, above.to);
-    let past = slots_from(slots, above.from);
+    // going up, the positions just past a slot: how many slots there are from it on
+    let start = slots.saturating_sub(above.to);
+    let past = slots.saturating_sub(above.from);
     let best_up = best_between(up, slots, start, past);
     prefer(best_down, best_up)
 }

@@ -11,8 +11,8 @@ use Rattle.records.specs.Widths.{check_width, check_rule, leaves}
 use Rattle.records.specs.Editions.{Given, lent_rule, under13, ranked}
 use Rattle.records.specs.declared.Cause.{Cause}
 use Rattle.records.specs.declared.Cause.TheVariants.{Shape}
-use Rattle.records.specs.declared.Check.{Check}
-use Rattle.records.specs.declared.Check.TheVariants.{Pass, Fail}
+use Rattle.records.specs.Verdict.{Check}
+use Rattle.records.specs.Verdict.{Pass, Fail}
 use Rattle.buffers.specs.Buffers.{buffer_answer, buffer_after, check_room}
 use Rattle.lookups.specs.Lookup.{lookup_answer, lookup_call}
 use Rattle.carrying.proofs.StepsLaws.{progress_within}

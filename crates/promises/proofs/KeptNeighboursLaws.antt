@@ -15,8 +15,8 @@ use Rattle.records.proofs.Laws.{precedes_law}
 use Rattle.records.specs.Widths.{check_words, check_rule}
 use Rattle.records.proofs.WidthsLaws.{words_law}
 use Rattle.records.specs.Editions.{lent_rule}
-use Rattle.records.specs.declared.Check.{Check}
-use Rattle.records.specs.declared.Check.TheVariants.{Pass, Fail}
+use Rattle.records.specs.Verdict.{Check}
+use Rattle.records.specs.Verdict.{Pass, Fail}
 use Rattle.buffers.specs.Buffers.{flag_number}
 use Rattle.neighbour_lists.specs.Lists.{Listed, precedes_slot, last_below, next_dependant, last_preceding, list_numbers, list_of, stale_list}
 use Rattle.neighbour_lists.proofs.LentLaws.{list_length, list_listed, listed_whole, stale_law}

@@ -21,7 +21,7 @@ use Rattle.records.proofs.EntriesLaws.{listed_same, occupied_cong, ident_cong, s
 use Rattle.records.proofs.RulesLaws.{record_rank, record_ident, rule_action}
 use Rattle.records.proofs.ObscuredLaws.{obscures_same, obscured_matches, obscured_after}
 use Rattle.records.specs.declared.Rule.{Rule}
-use Rattle.records.specs.declared.Check.TheVariants.{Pass}
+use Rattle.records.specs.Verdict.{Pass}
 use Rattle.buffers.proofs.BuffersLaws.{buffer_passed}
 use Rattle.neighbours.specs.Neighbours.{covering_slot, CoveredAt, Uncovered, rule_words, new_checks, rule_checks, insert_checks}
 use Rattle.neighbours.proofs.NeighboursLaws.{insert_passes, covered_at, covered_none, covered_either}

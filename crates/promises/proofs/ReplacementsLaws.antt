@@ -24,8 +24,8 @@ use Rattle.records.proofs.Laws.{table_checks_law}
 use Rattle.records.specs.Entries.{vacant, entries, entry_occupied, entry_same}
 use Rattle.records.proofs.EntriesLaws.{entry_same_lem, ident_cong, occupied_at_lem, refuted}
 use Rattle.records.specs.declared.Rule.{Rule}
-use Rattle.records.specs.declared.Check.{Check}
-use Rattle.records.specs.declared.Check.TheVariants.{Pass}
+use Rattle.records.specs.Verdict.{Check}
+use Rattle.records.specs.Verdict.{Pass}
 use Rattle.insert_plans.specs.Insertable.{InsertableGiven, Replacing, ReplacingGiven}
 use Rattle.insert_plans.proofs.InsertableLaws.{insertable_law, replaces_none, replaced_first, replacing_passes, replacing_untied, replacing_uncrossed}
 use Rattle.neighbours.proofs.NeighboursLaws.{replaced_none, untied_none}

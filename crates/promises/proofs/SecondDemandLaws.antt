@@ -21,7 +21,7 @@ use Rattle.lookups.proofs.WidthsLaws.{lookup_at}
 use Rattle.records.specs.Editions.{Given, lent_rule, rank_of, ranked}
 use Rattle.records.proofs.EditionsLaws.{rank_full, rank_kept}
 use Rattle.records.specs.declared.Rule.{Rule}
-use Rattle.records.specs.declared.Check.{Check}
+use Rattle.records.specs.Verdict.{Check}
 use Rattle.neighbours.specs.Neighbours.{insert_checks}
 use Rattle.delete_plans.specs.Deletes.{delete_checks, delete_plan, delete_words}
 use Rattle.insert_plans.specs.Inserts.{planned_words, insert_plan}

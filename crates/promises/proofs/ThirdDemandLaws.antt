@@ -23,8 +23,8 @@ use Rattle.records.specs.Editions.{Given, lent_rule, ranked, lent_rank}
 use Rattle.records.proofs.EditionsLaws.{ranked_record_lem}
 use Rattle.records.specs.declared.Rule.{Rule}
 use Rattle.records.specs.declared.Cause.TheVariants.{Short}
-use Rattle.records.specs.declared.Check.{Check}
-use Rattle.records.specs.declared.Check.TheVariants.{Pass}
+use Rattle.records.specs.Verdict.{Check}
+use Rattle.records.specs.Verdict.{Pass}
 use Rattle.buffers.proofs.BuffersLaws.{buffer_short}
 use Rattle.neighbours.specs.Neighbours.{insert_checks}
 use Rattle.insert_plans.specs.Inserts.{insert_words, planned_words, insert_answer, insert_plan, insert_call}

@@ -7,7 +7,7 @@ use Rattle.records.specs.Order.{overlapping, InOrder}
 use Rattle.records.specs.Checks.{success, check_order, compared_at}
 use Rattle.records.specs.Editions.{Given, ranked}
 use Rattle.records.specs.declared.Rule.{Rule}
-use Rattle.records.specs.declared.Check.TheVariants.{Pass}
+use Rattle.records.specs.Verdict.{Pass}
 use Rattle.delete_plans.specs.Deletes.{delete_answer, delete_plan, delete_words}
 use Rattle.insert_plans.specs.Insertable.{ReplacingGiven}
 use Rattle.insert_plans.specs.Replacements.{ReplacementPlanned}

@@ -7,7 +7,7 @@ use Rattle.records.specs.Record.{slot_words}
 use Rattle.records.specs.Sound.{SoundRecord}
 use Rattle.records.specs.Order.{slots}
 use Rattle.records.specs.Checks.{check_records, compared_at}
-use Rattle.records.specs.declared.Check.TheVariants.{Pass}
+use Rattle.records.specs.Verdict.{Pass}
 
 -- slot i of a table
 module _ (w : ℕ) (t : List ℕ) (i : ℕ) where

@@ -3,7 +3,7 @@ use Rattle.std.specs.Prelude.{◌≡◌, Bool, true, false, ℕ, ◌<◌}
 use Rattle.std.proofs.Common.{arith, lt-ltb, le-ltb}
 use Rattle.search.specs.SearchLaws.{least_at, least_none}
 use Rattle.records.specs.declared.Cause.{Cause}
-use Rattle.records.specs.declared.Check.TheVariants.{Pass, Fail}
+use Rattle.records.specs.Verdict.{Pass, Fail}
 use Rattle.records.specs.Checks.{lowest}
 
 -- a loop over the slots ends in one of two ways

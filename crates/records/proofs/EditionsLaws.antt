@@ -17,7 +17,7 @@ use Rattle.records.proofs.WidthsLaws.{lent_words}
 use Rattle.records.proofs.RulesLaws.{set_behind, length_listed, word_listed, listed_words, rule_action, record_length, record_sound, rule_sound, given_record}
 use Rattle.records.specs.declared.Rule.{Rule}
 use Rattle.records.specs.declared.Cause.TheVariants.{Rule as RuleCause, Edition as EditionCause}
-use Rattle.records.specs.declared.Check.TheVariants.{Pass}
+use Rattle.records.specs.Verdict.{Pass}
 use Rattle.records.specs.Editions.{Given, lent_rule, under13, rank_of, ranked, lent_rank, ranked_record, known_edition, Edition, check_sound, check_edition, check_given}
 
 -- an edition that there is

@@ -19,7 +19,7 @@ use Rattle.records.specs.Record.{slot_matches, record_of}
 use Rattle.records.specs.Order.{slots, overlapping, same_id, distinct, compared, precedes, misordered, InOrder}
 use Rattle.records.specs.Checks.{check_shape, check_twice, check_order}
 use Rattle.records.proofs.Laws.{shape_law, empty_law, ident_occupied, twice_law, same_id_law, misordered_law, ordered_law, order_law}
-use Rattle.records.specs.declared.Check.TheVariants.{Pass}
+use Rattle.records.specs.Verdict.{Pass}
 use Rattle.records.specs.declared.Rule.{Rule}
 use Rattle.records.proofs.RulesLaws.{length_listed, word_listed, record_ident, fits_cong}
 use Rattle.records.specs.Entries.{entry_at, entry_same, entry_misordered, entry_occupied, SameRecord, vacant, entries}

@@ -16,7 +16,7 @@ use Rattle.records.specs.Checks.{check_twice, check_order}
 use Rattle.records.proofs.Laws.{same_id_law, tied_law, precedes_law, misordered_law, precedes_misordered, ordered_law, order_law, twice_law}
 use Rattle.records.proofs.EntriesLaws.{refuted, same_id_turned, compared_turned}
 use Rattle.records.proofs.InsertsLaws.{tied_turned}
-use Rattle.records.specs.declared.Check.TheVariants.{Pass}
+use Rattle.records.specs.Verdict.{Pass}
 
 -- the test, in words
 pub equal_law : (w : ℕ) (a b : Words) → (equal_rule w a b ≡ true) ↔ EqualRules w a b

@@ -25,7 +25,7 @@ use Rattle.records.proofs.Laws.{misordered_law, precedes_law, tied_law, precedes
 use Rattle.records.specs.Entries.{vacant, entries, entry_occupied, entry_same, entry_misordered}
 use Rattle.records.specs.Writes.{apply_words}
 use Rattle.records.specs.ClassWords.{InClassWords}
-use Rattle.records.specs.declared.Check.TheVariants.{Pass}
+use Rattle.records.specs.Verdict.{Pass}
 use Rattle.records.specs.declared.Rule.{Rule}
 use Rattle.records.proofs.RulesLaws.{record_value, record_mask, record_ident, record_action, record_rank}
 use Rattle.records.proofs.EntriesLaws.{same_id_cong, misordered_cong, same_truth, eqb_turned, compared_turned, entries_length, entry_same_lem}

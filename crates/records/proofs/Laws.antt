@@ -1,7 +1,7 @@
 -- End theorems on the checks, in document 01's words: shape, records, ids and order, each exactly, and each spot the lowest.
 -- These are the sentences a reader goes by; callers cite them and not the text of the definitions.
 use Rattle.std.specs.Prelude.{◌≡◌, refl, Bool, true, false, not, cond, ◌&&◌, ◌||◌, ◌↔◌, ◌⊎◌, List, [], ◌∷◌, ℕ, pred, ◌+◌, ◌*◌, ◌/◌, ◌%◌, ◌≤◌, ◌<◌, eqb, ltb, leb, length, get_or}
-use Rattle.std.proofs.Common.{sym, ap, ◌∙◌, true≢false, ⊎_elim, div-add-mod', add-zero, zero-add, mul-le-mul_right, arith, eqb-true, eq-eqb, ne_eqb, leb-true, le-leb, lt-ltb, ltb-true, ltb-false}
+use Rattle.std.proofs.Common.{Result, Ok, Err, sym, ap, ◌∙◌, true≢false, ⊎_elim, div-add-mod', add-zero, zero-add, mul-le-mul_right, arith, eqb-true, eq-eqb, ne_eqb, leb-true, le-leb, lt-ltb, ltb-true, ltb-false}
 use Rattle.std.proofs.Math.Bool.{and_comm, and-false}
 use Rattle.std.proofs.lemmas.Bool.{false≢true, eqb-false, lt-leb, not-true}
 use Rattle.std.proofs.Math.Logic.◌⊎◌.{inl, inr}
@@ -15,17 +15,28 @@ use Rattle.records.specs.Record.{word, record_words, slot_words, value, mask, id
 use Rattle.records.specs.Record.{slot_matches, pattern_matches}
 use Rattle.records.specs.Sound.{RankFits, SoundRecord, SoundRule}
 use Rattle.records.specs.Order.{slots, overlapping, same_id, distinct, compared, precedes, tied, misordered, Ordered, InOrder, Overlapping, ActionsDiffer}
-use Rattle.records.specs.Checks.{cause_number, Told, refusal, unless, or_else, lowest, shaped, check_shape, slot_checks, table_checks, unsound_at}
+use Rattle.records.specs.Checks.{cause_number, Told, refusal, answer_told, unless, or_else, lowest, shaped, check_shape, slot_checks, table_checks, unsound_at}
 use Rattle.records.specs.Checks.{check_records, twice_at, check_twice, disorder_at, check_order, matches_at, first_match, EmptyOrSound, compared_at, Shaped}
 use Rattle.records.specs.declared.Rule.{Rule}
 use Rattle.records.specs.declared.Cause.{Cause}
 use Rattle.records.specs.declared.Cause.TheVariants.{Shape, Record, Twice, Order, Rule as RuleCause, Known, Unknown, Tie, Full, Crossed, Short, Write, Line}
 use Rattle.records.specs.declared.Cause.TheVariants.{Image, Uncrossed, Plan, Damage, Edition, Open, Session, Absent, Room}
-use Rattle.records.specs.declared.Check.{Check}
-use Rattle.records.specs.declared.Check.TheVariants.{Pass, Fail}
+use Rattle.records.specs.Verdict.{Check, Pass, Fail, checked}
+use Rattle.records.specs.declared.Refusal.{Refusal}
+use Rattle.std.specs.Result.{IsErrAnd, is_err}
+use Rattle.std.proofs.lemmas.Result.{err_from_is_err_and}
 use Rattle.records.proofs.ChecksLaws.{lowest_at_lem, lowest_none}
 
 -- a row of checks, as code returns from it
+-- a check that is no error has passed
+pub checked_ok : (r : Result (Unit {0}) Refusal) → is_err r ≡ false → checked r ≡ Pass
+checked_ok (Ok done) e = refl
+checked_ok (Err refused) e = absurd (true≢false e)
+
+-- what the exit of a `?` returns: the refusal that it was given
+pub is_refusal : {T : Type 0} {refused : Refusal} (r : Result T Refusal) → IsErrAnd r (λ x. x ≡ refused) → r ≡ Err refused
+is_refusal r e = let p = err_from_is_err_and r e in p.1 ∙ ap Err p.2
+
 pub failed : {x y : Check} {cause : Cause} {spot : ℕ} (next : Check) → x ≡ y → x ≡ Fail cause spot → Fail cause spot ≡ or_else y next
 failed next e f = ap (λ (z : Check). or_else z next) (sym f ∙ e)
 
@@ -38,6 +49,19 @@ told_refused answer e f = ap (λ (z : Check). unless z answer) (sym f ∙ e)
 
 pub told_answered : {x y : Check} {told answer : Told} → x ≡ y → x ≡ Pass → told ≡ answer → told ≡ unless y answer
 told_answered {answer = answer} e f h = h ∙ ap (λ (z : Check). unless z answer) (sym f ∙ e)
+
+-- the same behind a `?`, whose arms say what the check was
+pub stops : {y : Check} {cause : Cause} {spot : ℕ} (next : Check) → Fail cause spot ≡ y → Fail cause spot ≡ or_else y next
+stops {cause = cause} {spot = spot} next e = failed {x = Fail cause spot} next e refl
+
+pub goes_on : {y answer next : Check} → Pass ≡ y → answer ≡ next → answer ≡ or_else y next
+goes_on e h = passed {x = Pass} e refl h
+
+pub told_stops : {y : Check} {cause : Cause} {spot : ℕ} (answer : Told) → Fail cause spot ≡ y → refusal cause spot ≡ unless y answer
+told_stops {cause = cause} {spot = spot} answer e = told_refused {x = Fail cause spot} answer e refl
+
+pub told_goes_on : {y : Check} {told answer : Told} → Pass ≡ y → told ≡ answer → told ≡ unless y answer
+told_goes_on e h = told_answered {x = Pass} e refl h
 
 pass_fail : {cause : Cause} {spot : ℕ} → Fail cause spot ≡ Pass → ⊥
 pass_fail e = let z : ◌≡◌ {A = ℕ} 0 1 = cc in omega arith
@@ -103,6 +127,16 @@ cause_not_zero Room = refl
 
 pub cause_number_once : (c d : Cause) → cause_number c ≡ cause_number d → c ≡ d
 cause_number_once c d e = sym (cause_back c) ∙ (ap cause_of e ∙ cause_back d)
+
+-- what a call tells loses nothing: its number is the cause's, and 0 for a success alone
+pub answer_told_once : {T : Type 0} (values : T → List ℕ) → ((x y : T) → values x ≡ values y → x ≡ y) → (a b : Result T Refusal) → answer_told values a ≡ answer_told values b → a ≡ b
+answer_told_once values same (Ok x) (Ok y) e = ap Ok (same x y (ap (λ (t : Told). t.values) e))
+answer_told_once values same (Ok x) (Err d) e = absurd (true≢false (ap (λ (t : Told). eqb t.number 0) e ∙ cause_not_zero d.cause))
+answer_told_once values same (Err c) (Ok y) e = absurd (true≢false (ap (λ (t : Told). eqb t.number 0) (sym e) ∙ cause_not_zero c.cause))
+answer_told_once values same (Err c) (Err d) e =
+    let cause = cause_number_once c.cause d.cause (ap (λ (t : Told). t.number) e) in
+    let spot : c.spot ≡ d.spot = ap (λ (t : Told). get_or t.values 0 0) e in
+    λ i. Err (record { cause = cause i; spot = spot i })
 
 three : (a b d : Bool) → (a && b && d ≡ true) ↔ ((a ≡ true) × (b ≡ true) × (d ≡ true))
 three a b d = (

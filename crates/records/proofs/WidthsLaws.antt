@@ -11,8 +11,8 @@ use Rattle.records.proofs.Laws.{one_of_two, pass_law, or_else_pass, told_refused
 use Rattle.records.specs.Widths.{known, Width, check_width, check_words, check_key, check_rule, leaves}
 use Rattle.records.specs.declared.Cause.{Cause}
 use Rattle.records.specs.declared.Cause.TheVariants.{Shape}
-use Rattle.records.specs.declared.Check.{Check}
-use Rattle.records.specs.declared.Check.TheVariants.{Pass, Fail}
+use Rattle.records.specs.Verdict.{Check}
+use Rattle.records.specs.Verdict.{Pass, Fail}
 
 pub two : Width 2
 two = (omega arith, omega arith, inl refl)

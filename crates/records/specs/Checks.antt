@@ -1,6 +1,6 @@
 -- Checks 1 to 4 of document 01, each with the lowest slot that fails it, and the first match of a key.
 -- A check is a row of the refusal table: it passes, or fails with its cause and spot.
-use Rattle.std.specs.Prelude.{◌≡◌, Bool, true, false, not, cond, ◌&&◌, ◌⊎◌, List, [], ◌∷◌, ℕ, ◌%◌, ◌*◌, ◌≤◌, eqb, ltb, leb, length}
+use Rattle.std.specs.Prelude.{◌≡◌, Bool, true, false, not, cond, ◌&&◌, ◌⊎◌, List, [], ◌∷◌, ℕ, ◌%◌, ◌*◌, ◌≤◌, eqb, ltb, leb, length, Result, Ok, Err}
 use Rattle.search.specs.Search.{any, least}
 use Rattle.ternary.specs.Pattern.{Words}
 use Rattle.records.specs.Record.{record_words, slot_words, empty, occupied, sound, pattern_matches, slot_matches}
@@ -8,8 +8,8 @@ use Rattle.records.specs.Order.{slots, same_id, misordered}
 use Rattle.records.specs.declared.Cause.{Cause}
 use Rattle.records.specs.declared.Cause.TheVariants.{Shape, Record, Twice, Order, Rule, Known, Unknown, Tie, Full, Crossed, Short, Write, Line}
 use Rattle.records.specs.declared.Cause.TheVariants.{Image, Uncrossed, Plan, Damage, Edition, Open, Session, Absent, Room}
-use Rattle.records.specs.declared.Check.{Check}
-use Rattle.records.specs.declared.Check.TheVariants.{Pass, Fail}
+use Rattle.records.specs.declared.Refusal.{Refusal}
+use Rattle.records.specs.Verdict.{Check, Pass, Fail}
 
 -- the number of each cause: document 01's, and document 02's from 15 on
 abbrev pub cause_number : Cause → ℕ
@@ -46,6 +46,11 @@ success values = record { number = 0; values = values }
 
 abbrev pub refusal : Cause → ℕ → Told
 refusal cause spot = record { number = cause_number cause; values = spot ∷ [] }
+
+-- what a call tells that succeeds with data or declines
+abbrev pub answer_told : {T : Type 0} → (T → List ℕ) → Result T Refusal → Told
+answer_told values (Ok done) = success (values done)
+answer_told values (Err refused) = refusal refused.cause refused.spot
 
 -- a refusal where a check fails, else the answer
 abbrev pub unless : Check → Told → Told

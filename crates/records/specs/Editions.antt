@@ -6,8 +6,8 @@ use Rattle.records.specs.Record.{word, slot_words, mask, rank, sound_rule, rule_
 use Rattle.records.specs.Checks.{or_else}
 use Rattle.records.specs.declared.Rule.{Rule}
 use Rattle.records.specs.declared.Cause.TheVariants.{Rule as RuleCause, Edition as EditionCause}
-use Rattle.records.specs.declared.Check.{Check}
-use Rattle.records.specs.declared.Check.TheVariants.{Pass, Fail}
+use Rattle.records.specs.Verdict.{Check}
+use Rattle.records.specs.Verdict.{Pass, Fail}
 
 -- a rule as a call is given it: with its priority, and its edition
 pub record Given : Type 0 where

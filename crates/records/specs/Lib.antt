@@ -3,6 +3,7 @@
 pub mod Record
 pub mod Sound
 pub mod Order
+pub mod Verdict
 pub mod Checks
 pub mod Widths
 pub mod Rules

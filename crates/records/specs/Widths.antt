@@ -4,8 +4,8 @@ use Rattle.std.specs.Prelude.{◌≡◌, Bool, cond, ◌||◌, ◌⊎◌, ℕ, �
 use Rattle.records.specs.Record.{record_words}
 use Rattle.records.specs.Checks.{or_else}
 use Rattle.records.specs.declared.Cause.TheVariants.{Shape}
-use Rattle.records.specs.declared.Check.{Check}
-use Rattle.records.specs.declared.Check.TheVariants.{Pass, Fail}
+use Rattle.records.specs.Verdict.{Check}
+use Rattle.records.specs.Verdict.{Pass, Fail}
 
 -- values and masks have two words or five
 unfoldable pub known : ℕ → Bool

@@ -5,7 +5,8 @@
 ghost use Rattle.std.specs.Prelude.{◌≡◌, ◌≤◌};
 ghost use Rattle.records.specs.Record.{record_words};
 ghost use Rattle.records.specs.Checks.{cause_number};
-ghost use Rattle.records.specs.Widths.{check_width, check_words, check_key, check_rule};
+ghost use Rattle.records.specs.Verdict.{checked};
+ghost use Rattle.records.specs.Widths.{Width, check_width, check_words, check_key, check_rule};
 ghost use Rattle.records.specs.Editions.{check_edition};
 
 // How many words a value has, and a mask: document 01's two, or document 02's five.
@@ -49,12 +50,36 @@ pub struct Mode {
     pub uncounted: bool,
 }
 
+// Document 01's tables: two words a value, and counters. The same at five words.
+pub const NARROW_COUNTED: Mode = Mode {
+    width: NARROW,
+    uncounted: false,
+};
+
+pub const WIDE_COUNTED: Mode = Mode {
+    width: WIDE,
+    uncounted: false,
+};
+
 // How many words a slot record has: value, mask, id and action, rank.
 pub fn record_words(width: usize) -> usize
     requires { width ≤ 5 }
     ensures { result ≡ record_words width }
 {
     2 * width + 2
+}
+
+// Does work at a width, which is a constant for the compiler: it makes a copy of the work for each, where the work is short. Of longer work it keeps one, called
+// with the width, and the words that the work reads go through memory.
+#[inline(always)]
+pub fn at_width<T, F: FnOnce(usize) -> T>(width: usize, work: F) -> T
+    requires { (Width width) × F.pre work width }
+    ensures { F.post work width result }
+{
+    if width == NARROW {
+        return work(NARROW);
+    }
+    work(WIDE)
 }
 
 // Document 01's rule at two words: value and mask, high word first.
@@ -67,119 +92,99 @@ pub struct Rule {
     pub action: u32,
 }
 
-// Why a call declines: the causes of document 01 and, from Uncrossed on, those of document 02, in the order of their numbers. Of the latter
+// Why a call declines: the causes of document 01 and, from Uncrossed on, those of document 02, each with its number. Of the latter
 // Edition alone is returned by a call as yet.
 #[derive(Clone, Copy)]
 pub enum Cause {
-    Shape,
-    Record,
-    Twice,
-    Order,
-    Rule,
-    Known,
-    Unknown,
-    Tie,
-    Full,
-    Crossed,
-    Short,
-    Write,
-    Line,
-    Image,
-    Uncrossed,
-    Plan,
-    Damage,
-    Edition,
-    Open,
-    Session,
-    Absent,
-    Room,
+    Shape = 1,
+    Record = 2,
+    Twice = 3,
+    Order = 4,
+    Rule = 5,
+    Known = 6,
+    Unknown = 7,
+    Tie = 8,
+    Full = 9,
+    Crossed = 10,
+    Short = 11,
+    Write = 12,
+    Line = 13,
+    Image = 14,
+    Uncrossed = 15,
+    Plan = 16,
+    Damage = 17,
+    Edition = 18,
+    Open = 19,
+    Session = 20,
+    Absent = 21,
+    Room = 22,
 }
 
-// What a check of a table answers: it passes, or fails with its cause and spot.
+// Why a call declines, and the spot that it names: the row of the refusal table.
 #[derive(Clone, Copy)]
-pub enum Check {
-    Pass,
-    Fail(Cause, u32),
+pub struct Refusal {
+    pub cause: Cause,
+    pub spot: u32,
 }
 
 // The number of a cause.
 pub fn cause_number(cause: Cause) -> u32
     ensures { result ≡ cause_number cause }
 {
-    match cause {
-        Cause::Shape => 1,
-        Cause::Record => 2,
-        Cause::Twice => 3,
-        Cause::Order => 4,
-        Cause::Rule => 5,
-        Cause::Known => 6,
-        Cause::Unknown => 7,
-        Cause::Tie => 8,
-        Cause::Full => 9,
-        Cause::Crossed => 10,
-        Cause::Short => 11,
-        Cause::Write => 12,
-        Cause::Line => 13,
-        Cause::Image => 14,
-        Cause::Uncrossed => 15,
-        Cause::Plan => 16,
-        Cause::Damage => 17,
-        Cause::Edition => 18,
-        Cause::Open => 19,
-        Cause::Session => 20,
-        Cause::Absent => 21,
-        Cause::Room => 22,
-    }
+    cause as u32
 }
 
 // 1 for a width that there is not.
-pub fn check_width(width: usize) -> Check
-    ensures { result ≡ check_width width }
+pub fn check_width(width: usize) -> Result<(), Refusal>
+    ensures { checked result ≡ check_width width }
 {
     if (width == NARROW) | (width == WIDE) {
-        return Check::Pass;
+        return Ok(());
     }
-    Check::Fail(Cause::Shape, 0)
+    Err(Refusal {
+        cause: Cause::Shape,
+        spot: 0,
+    })
 }
 
 // 1 for another number of words than is needed.
-pub fn check_words(words: usize, needed: usize) -> Check
-    ensures { result ≡ check_words words needed }
+pub fn check_words(words: usize, needed: usize) -> Result<(), Refusal>
+    ensures { checked result ≡ check_words words needed }
 {
     if words == needed {
-        return Check::Pass;
+        return Ok(());
     }
-    Check::Fail(Cause::Shape, 0)
+    Err(Refusal {
+        cause: Cause::Shape,
+        spot: 0,
+    })
 }
 
 // 1 for a width that there is not, and for a key of another number of words.
-pub fn check_key(width: usize, words: usize) -> Check
-    ensures { result ≡ check_key width words }
+pub fn check_key(width: usize, words: usize) -> Result<(), Refusal>
+    ensures { checked result ≡ check_key width words }
 {
-    let known = check_width(width);
-    if let Check::Fail(cause, spot) = known {
-        return Check::Fail(cause, spot);
-    }
+    check_width(width)?;
     check_words(words, width)
 }
 
 // 1 for a width that there is not, and for a rule's record of another number of words.
-pub fn check_rule(width: usize, words: usize) -> Check
-    ensures { result ≡ check_rule width words }
+pub fn check_rule(width: usize, words: usize) -> Result<(), Refusal>
+    ensures { checked result ≡ check_rule width words }
 {
-    let known = check_width(width);
-    if let Check::Fail(cause, spot) = known {
-        return Check::Fail(cause, spot);
-    }
+    check_width(width)?;
     check_words(words, record_words(width))
 }
 
 // 18 for an edition that is neither 1.0 nor 1.3.
-pub fn check_edition(edition: u32) -> Check
-    ensures { result ≡ check_edition edition }
+pub fn check_edition(edition: u32) -> Result<(), Refusal>
+    ensures { checked result ≡ check_edition edition }
 {
     if (edition == EDITION_10) | (edition == EDITION_13) {
-        return Check::Pass;
+        return Ok(());
     }
-    Check::Fail(Cause::Edition, 0)
+    Err(Refusal {
+        cause: Cause::Edition,
+        spot: 0,
+    })
 }

@@ -6,7 +6,7 @@ use Rattle.records.specs.Record.{word}
 use Rattle.records.specs.Order.{slots}
 use Rattle.records.specs.Checks.{success, unless, slot_checks, first_match}
 use Rattle.records.specs.Editions.{Given, lent_rule, ranked}
-use Rattle.records.specs.declared.Check.{Check}
+use Rattle.records.specs.Verdict.{Check}
 use Rattle.buffers.specs.Buffers.{check_room, buffer_answer}
 use Rattle.lookups.specs.Lookup.{match_told, lookup_answer, lookup_call}
 use Rattle.insert_plans.specs.Inserts.{insert_answer, planned_words, insert_call, insert_call_reply}

@@ -24,8 +24,8 @@ use Rattle.records.proofs.WritesLaws.{fits_write_law}
 use Rattle.records.proofs.Laws.{sound_rule_law}
 use Rattle.records.specs.Editions.{Given, ranked, known_edition, check_sound, check_edition, check_given}
 use Rattle.records.specs.declared.Cause.TheVariants.{Rule as RuleCause, Write as WriteCause, Edition as EditionCause}
-use Rattle.records.specs.declared.Check.{Check}
-use Rattle.records.specs.declared.Check.TheVariants.{Pass, Fail}
+use Rattle.records.specs.Verdict.{Check}
+use Rattle.records.specs.Verdict.{Pass, Fail}
 use Rattle.carrying.specs.Carrying.{put_checks, over_equal, fits_carried, progress_checks, write_checks, step_answer}
 use Rattle.carrying.proofs.StepsLaws.{fits_carried_lem, progress_within}
 use Rattle.refusals.specs.Rows.{Row, row_at}

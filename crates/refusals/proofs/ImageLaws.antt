@@ -10,7 +10,7 @@ use Rattle.records.specs.Record.{word, sound}
 use Rattle.records.specs.Order.{slots}
 use Rattle.records.proofs.Laws.{sound_record_law}
 use Rattle.records.specs.declared.Cause.TheVariants.{Image}
-use Rattle.records.specs.declared.Check.{Check}
+use Rattle.records.specs.Verdict.{Check}
 use Rattle.image.specs.Format.{image_bytes, body_place, entry_place, slots_in, rules_in, id_at, entry_slot, offset_at, record_at}
 use Rattle.image.specs.Checks.{in_turn, field, check_header, lowest_slot, check_entry, check_body, check_contents, check_bodies, image_checks, meant, load_checks}
 use Rattle.refusals.specs.Rows.{Row}

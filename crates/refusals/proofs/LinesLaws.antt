@@ -8,8 +8,8 @@ use Rattle.records.specs.Checks.{Told, success, refusal, unless}
 use Rattle.records.specs.Editions.{under13}
 use Rattle.records.specs.declared.Rule.{Rule}
 use Rattle.records.specs.declared.Cause.TheVariants.{Shape, Line}
-use Rattle.records.specs.declared.Check.{Check}
-use Rattle.records.specs.declared.Check.TheVariants.{Pass, Fail}
+use Rattle.records.specs.Verdict.{Check}
+use Rattle.records.specs.Verdict.{Pass, Fail}
 use Rattle.delete_plans.specs.Deletes.{delete_words}
 use Rattle.insert_plans.specs.Inserts.{planned_words}
 use Rattle.script_commands.specs.declared.Command.{Command}

@@ -20,7 +20,7 @@ use Rattle.records.proofs.EditionsLaws.{edition_law}
 use Rattle.records.specs.declared.Rule.{Rule}
 use Rattle.records.specs.declared.Cause.{Cause}
 use Rattle.records.specs.declared.Cause.TheVariants.{Rule as RuleCause, Known, Unknown, Tie, Full, Crossed, Short, Edition as EditionCause}
-use Rattle.records.specs.declared.Check.TheVariants.{Pass, Fail}
+use Rattle.records.specs.Verdict.{Pass, Fail}
 use Rattle.buffers.specs.Buffers.{check_room}
 use Rattle.neighbours.specs.Neighbours.{check_known, check_tie, check_full, check_crossed, after_a, slot_b, replaced_slot, replaces, new_checks, place_checks}
 use Rattle.neighbours.specs.Neighbours.{rule_words, rule_checks, insert_checks}

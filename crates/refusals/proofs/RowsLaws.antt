@@ -6,8 +6,8 @@ use Rattle.std.proofs.Math.Decide.{dec_lt}
 use Rattle.records.specs.Checks.{Told, cause_number, success, refusal, unless, or_else}
 use Rattle.records.proofs.Laws.{cause_number_once, cause_not_zero}
 use Rattle.records.specs.declared.Cause.{Cause}
-use Rattle.records.specs.declared.Check.{Check}
-use Rattle.records.specs.declared.Check.TheVariants.{Pass, Fail}
+use Rattle.records.specs.Verdict.{Check}
+use Rattle.records.specs.Verdict.{Pass, Fail}
 use Rattle.refusals.specs.Rows.{Row, Lowest, Declines, Accepts, AnsweredBy}
 
 -- A check and its rows agree: it fails with a cause and a spot exactly when the rows decline so, and passes exactly when no condition holds

@@ -13,7 +13,7 @@ use Rattle.records.proofs.Laws.{shape_law, pass_law, lowest_pass, lowest_fail, s
 use Rattle.records.proofs.EntriesLaws.{refuted}
 use Rattle.records.specs.declared.Cause.{Cause}
 use Rattle.records.specs.declared.Cause.TheVariants.{Shape, Record, Twice, Order}
-use Rattle.records.specs.declared.Check.TheVariants.{Pass, Fail}
+use Rattle.records.specs.Verdict.{Pass, Fail}
 use Rattle.refusals.specs.Rows.{row_at, slot_row}
 use Rattle.refusals.proofs.RowsLaws.{Agrees, pass_not_fail, one_row, rows_then, lowest_once, number_once}
 use Rattle.refusals.specs.Calls.{OneId, NotHigher, shape_row, record_row, twice_row, order_row, slot_rows, table_rows}

@@ -9,8 +9,8 @@ use Rattle.records.specs.Widths.{Width, known, check_width, check_words, check_k
 use Rattle.records.proofs.WidthsLaws.{width_law}
 use Rattle.records.specs.declared.Cause.{Cause}
 use Rattle.records.specs.declared.Cause.TheVariants.{Shape}
-use Rattle.records.specs.declared.Check.{Check}
-use Rattle.records.specs.declared.Check.TheVariants.{Pass, Fail}
+use Rattle.records.specs.Verdict.{Check}
+use Rattle.records.specs.Verdict.{Pass, Fail}
 use Rattle.neighbour_lists.specs.Lists.{list_numbers}
 use Rattle.refusals.specs.Rows.{Row, row_at, AnsweredBy}
 use Rattle.refusals.proofs.RowsLaws.{Agrees, pass_not_fail, one_row, refusal_once, number_once}

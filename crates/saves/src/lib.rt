@@ -7,15 +7,15 @@ ghost use Rattle.records.specs.Record.{most_slots, slot_words, ident};
 ghost use Rattle.records.specs.Order.{slots};
 ghost use Rattle.records.specs.Checks.{check_records};
 ghost use Rattle.records.specs.Widths.{Width};
-ghost use Rattle.records.specs.declared.Check.TheVariants.{Pass};
+ghost use Rattle.records.specs.Verdict.{Pass};
 ghost use Rattle.image.specs.Bytes.{bytes_of, store, pieces};
 ghost use Rattle.image.specs.Format.{rule_count, body_bytes, body_place, entry_place, image_bytes, entry_of, body_of, image_of, stored};
 ghost use Rattle.image.specs.Answers.{save_told, save_answer, save_buffer, save_call, save_call_buffer};
 
+use image::SaveInfo;
 use image::fields::put_number;
 use image::sizes::{body_place, entry_place, image_bytes};
-use image::{SaveAnswer, SaveInfo};
-use records::{Cause, Check, Mode, check_width};
+use records::{Cause, Mode, Refusal, check_width};
 use slots::{named_word, slot_count, slot_id, slot_rank, slot_vacant, slot_word};
 use table_checks::check_table;
 
@@ -26,12 +26,10 @@ fn count_rules(table: &[u64], width: usize) -> usize
 {
     let slots = slot_count(table, width);
     let mut count = 0;
-    let mut slot = 0;
-    while slot < slots {
+    for slot in 0..slots {
         if !slot_vacant(table, slot, width) {
             count += 1;
         }
-        slot += 1;
     }
     count
 }
@@ -56,10 +54,8 @@ fn put_words(image: &mut [u8], at: usize, table: &[u64], slot: usize, width: usi
     put_number(image, at + 8, 8, slot_word(table, slot, 1, width));
     put_number(image, at + 16, 8, slot_word(table, slot, 2, width));
     put_number(image, at + 24, 8, slot_word(table, slot, 3, width));
-    let mut word = 4;
-    while word < 2 * width {
+    for word in 4..2 * width {
         put_number(image, at + word * 8, 8, slot_word(table, slot, word, width));
-        word += 1;
     }
 }
 
@@ -103,13 +99,11 @@ fn put_rules(image: &mut [u8], rules: usize, table: &[u64], width: usize)
 {
     let slots = slot_count(table, width);
     let mut rule = 0;
-    let mut slot = 0;
-    while slot < slots {
+    for slot in 0..slots {
         if !slot_vacant(table, slot, width) {
             put_rule(image, rules, rule, table, slot, width);
             rule += 1;
         }
-        slot += 1;
     }
 }
 
@@ -124,34 +118,31 @@ fn put_image(image: &mut [u8], rules: usize, table: &[u64], width: usize)
 }
 
 // The image of a table at a width that there is.
-fn save_at(table: &[u64], image: &mut [u8], mode: Mode) -> SaveAnswer
+fn save_at(table: &[u64], image: &mut [u8], mode: Mode) -> Result<SaveInfo, Refusal>
     requires { Width mode.width }
     ensures result_value { save_told result ≡ save_answer mode.width mode.uncounted table.now (length image.old) }
     ensures image_after { image.new ≡ save_buffer mode.width mode.uncounted table.now image.old }
 {
-    let check = check_table(table, mode);
-    if let Check::Fail(cause, spot) = check {
-        return SaveAnswer::Refused(cause, spot);
-    }
+    check_table(table, mode)?;
     let rules = count_rules(table, mode.width);
     let bytes = image_bytes(mode.width, rules);
     if image.len() < bytes {
-        return SaveAnswer::Refused(Cause::Short, bytes as u32);
+        return Err(Refusal {
+            cause: Cause::Short,
+            spot: bytes as u32,
+        });
     }
     put_image(image, rules, table, mode.width);
-    SaveAnswer::Saved(SaveInfo {
+    Ok(SaveInfo {
         bytes: bytes as u32,
     })
 }
 
 // The image of a table, into the lent buffer: its bytes, or a refusal that leaves the buffer as it was.
-pub fn save(table: &[u64], image: &mut [u8], mode: Mode) -> SaveAnswer
+pub fn save(table: &[u64], image: &mut [u8], mode: Mode) -> Result<SaveInfo, Refusal>
     ensures result_value { save_told result ≡ save_call mode.width mode.uncounted table.now (length image.old) }
     ensures image_after { image.new ≡ save_call_buffer mode.width mode.uncounted table.now image.old }
 {
-    let known = check_width(mode.width);
-    if let Check::Fail(cause, spot) = known {
-        return SaveAnswer::Refused(cause, spot);
-    }
+    check_width(mode.width)?;
     save_at(table, image, mode)
 }

@@ -28,18 +28,7 @@ pub struct Ran {
     pub answer: LineAnswer,
 }
 
-// All words zero: empty slots.
-fn clear_words(words: &mut [u64])
-    ensures { words.new ≡ replicate (length words.old) 0 }
-{
-    let mut at = 0;
-    while at < words.len() {
-        words[at] = 0;
-        at += 1;
-    }
-}
-
-// A T line.
+// A T line: all words zero are empty slots.
 fn new_table(memory: &mut [u64], present: usize, slots: u32, out: &mut [u8; 14343]) -> Ran
     requires { (length memory.old ≡ most_words 2) × (present ≤ most_slots) }
     ensures left { Left (table_outcome (table_in memory.old present) slots) result memory.old memory.new out.old out.new }
@@ -47,7 +36,7 @@ fn new_table(memory: &mut [u64], present: usize, slots: u32, out: &mut [u8; 1434
 {
     let count = slots as usize;
     if (1 <= count) & (count <= MOST_SLOTS) {
-        clear_words(&mut memory[..count * 6]);
+        memory[..count * 6].fill(0);
         let length = print_table(out, slots);
         return Ran {
             slots: count,

@@ -15,7 +15,7 @@ pub mod writes;
 pub fn print_table(out: &mut [u8; 14343], slots: u32) -> usize
     ensures { Shown out.old (table_bytes slots) result out.new }
 {
-    line_of_one(out, 0, 78, slots as u64)
+    line_of_one(out, 0, b'N', slots as u64)
 }
 
 // `P count` and then a line for each plan word; the buffer has room for 1,024.
@@ -30,7 +30,7 @@ pub fn print_plan(out: &mut [u8; 14343], words: &[u32]) -> usize
 pub fn print_hit(out: &mut [u8; 14343], slot: u32, id: u32, action: u32) -> usize
     ensures { Shown out.old (hit_bytes slot id action) result out.new }
 {
-    line_of_three(out, 0, 65, slot as u64, id as u64, action as u64)
+    line_of_three(out, 0, b'A', slot as u64, id as u64, action as u64)
 }
 
 // `M`
@@ -44,5 +44,5 @@ pub fn print_miss(out: &mut [u8; 14343]) -> usize
 pub fn print_refusal(out: &mut [u8; 14343], number: u32, spot: u64) -> usize
     ensures { Shown out.old (refusal_bytes number spot) result out.new }
 {
-    line_of_two(out, 0, 82, number as u64, spot)
+    line_of_two(out, 0, b'R', number as u64, spot)
 }

@@ -15,8 +15,8 @@ fn put_dash(out: &mut [u8], at: usize) -> usize
     requires { at + length dash ≤ length out.old }
     ensures { Printed out.old at dash result out.new }
 {
-    let next = put_byte(out, at, 32);
-    put_byte(out, next, 45)
+    let next = put_byte(out, at, b' ');
+    put_byte(out, next, b'-')
 }
 
 // The dash, and the slot that the new rule goes to.
@@ -33,7 +33,7 @@ fn put_in_line(out: &mut [u8], at: usize, to: u64) -> usize
     requires { at + length (printed_write (put to)) ≤ length out.old }
     ensures { Printed out.old at (printed_write (put to)) result out.new }
 {
-    let next = put_byte(out, at, 87);
+    let next = put_byte(out, at, b'W');
     dash_to(out, next, to)
 }
 
@@ -42,8 +42,8 @@ pub fn miss_line(out: &mut [u8], at: usize) -> usize
     requires { at + length miss_bytes ≤ length out.old }
     ensures { Printed out.old at miss_bytes result out.new }
 {
-    let next = put_byte(out, at, 77);
-    put_byte(out, next, 10)
+    let next = put_byte(out, at, b'M');
+    put_byte(out, next, b'\n')
 }
 
 // The line of a plan word.
@@ -52,9 +52,9 @@ fn put_write(out: &mut [u8], at: usize, word: u32) -> usize
     ensures { Printed out.old at (printed_write (write_of word)) result out.new }
 {
     match write_of(word) {
-        PlanWrite::Copy(from, to) => line_of_two(out, at, 87, from as u64, to as u64),
+        PlanWrite::Copy(from, to) => line_of_two(out, at, b'W', from as u64, to as u64),
         PlanWrite::PutIn(to) => put_in_line(out, at, to as u64),
-        PlanWrite::Clear(slot) => line_of_one(out, at, 69, slot as u64),
+        PlanWrite::Clear(slot) => line_of_one(out, at, b'E', slot as u64),
     }
 }
 
@@ -64,10 +64,8 @@ fn put_writes(out: &mut [u8], at: usize, words: &[u32]) -> usize
     ensures { Printed out.old at (printed_writes words.now) result out.new }
 {
     let mut end = at;
-    let mut done = 0;
-    while done < words.len() {
-        end = put_write(out, end, words[done]);
-        done += 1;
+    for word in words {
+        end = put_write(out, end, *word);
     }
     end
 }
@@ -77,6 +75,6 @@ pub fn put_plan(out: &mut [u8], words: &[u32]) -> usize
     requires { (length words.now ≤ 1024) × (14343 ≤ length out.old) }
     ensures { Printed out.old 0 (plan_bytes words.now) result out.new }
 {
-    let next = line_of_one(out, 0, 80, words.len() as u64);
+    let next = line_of_one(out, 0, b'P', words.len() as u64);
     put_writes(out, next, words)
 }

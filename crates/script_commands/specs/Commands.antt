@@ -1,6 +1,6 @@
 -- Script lines: `T slots`, `I id priority pattern action`, `D id`, `L key`, of at most 256 bytes, fields parted by one space.
 -- Every other line is malformed.
-use Rattle.std.specs.Prelude.{cond, ◌&&◌, List, [], ◌∷◌, ℕ, eqb, leb, length, get_or}
+use Rattle.std.specs.Prelude.{cond, ◌&&◌, List, [], ◌∷◌, ℕ, eqb, leb, length, get_or, Option, None, Some}
 use Rattle.records.specs.declared.Rule.{Rule}
 use Rattle.script_text.specs.Parts.{parts}
 use Rattle.script_text.specs.Decimal.{decimal}
@@ -27,6 +27,10 @@ key_of q = q.key.high ∷ q.key.low ∷ []
 -- the letter of a field of one byte; 0, which is none, for any other field
 unfoldable pub letter_of : List ℕ → ℕ
 letter_of field = cond (eqb (length field) 1) (get_or field 0 0) 0
+
+-- that letter as code tells it: of a field of one byte, else none
+abbrev pub letter_option : List ℕ → Option ℕ
+letter_option field = cond (eqb (length field) 1) (Some (get_or field 0 0)) None
 
 -- `T slots`
 unfoldable pub table_command : List ℕ → Command

@@ -4,7 +4,7 @@
 
 ghost use Rattle.std.specs.Prelude.{◌≡◌, ◌∷◌};
 ghost use Rattle.script_text.specs.Parts.{parts};
-ghost use Rattle.script_commands.specs.Commands.{inserted_rule, key_of, letter_of, table_command, insert_command, delete_command, lookup_command};
+ghost use Rattle.script_commands.specs.Commands.{inserted_rule, key_of, letter_option, table_command, insert_command, delete_command, lookup_command};
 ghost use Rattle.script_commands.specs.Commands.{short_command, after_letter, command_of};
 
 use records::Rule;
@@ -39,7 +39,7 @@ pub struct Query {
     pub key: TwoWords,
 }
 
-// What a line says.
+// What a line says. A malformed line is a variant and no `None`, since it is run and answered like the others.
 #[derive(Clone, Copy)]
 pub enum Command {
     Table(NewTable),
@@ -72,36 +72,32 @@ pub fn key_of(query: Query) -> [u64; 2]
     [key.high, key.low]
 }
 
-// A field of one letter; 0, which is none, for any other field.
-fn letter_of(field: &[u8]) -> u8
-    ensures { result ≡ letter_of field.now }
+// The letter of a field of one byte.
+fn letter_of(field: &[u8]) -> Option<u8>
+    ensures { result ≡ letter_option field.now }
 {
-    if field.len() == 1 {
-        return field[0];
+    match field {
+        [letter] => Some(*letter),
+        _ => None,
     }
-    0
 }
 
 fn table_command(slots: &[u8]) -> Command
     ensures { result ≡ table_command slots.now }
 {
-    let number = number_in(slots);
-    if number < 4294967296 {
-        return Command::Table(NewTable {
-            slots: number as u32,
-        });
+    match number_in(slots) {
+        Some(slots) => Command::Table(NewTable { slots }),
+        None => Command::Malformed,
     }
-    Command::Malformed
 }
 
 fn delete_command(id: &[u8]) -> Command
     ensures { result ≡ delete_command id.now }
 {
-    let number = number_in(id);
-    if number < 4294967296 {
-        return Command::Delete(Deletion { id: number as u32 });
+    match number_in(id) {
+        Some(id) => Command::Delete(Deletion { id }),
+        None => Command::Malformed,
     }
-    Command::Malformed
 }
 
 fn lookup_command(key: &[u8]) -> Command
@@ -118,56 +114,52 @@ fn lookup_command(key: &[u8]) -> Command
 fn insert_command(id: &[u8], priority: &[u8], pattern: &[u8], action: &[u8]) -> Command
     ensures { result ≡ insert_command id.now priority.now pattern.now action.now }
 {
-    let id_number = number_in(id);
-    let priority_number = number_in(priority);
-    let action_number = number_in(action);
-    let good = is_symbol_field(pattern, true);
-    let fits = (id_number < 4294967296)
-        & (priority_number < 4294967296)
-        & (action_number < 4294967296);
-    if good & fits {
-        let value = symbol_words(pattern, false);
-        let mask = symbol_words(pattern, true);
-        return Command::Insert(Insertion {
-            id: id_number as u32,
-            priority: priority_number as u32,
-            value,
-            mask,
-            action: action_number as u32,
-        });
+    let Some(id) = number_in(id) else {
+        return Command::Malformed;
+    };
+    let Some(priority) = number_in(priority) else {
+        return Command::Malformed;
+    };
+    let Some(action) = number_in(action) else {
+        return Command::Malformed;
+    };
+    if !is_symbol_field(pattern, true) {
+        return Command::Malformed;
     }
-    Command::Malformed
+    Command::Insert(Insertion {
+        id,
+        priority,
+        value: symbol_words(pattern, false),
+        mask: symbol_words(pattern, true),
+        action,
+    })
 }
 
 // A line of two fields, by its letter.
 fn short_command(letter: u8, field: &[u8]) -> Command
     ensures { result ≡ short_command letter field.now }
 {
-    if letter == 84 {
-        return table_command(field);
+    match letter {
+        b'T' => table_command(field),
+        b'D' => delete_command(field),
+        b'L' => lookup_command(field),
+        _ => Command::Malformed,
     }
-    if letter == 68 {
-        return delete_command(field);
-    }
-    if letter == 76 {
-        return lookup_command(field);
-    }
-    Command::Malformed
 }
 
 // A line of which two fields after the letter are known: it has two more, and no fifth.
 fn after_priority(letter: u8, id: &[u8], priority: &[u8], rest: &[u8]) -> Command
     ensures { result ≡ after_letter letter (id.now ∷ priority.now ∷ parts 32 rest.now) }
 {
-    let end = part_end(rest, 0, 32);
+    let end = part_end(rest, 0, b' ');
     if rest.len() <= end {
         return Command::Malformed;
     }
-    let last = part_end(rest, end + 1, 32);
+    let last = part_end(rest, end + 1, b' ');
     if last < rest.len() {
         return Command::Malformed;
     }
-    if letter == 73 {
+    if letter == b'I' {
         return insert_command(id, priority, &rest[..end], &rest[end + 1..]);
     }
     Command::Malformed
@@ -177,7 +169,7 @@ fn after_priority(letter: u8, id: &[u8], priority: &[u8], rest: &[u8]) -> Comman
 fn after_id(letter: u8, id: &[u8], rest: &[u8]) -> Command
     ensures { result ≡ after_letter letter (id.now ∷ parts 32 rest.now) }
 {
-    let end = part_end(rest, 0, 32);
+    let end = part_end(rest, 0, b' ');
     if rest.len() <= end {
         return Command::Malformed;
     }
@@ -188,7 +180,7 @@ fn after_id(letter: u8, id: &[u8], rest: &[u8]) -> Command
 fn after_letter(letter: u8, rest: &[u8]) -> Command
     ensures { result ≡ after_letter letter (parts 32 rest.now) }
 {
-    let end = part_end(rest, 0, 32);
+    let end = part_end(rest, 0, b' ');
     if rest.len() <= end {
         return short_command(letter, rest);
     }
@@ -202,9 +194,12 @@ pub fn parse(line: &[u8]) -> Command
     if 256 < line.len() {
         return Command::Malformed;
     }
-    let end = part_end(line, 0, 32);
+    let end = part_end(line, 0, b' ');
     if line.len() <= end {
         return Command::Malformed;
     }
-    after_letter(letter_of(&line[..end]), &line[end + 1..])
+    match letter_of(&line[..end]) {
+        Some(letter) => after_letter(letter, &line[end + 1..]),
+        None => Command::Malformed,
+    }
 }

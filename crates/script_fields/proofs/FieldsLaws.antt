@@ -1,14 +1,16 @@
 -- Laws on fields, one byte more, and how large the numbers read can get.
 -- For loops over a field, and for the tests of a number.
-use Rattle.std.specs.Prelude.{◌≡◌, Bool, true, false, List, [], ◌∷◌, ℕ, zero, suc, ◌+◌, ◌-◌, ◌*◌, ◌^◌, ◌≤◌, ◌<◌, ltb, length, get_or, drop}
-use Rattle.std.proofs.Common.{sym, ◌∙◌, ⊎_elim, arith, add-one, pow-suc, drop_of_length-le, pow_mono, drop-cons}
+use Rattle.std.specs.Prelude.{◌≡◌, Bool, true, false, List, [], ◌∷◌, ℕ, zero, suc, ◌+◌, ◌-◌, ◌*◌, ◌^◌, ◌≤◌, ◌<◌, ltb, length, get_or, drop, None, Some, Result, Ok, Err, OkIff}
+use Rattle.std.specs.Result.{result_ok}
+use Rattle.std.proofs.Common.{sym, ap, ◌∙◌, ⊎_elim, arith, add-one, pow-suc, drop_of_length-le, pow_mono, drop-cons}
+use Rattle.std.proofs.Math.Decide.{dec_lt}
 use Rattle.std.proofs.Math.Nat.{pow-le-pow_right}
 use Rattle.std.proofs.Math.ListN.{get_or-eq_default}
 use borrow.Author.Tests.{lt-ltb, le-ltb, le-leb, lt-leb, ltb-true}
 use Rattle.search.specs.SearchLaws.{decided, and_left, and_right}
 use Rattle.script_text.specs.Decimal.{every, digit, decimal_on, decimal}
 use Rattle.script_text.proofs.DecimalLaws.{decimal_below}
-use Rattle.script_fields.specs.Fields.{sized, is_number, number_in, one_if, bit_of, binary}
+use Rattle.script_fields.specs.Fields.{sized, is_number, number_in, number_option, one_if, bit_of, binary}
 
 module _ (p : ℕ → Bool) (x : List ℕ) where
   pub every_on : (at : ℕ) → at < length x → p (get_or x at 0) ≡ true → every p (drop at x) ≡ every p (drop (at + 1) x)
@@ -104,6 +106,40 @@ number_test field n e =
     (λ t. lt-ltb n 4294967296 (let g = number_is field t in omega (arith, g.1)) ∙ sym t)
     (λ f. le-ltb n 4294967296 (let g = number_not field f in omega arith) ∙ sym f)
     (decided (is_number field))
+
+-- The number as an `Option`: of up to ten digits, by whether a cast to 32 bits keeps it; and what it tells a caller.
+pub digits_option : (field : List ℕ) → 1 ≤ length field → length field ≤ 10 → every digit field ≡ true → {E : Type 0} (n : ℕ) → n ≡ decimal field
+    → (r : Result ℕ E) → OkIff r (n < 4294967296) n → result_ok r ≡ number_option field
+digits_option field some few digits n e (Ok x) fits =
+    let same = number_fits field some few digits (omega (arith, fits.0)) in
+    rw (← same, lt-ltb (decimal field) 4294967296 (omega (arith, fits.0))) (ap Some (fits.1 ∙ e))
+digits_option field some few digits n e (Err d) large =
+    by (dec_lt (decimal field) 4294967296)
+  where
+    by : Dec (decimal field < 4294967296) → None ≡ number_option field
+    by (yes h) = absurd (large (omega arith))
+    by (no h) = rw (← number_large field some few digits (omega arith))
+
+pub option_some : (field : List ℕ) (n : ℕ) → Some n ≡ number_option field → (n ≡ number_in field) × (n < 4294967296)
+option_some field n e = by (dec_lt (number_in field) 4294967296)
+  where
+    by : Dec (number_in field < 4294967296) → (n ≡ number_in field) × (n < 4294967296)
+    by (yes h) =
+        let told : Some n ≡ Some (number_in field) = rw (lt-ltb (number_in field) 4294967296 h) at e in
+        let same : n ≡ number_in field = cc in
+        (same, omega arith)
+    by (no h) =
+        let told : Some n ≡ None = rw (le-ltb (number_in field) 4294967296 (omega arith)) at e in
+        cc
+
+pub option_none : (field : List ℕ) → None ≡ number_option field → 4294967296 ≤ number_in field
+option_none field e = by (dec_lt (number_in field) 4294967296)
+  where
+    by : Dec (number_in field < 4294967296) → 4294967296 ≤ number_in field
+    by (yes h) =
+        let told : None ≡ Some (number_in field) = rw (lt-ltb (number_in field) 4294967296 h) at e in
+        cc
+    by (no h) = omega arith
 
 -- past the field's end there is no symbol, and no bit
 pub bit_past : (zeros : Bool) (field : List ℕ) (at : ℕ) → length field ≤ at → 0 ≡ one_if (bit_of zeros (get_or field at 0))

@@ -1,6 +1,6 @@
 -- The fields of a script line: numbers, patterns, keys.
 -- Symbols are bytes: the digits 0 to 9 are 48 to 57, the star is 42.
-use Rattle.std.specs.Prelude.{Bool, true, false, cond, ◌&&◌, ◌||◌, List, ℕ, zero, suc, ◌+◌, ◌*◌, ◌<◌, eqb, leb, ltb, length, get_or, ◌≡◌}
+use Rattle.std.specs.Prelude.{Bool, true, false, cond, ◌&&◌, ◌||◌, List, ℕ, zero, suc, ◌+◌, ◌*◌, ◌<◌, eqb, leb, ltb, length, get_or, ◌≡◌, Option, None, Some}
 use Rattle.script_text.specs.Decimal.{every, digit, decimal}
 use Rattle.script_fields.specs.declared.TwoWords.{TwoWords}
 
@@ -19,6 +19,10 @@ is_number field = sized 10 field && (every digit field && ltb (decimal field) 42
 -- the number in a field; 2^32, which does not fit, where there is none
 unfoldable pub number_in : List ℕ → ℕ
 number_in field = cond (is_number field) (decimal field) 4294967296
+
+-- the number in a field as code tells it: where it fits 32 bits, else none
+abbrev pub number_option : List ℕ → Option ℕ
+number_option field = cond (ltb (number_in field) 4294967296) (Some (number_in field)) None
 
 -- document 01: a pattern has 1 to 128 of 0 1 *, a key 1 to 128 of 0 1
 abbrev pub symbol_field : Bool → List ℕ → Bool

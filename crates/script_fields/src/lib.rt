@@ -4,7 +4,7 @@
 
 ghost use Rattle.std.specs.Prelude.{◌≡◌, true, ◌≤◌, length, get_or};
 ghost use Rattle.script_text.specs.Decimal.{every, digit, decimal};
-ghost use Rattle.script_fields.specs.Fields.{symbol, number_in, symbol_field, one_if, bit_of, symbol_word, symbol_words};
+ghost use Rattle.script_fields.specs.Fields.{symbol, number_option, symbol_field, one_if, bit_of, symbol_word, symbol_words};
 
 // 128 bits as two words.
 #[derive(Clone, Copy)]
@@ -17,30 +17,16 @@ pub struct TwoWords {
 fn is_symbol(byte: u8, last: u8, star: bool) -> bool
     ensures { result ≡ symbol last star byte }
 {
-    let low = 48 <= byte;
+    let low = b'0' <= byte;
     let high = byte <= last;
-    (star & (byte == 42)) | (low & high)
+    (star & (byte == b'*')) | (low & high)
 }
 
 // Whether each byte of a field is such a symbol.
 fn all_symbols(field: &[u8], last: u8, star: bool) -> bool
     ensures { result ≡ every (symbol last star) field.now }
 {
-    let mut at = 0;
-    while at < field.len() {
-        let good = is_symbol(field[at], last, star);
-        if !good {
-            return false;
-        }
-        at += 1;
-    }
-    true
-}
-
-fn wide(byte: u8) -> u64
-    ensures { result ≡ byte }
-{
-    byte as u64
+    field.iter().all(|byte| is_symbol(*byte, last, star))
 }
 
 // The number that up to ten digits mean.
@@ -50,33 +36,28 @@ fn decimal_of(field: &[u8]) -> u64
     ensures { result ≡ decimal field.now }
 {
     let mut value = 0;
-    let mut at = 0;
-    while at < field.len() {
-        value = value * 10 + (wide(field[at]) - 48);
-        at += 1;
+    for byte in field {
+        value = value * 10 + u64::from(*byte - b'0');
     }
     value
 }
 
-// The number in a field of 1 to 10 decimal digits, where it fits 32 bits; else 2^32, which does not.
-pub fn number_in(field: &[u8]) -> u64
-    ensures { result ≡ number_in field.now }
+// The number in a field of 1 to 10 decimal digits, where it fits 32 bits.
+pub fn number_in(field: &[u8]) -> Option<u32>
+    ensures { result ≡ number_option field.now }
 {
     if field.len() < 1 {
-        return 4294967296;
+        return None;
     }
     if 10 < field.len() {
-        return 4294967296;
+        return None;
     }
-    let digits = all_symbols(field, 57, false);
+    let digits = all_symbols(field, b'9', false);
     if !digits {
-        return 4294967296;
+        return None;
     }
     let value = decimal_of(field);
-    if value < 4294967296 {
-        return value;
-    }
-    4294967296
+    u32::try_from(value).ok()
 }
 
 // Whether a field has 1 to 128 symbols, stars among them where they are allowed.
@@ -89,7 +70,7 @@ pub fn is_symbol_field(field: &[u8], star: bool) -> bool
     if 128 < field.len() {
         return false;
     }
-    all_symbols(field, 49, star)
+    all_symbols(field, b'1', star)
 }
 
 // The bit of the symbol at a place: 1 at 1, and at 0 where zeros count; 0 past the field's end.
@@ -100,7 +81,7 @@ fn bit_at(field: &[u8], at: usize, zeros: bool) -> u64
         return 0;
     }
     let byte = field[at];
-    if (zeros & (byte == 48)) | (byte == 49) {
+    if (zeros & (byte == b'0')) | (byte == b'1') {
         return 1;
     }
     0
@@ -112,10 +93,8 @@ fn symbol_word(field: &[u8], from: usize, zeros: bool) -> u64
     ensures { result ≡ symbol_word (bit_of zeros) field.now from }
 {
     let mut word = 0;
-    let mut at = 0;
-    while at < 64 {
+    for at in 0..64 {
         word = word * 2 + bit_at(field, from + at, zeros);
-        at += 1;
     }
     word
 }

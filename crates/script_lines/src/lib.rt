@@ -10,6 +10,7 @@ ghost use Rattle.script_lines.specs.Held.{room, taken_of, held_line, standing};
 use script_text::part_end;
 
 // What taking bytes out of a block came to: the bytes of the line that are held, the place after those taken, and whether the line is complete.
+// The place is one whether or not the line is complete, so that the flag is no `Option` of it.
 #[derive(Clone, Copy)]
 pub struct Taken {
     pub held: usize,
@@ -21,14 +22,7 @@ pub struct Taken {
 fn room_for(size: usize, held: usize, count: usize) -> usize
     ensures { result ≡ room size held count }
 {
-    if size <= held {
-        return 0;
-    }
-    if count < size - held {
-        count
-    } else {
-        size - held
-    }
+    count.min(size.saturating_sub(held))
 }
 
 // Puts a piece behind the bytes held, as far as there is room.
@@ -37,10 +31,8 @@ fn hold(line: &mut [u8], held: usize, piece: &[u8]) -> usize
     ensures line_after { line.new ≡ held_line line.old held piece.now }
 {
     let count = room_for(line.len(), held, piece.len());
-    let mut at = 0;
-    while at < count {
+    for at in 0..count {
         line[held + at] = piece[at];
-        at += 1;
     }
     held + count
 }
@@ -57,7 +49,7 @@ pub fn take_bytes(line: &mut [u8], held: usize, block: &[u8], from: usize) -> Ta
             complete: false,
         };
     }
-    let end = part_end(block, from, 10);
+    let end = part_end(block, from, b'\n');
     let count = hold(line, held, &block[from..end]);
     if end < block.len() {
         return Taken {
@@ -84,8 +76,5 @@ pub fn line_stands(held: usize) -> bool
 pub fn next_number(number: u64) -> u64
     ensures { result ≡ next_number number }
 {
-    if number < 18446744073709551615 {
-        return number + 1;
-    }
-    number
+    number.saturating_add(1)
 }

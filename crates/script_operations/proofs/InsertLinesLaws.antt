@@ -5,7 +5,7 @@ use Rattle.records.specs.Checks.{Told}
 use Rattle.records.specs.Writes.{apply_words}
 use Rattle.records.specs.Editions.{under13, rank_of, ranked}
 use Rattle.records.specs.declared.Rule.{Rule}
-use Rattle.records.specs.declared.Check.TheVariants.{Pass}
+use Rattle.records.specs.Verdict.{Pass}
 use Rattle.buffers.proofs.BuffersLaws.{buffer_written}
 use Rattle.neighbours.specs.Neighbours.{insert_checks}
 use Rattle.insert_plans.specs.Inserts.{planned_words, insert_answer, insert_plan}

@@ -8,8 +8,8 @@ use Rattle.records.specs.Checks.{Told, cause_number, success, refusal, table_che
 use Rattle.records.specs.Writes.{apply_words}
 use Rattle.records.specs.Editions.{under13, rank_of, ranked}
 use Rattle.records.specs.declared.Rule.{Rule}
-use Rattle.records.specs.declared.Check.{Check}
-use Rattle.records.specs.declared.Check.TheVariants.{Pass, Fail}
+use Rattle.records.specs.Verdict.{Check}
+use Rattle.records.specs.Verdict.{Pass, Fail}
 use Rattle.records.proofs.Laws.{cause_not_zero, or_else_pass, slot_checks_law, table_checks_law}
 use Rattle.records.specs.declared.Cause.{Cause}
 use Rattle.records.proofs.EntriesLaws.{shaped_slots}

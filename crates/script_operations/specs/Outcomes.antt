@@ -5,8 +5,8 @@ use Rattle.records.specs.Checks.{Told, cause_number}
 use Rattle.records.specs.Writes.{apply_words}
 use Rattle.records.specs.Editions.{under13}
 use Rattle.records.specs.declared.Rule.{Rule}
-use Rattle.records.specs.declared.Check.{Check}
-use Rattle.records.specs.declared.Check.TheVariants.{Pass, Fail}
+use Rattle.records.specs.Verdict.{Check}
+use Rattle.records.specs.Verdict.{Pass, Fail}
 use Rattle.neighbours.specs.Neighbours.{insert_checks}
 use Rattle.delete_plans.specs.Deletes.{delete_checks, delete_words}
 use Rattle.insert_plans.specs.Inserts.{planned_words}

@@ -4,8 +4,8 @@ use Rattle.std.specs.Prelude.{cond, false, List, [], ◌∷◌, ℕ, eqb, length
 use Rattle.records.specs.Checks.{Told, success, refusal}
 use Rattle.records.specs.Editions.{under13}
 use Rattle.records.specs.declared.Rule.{Rule}
-use Rattle.records.specs.declared.Check.{Check}
-use Rattle.records.specs.declared.Check.TheVariants.{Pass, Fail}
+use Rattle.records.specs.Verdict.{Check}
+use Rattle.records.specs.Verdict.{Pass, Fail}
 use Rattle.neighbours.specs.Neighbours.{insert_checks}
 use Rattle.delete_plans.specs.Deletes.{delete_checks, delete_words}
 use Rattle.insert_plans.specs.Inserts.{planned_words}

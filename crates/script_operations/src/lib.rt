@@ -12,12 +12,12 @@ ghost use Rattle.script_answers.specs.Answers.{refusal_bytes};
 ghost use Rattle.script_operations.specs.Told.{line_told, insert_told, delete_told, planned_told, looked_told};
 ghost use Rattle.script_operations.specs.Outcomes.{lookup_bytes, insert_outcome, delete_outcome, Changed, plan_outcome, WithinRoom};
 
-use buffers::{PlanAnswer, PlanInfo, without_cover};
+use buffers::{PlanInfo, without_cover};
 use delete_plans::plan_delete;
 use insert_plans::plan_rule;
+use lookups::Hit;
 use lookups::lookup::lookup;
-use lookups::{Hit, LookupAnswer};
-use records::{Cause, MOST_SLOTS, Mode, NARROW, Rule, cause_number};
+use records::{Cause, MOST_SLOTS, NARROW, NARROW_COUNTED, Refusal, Rule, cause_number};
 use script_answers::{print_hit, print_miss, print_plan, print_refusal};
 use script_commands::NewTable;
 use steps::whole::carry_whole;
@@ -40,23 +40,23 @@ pub struct Said {
 }
 
 // A planning call's answer as a line's.
-fn of_plan(answer: PlanAnswer) -> LineAnswer
+fn of_plan(answer: Result<PlanInfo, Refusal>) -> LineAnswer
     ensures { line_told result ≡ planned_told (plan_told answer) }
 {
     match answer {
-        PlanAnswer::Planned(info) => LineAnswer::Planned(info),
-        PlanAnswer::Refused(cause, spot) => LineAnswer::Refused(cause, spot as u64),
+        Ok(info) => LineAnswer::Planned(info),
+        Err(Refusal { cause, spot }) => LineAnswer::Refused(cause, spot as u64),
     }
 }
 
 // A lookup's answer as a line's.
-fn of_lookup(answer: LookupAnswer) -> LineAnswer
+fn of_lookup(answer: Result<Option<Hit>, Refusal>) -> LineAnswer
     ensures { line_told result ≡ looked_told (lookup_told answer) }
 {
     match answer {
-        LookupAnswer::Found(hit) => LineAnswer::Found(hit),
-        LookupAnswer::Miss => LineAnswer::Miss,
-        LookupAnswer::Refused(cause, spot) => LineAnswer::Refused(cause, spot as u64),
+        Ok(Some(hit)) => LineAnswer::Found(hit),
+        Ok(None) => LineAnswer::Miss,
+        Err(Refusal { cause, spot }) => LineAnswer::Refused(cause, spot as u64),
     }
 }
 
@@ -69,13 +69,13 @@ pub fn refuse(out: &mut [u8; 14343], cause: Cause, spot: u32) -> usize
 }
 
 // A lookup's answer, printed.
-fn print_lookup(answer: LookupAnswer, out: &mut [u8; 14343]) -> usize
+fn print_lookup(answer: Result<Option<Hit>, Refusal>, out: &mut [u8; 14343]) -> usize
     ensures { Shown out.old (lookup_bytes (lookup_told answer)) result out.new }
 {
     match answer {
-        LookupAnswer::Found(hit) => print_hit(out, hit.slot, hit.id, hit.action),
-        LookupAnswer::Miss => print_miss(out),
-        LookupAnswer::Refused(cause, spot) => refuse(out, cause, spot),
+        Ok(Some(hit)) => print_hit(out, hit.slot, hit.id, hit.action),
+        Ok(None) => print_miss(out),
+        Err(Refusal { cause, spot }) => refuse(out, cause, spot),
     }
 }
 
@@ -94,7 +94,7 @@ pub fn look_up(table: &[u64], key: [u64; 2], out: &mut [u8; 14343]) -> Said
 
 // A plan carried out in full and printed, or the refusal of the planning call.
 fn carry_and_print(
-    answer: PlanAnswer,
+    answer: Result<PlanInfo, Refusal>,
     table: &mut [u64],
     plan: &[u32],
     rule: Rule,
@@ -104,11 +104,11 @@ fn carry_and_print(
     ensures { Changed (plan_outcome (plan_told answer) table.old plan.now rule) result table.new out.old out.new }
 {
     match answer {
-        PlanAnswer::Planned(info) => {
-            carry_whole(table, plan, rule, info.count);
+        Ok(info) => {
+            let _ = carry_whole(table, plan, rule, info.count);
             print_plan(out, &plan[..info.count as usize])
         }
-        PlanAnswer::Refused(cause, spot) => refuse(out, cause, spot),
+        Err(Refusal { cause, spot }) => refuse(out, cause, spot),
     }
 }
 
@@ -132,15 +132,7 @@ fn delete(table: &mut [u64], id: u32, plan: &mut [u32], out: &mut [u8; 14343]) -
     ensures changed { Changed (delete_outcome table.old id) result.length table.new out.old out.new }
     ensures answer_value { line_told result.answer ≡ delete_told table.old id }
 {
-    let answer = plan_delete(
-        table,
-        id,
-        plan,
-        Mode {
-            width: NARROW,
-            uncounted: false,
-        },
-    );
+    let answer = plan_delete(table, id, plan, NARROW_COUNTED);
     let rule = Rule {
         id: 0,
         priority: 0,

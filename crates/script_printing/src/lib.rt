@@ -22,10 +22,10 @@ fn put_decimal(out: &mut [u8], at: usize, number: u64) -> usize
     ensures { Printed out.old at (digits_of number) result out.new }
 {
     if number < 10 {
-        return put_byte(out, at, (48 + number) as u8);
+        return put_byte(out, at, b'0' + number as u8);
     }
     let end = put_decimal(out, at, number / 10);
-    put_byte(out, end, (48 + number % 10) as u8)
+    put_byte(out, end, b'0' + (number % 10) as u8)
 }
 
 // A space and a number.
@@ -33,7 +33,7 @@ fn put_field(out: &mut [u8], at: usize, number: u64) -> usize
     requires { at + length (printed_field number) ≤ length out.old }
     ensures { Printed out.old at (printed_field number) result out.new }
 {
-    let next = put_byte(out, at, 32);
+    let next = put_byte(out, at, b' ');
     put_decimal(out, next, number)
 }
 
@@ -43,7 +43,7 @@ pub fn last_field(out: &mut [u8], at: usize, number: u64) -> usize
     ensures { Printed out.old at (printed_fields (number ∷ [])) result out.new }
 {
     let next = put_field(out, at, number);
-    put_byte(out, next, 10)
+    put_byte(out, next, b'\n')
 }
 
 // The last two fields.

@@ -9,12 +9,10 @@ ghost use Rattle.script_text.specs.Parts.{first_part};
 pub fn part_end(text: &[u8], from: usize, separator: u8) -> usize
     ensures { result ≡ from + length (first_part separator (drop from text.now)) }
 {
-    let mut at = from;
-    while at < text.len() {
+    for at in from..text.len() {
         if text[at] == separator {
             return at;
         }
-        at += 1;
     }
-    at
+    from.max(text.len())
 }

@@ -15,8 +15,8 @@ use Rattle.records.specs.Writes.{apply_words}
 use Rattle.records.specs.Editions.{under13, rank_of, ranked}
 use Rattle.records.specs.declared.Rule.{Rule}
 use Rattle.records.specs.declared.Cause.TheVariants.{Shape}
-use Rattle.records.specs.declared.Check.{Check}
-use Rattle.records.specs.declared.Check.TheVariants.{Pass, Fail}
+use Rattle.records.specs.Verdict.{Check}
+use Rattle.records.specs.Verdict.{Pass, Fail}
 use Rattle.buffers.proofs.BuffersLaws.{buffer_written}
 use Rattle.lookups.specs.Lookup.{lookup_answer, hit_at, Case, refused_by, hit, miss}
 use Rattle.lookups.proofs.LookupLaws.{lookup_cases, lookup_hit, lookup_miss, lookup_refused}

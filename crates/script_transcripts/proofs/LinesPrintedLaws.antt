@@ -16,7 +16,7 @@ use Rattle.records.proofs.Laws.{slot_checks_law, table_checks_law}
 use Rattle.records.proofs.EntriesLaws.{shaped_slots}
 use Rattle.records.specs.declared.Rule.{Rule}
 use Rattle.records.specs.declared.Cause.TheVariants.{Shape}
-use Rattle.records.specs.declared.Check.TheVariants.{Pass, Fail}
+use Rattle.records.specs.Verdict.{Pass, Fail}
 use Rattle.lookups.specs.Lookup.{lookup_answer, hit_at, Case, refused_by, hit, miss}
 use Rattle.lookups.proofs.LookupLaws.{lookup_cases, lookup_hit, lookup_miss, lookup_refused}
 use Rattle.neighbours.specs.Neighbours.{insert_checks}

@@ -7,8 +7,8 @@ use Rattle.plan_words.specs.PlanWords.{write_of}
 use Rattle.records.specs.Record.{slot_words, ident, action}
 use Rattle.records.specs.Checks.{cause_number, slot_checks}
 use Rattle.records.specs.declared.Cause.{Cause}
-use Rattle.records.specs.declared.Check.{Check}
-use Rattle.records.specs.declared.Check.TheVariants.{Pass, Fail}
+use Rattle.records.specs.Verdict.{Check}
+use Rattle.records.specs.Verdict.{Pass, Fail}
 use Rattle.lookups.specs.Lookup.{FirstAt, NoMatch}
 use Rattle.script_text.specs.Decimal.{digits_of}
 use Rattle.script_lines.specs.Blocks.{Outcome}

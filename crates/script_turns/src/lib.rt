@@ -22,6 +22,7 @@ pub struct Place {
 }
 
 // What a turn came to: the place after it, where to go on in the block, and how many bytes its answer has.
+// A turn that completes no line has an answer of no bytes, which is a length like any other and no `None`.
 #[derive(Clone, Copy)]
 pub struct Turn {
     pub place: Place,
@@ -33,10 +34,7 @@ pub struct Turn {
 fn bytes_held(held: usize, size: usize) -> usize
     ensures { result ≡ min held size }
 {
-    if held < size {
-        return held;
-    }
-    size
+    held.min(size)
 }
 
 // The slots of the table in the memory, which has room for 1,024.

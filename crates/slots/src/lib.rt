@@ -14,9 +14,9 @@ ghost use Rattle.records.specs.Order.{slots};
 ghost use Rattle.records.specs.Entries.{entry_at};
 ghost use Rattle.records.specs.Checks.{unsound_at, check_records, compared_at};
 ghost use Rattle.records.specs.Widths.{Width};
-ghost use Rattle.records.specs.declared.Check.TheVariants.{Pass};
+ghost use Rattle.records.specs.Verdict.{Pass};
 
-use records::{EXACT_RANK, MOST_PRIORITY, NARROW, WIDE, record_words};
+use records::{EXACT_RANK, MOST_PRIORITY, at_width, record_words};
 
 // How many slots a table has.
 pub fn slot_count(table: &[u64], width: usize) -> usize
@@ -85,10 +85,8 @@ fn slot_zero_by(table: &[u64], slot: usize, width: usize) -> bool
     ensures { result ≡ empty width (slot_words width table.now slot) }
 {
     let mut zero = true;
-    let mut index = 0;
-    while index < record_words(width) {
+    for index in 0..record_words(width) {
         zero = zero & (slot_word(table, slot, index, width) == 0);
-        index += 1;
     }
     zero
 }
@@ -98,10 +96,7 @@ fn slot_zero(table: &[u64], slot: usize, width: usize) -> bool
     requires { (Width width) × (slot < slots width table.now) }
     ensures { result ≡ empty width (slot_words width table.now slot) }
 {
-    if width == NARROW {
-        return slot_zero_by(table, slot, NARROW);
-    }
-    slot_zero_by(table, slot, WIDE)
+    at_width(width, |width| slot_zero_by(table, slot, width))
 }
 
 // Whether a slot's words are all zero, asked first of the word of id and action.
@@ -150,12 +145,10 @@ pub fn slot_within(table: &[u64], slot: usize, width: usize) -> bool
     requires { (Width width) × (slot < slots width table.now) }
     ensures { result ≡ within width (value (slot_words width table.now slot)) (mask width (slot_words width table.now slot)) }
 {
-    let mut index = 0;
-    while index < width {
+    for index in 0..width {
         if !word_inside(table, slot, index, width) {
             return false;
         }
-        index += 1;
     }
     true
 }
@@ -165,12 +158,10 @@ pub fn mask_full(table: &[u64], slot: usize, width: usize) -> bool
     requires { (Width width) × (slot < slots width table.now) }
     ensures { result ≡ full_mask width (mask width (slot_words width table.now slot)) }
 {
-    let mut index = 0;
-    while index < width {
+    for index in 0..width {
         if !ternary::word_full(mask_word(table, slot, index, width)) {
             return false;
         }
-        index += 1;
     }
     true
 }
@@ -259,12 +250,10 @@ fn pattern_matches(table: &[u64], slot: usize, key: &[u64], width: usize) -> boo
     requires { (Width width) × (slot < slots width table.now) × (length key.now ≡ width) }
     ensures { result ≡ pattern_matches width (word key.now) (slot_words width table.now slot) }
 {
-    let mut index = 0;
-    while index < width {
+    for index in 0..width {
         if !word_agrees(table, slot, key[index], index, width) {
             return false;
         }
-        index += 1;
     }
     true
 }
@@ -286,10 +275,8 @@ pub fn read_record(table: &[u64], slot: usize, words: &mut [u64], width: usize)
     requires { (Width width) × (slot < slots width table.now) × (length words.old ≡ record_words width) }
     ensures { words.new ≡ entry_at width table.now slot }
 {
-    let mut index = 0;
-    while index < words.len() {
+    for index in 0..words.len() {
         words[index] = slot_word(table, slot, index, width);
-        index += 1;
     }
 }
 
@@ -299,9 +286,7 @@ pub fn put_record(table: &mut [u64], slot: usize, words: &[u64], width: usize)
     ensures { table.new ≡ put_slot width table.old slot words.now }
 {
     let first = slot * record_words(width);
-    let mut index = 0;
-    while index < words.len() {
+    for index in 0..words.len() {
         table[first + index] = words[index];
-        index += 1;
     }
 }

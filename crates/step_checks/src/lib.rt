@@ -4,42 +4,49 @@
 
 ghost use Rattle.std.specs.Prelude.{◌≡◌, length};
 ghost use Rattle.plan_words.specs.PlanWords.{write_of};
+ghost use Rattle.records.specs.Verdict.{checked};
 ghost use Rattle.records.specs.Record.{record_words};
 ghost use Rattle.records.specs.Widths.{Width};
 ghost use Rattle.records.specs.Editions.{lent_rule};
 ghost use Rattle.carrying.specs.Carrying.{step_told, progress_checks, put_checks, write_checks, step_answer};
 
-use carrying::{StepAnswer, StepInfo};
+use carrying::StepInfo;
 use plan_words::{PlanWrite, write_of};
-use records::{Cause, Check};
+use records::{Cause, Refusal};
 use slots::given::check_given;
 use table_checks::check_slots;
 use writes::word_fits;
 
 // Checks 1 and 2, and 12 for more writes done than in all or more in all than the plan has words.
-fn check_progress(table: &[u64], plan: &[u32], done: u32, total: u32, width: usize) -> Check
+fn check_progress(
+    table: &[u64],
+    plan: &[u32],
+    done: u32,
+    total: u32,
+    width: usize,
+) -> Result<(), Refusal>
     requires { Width width }
-    ensures { result ≡ progress_checks width table.now (length plan.now) done total }
+    ensures { checked result ≡ progress_checks width table.now (length plan.now) done total }
 {
-    let slots = check_slots(table, width);
-    if let Check::Fail(cause, spot) = slots {
-        return Check::Fail(cause, spot);
-    }
+    check_slots(table, width)?;
     if (done <= total) & (total as usize <= plan.len()) {
-        return Check::Pass;
+        return Ok(());
     }
-    Check::Fail(Cause::Write, done)
+    Err(Refusal {
+        cause: Cause::Write,
+        spot: done,
+    })
 }
 
 // 5 and 18 of the rule that a plan word puts in; other words put none in.
-fn check_put(rule: &[u64], edition: u32, word: u32, width: usize) -> Check
+fn check_put(rule: &[u64], edition: u32, word: u32, width: usize) -> Result<(), Refusal>
     requires { (Width width) × (length rule.now ≡ record_words width) }
-    ensures { result ≡ put_checks width (lent_rule width edition rule.now) (write_of word) }
+    ensures { checked result ≡ put_checks width (lent_rule width edition rule.now) (write_of word) }
 {
     match write_of(word) {
-        PlanWrite::Copy(_, _) => Check::Pass,
+        PlanWrite::Copy(_, _) => Ok(()),
         PlanWrite::PutIn(_) => check_given(rule, edition, width),
-        PlanWrite::Clear(_) => Check::Pass,
+        PlanWrite::Clear(_) => Ok(()),
     }
 }
 
@@ -51,18 +58,18 @@ fn check_write(
     word: u32,
     done: u32,
     width: usize,
-) -> Check
+) -> Result<(), Refusal>
     requires { (Width width) × (length rule.now ≡ record_words width) }
-    ensures { result ≡ write_checks width table.now (lent_rule width edition rule.now) word done }
+    ensures { checked result ≡ write_checks width table.now (lent_rule width edition rule.now) word done }
 {
-    let put = check_put(rule, edition, word, width);
-    if let Check::Fail(cause, spot) = put {
-        return Check::Fail(cause, spot);
-    }
+    check_put(rule, edition, word, width)?;
     if word_fits(table, rule, edition, word, width) {
-        return Check::Pass;
+        return Ok(());
     }
-    Check::Fail(Cause::Write, done)
+    Err(Refusal {
+        cause: Cause::Write,
+        spot: done,
+    })
 }
 
 // What a step answers, of a width that there is and a rule lent as a record: its checks, before the write is made.
@@ -74,21 +81,15 @@ pub fn next_step(
     done: u32,
     total: u32,
     width: usize,
-) -> StepAnswer
+) -> Result<Option<StepInfo>, Refusal>
     requires { (Width width) × (length rule.now ≡ record_words width) }
     ensures { step_told result ≡ step_answer width table.now plan.now (lent_rule width edition rule.now) done total }
 {
-    let progress = check_progress(table, plan, done, total, width);
-    if let Check::Fail(cause, spot) = progress {
-        return StepAnswer::Refused(cause, spot);
-    }
+    check_progress(table, plan, done, total, width)?;
     if done == total {
-        return StepAnswer::Finished;
+        return Ok(None);
     }
     let word = plan[done as usize];
-    let fitting = check_write(table, rule, edition, word, done, width);
-    if let Check::Fail(cause, spot) = fitting {
-        return StepAnswer::Refused(cause, spot);
-    }
-    StepAnswer::Wrote(StepInfo { done: done + 1 })
+    check_write(table, rule, edition, word, done, width)?;
+    Ok(Some(StepInfo { done: done + 1 }))
 }

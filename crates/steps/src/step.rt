@@ -6,8 +6,8 @@ ghost use Rattle.records.specs.Widths.{Width};
 ghost use Rattle.records.specs.Editions.{lent_rule, under13};
 ghost use Rattle.carrying.specs.Carrying.{step_told, step_answer, step_table, step_call, step_call_table};
 
-use carrying::StepAnswer;
-use records::{Check, EDITION_13, NARROW, Rule, check_rule};
+use carrying::StepInfo;
+use records::{EDITION_13, NARROW, Refusal, Rule, check_rule};
 use slots::rules::record_of;
 use step_checks::next_step;
 use writes::make_write;
@@ -21,17 +21,16 @@ fn step_at(
     done: u32,
     total: u32,
     width: usize,
-) -> StepAnswer
+) -> Result<Option<StepInfo>, Refusal>
     requires { (Width width) × (length rule.now ≡ record_words width) }
     ensures result_value { step_told result ≡ step_answer width table.old plan.now (lent_rule width edition rule.now) done total }
     ensures table_after { table.new ≡ step_table width table.old plan.now (lent_rule width edition rule.now) done total }
 {
-    match next_step(table, plan, rule, edition, done, total, width) {
-        StepAnswer::Refused(cause, spot) => StepAnswer::Refused(cause, spot),
-        StepAnswer::Finished => StepAnswer::Finished,
-        StepAnswer::Wrote(info) => {
+    match next_step(table, plan, rule, edition, done, total, width)? {
+        None => Ok(None),
+        Some(info) => {
             make_write(table, rule, edition, plan[done as usize], width);
-            StepAnswer::Wrote(info)
+            Ok(Some(info))
         }
     }
 }
@@ -45,19 +44,22 @@ pub fn step(
     done: u32,
     total: u32,
     width: usize,
-) -> StepAnswer
+) -> Result<Option<StepInfo>, Refusal>
     ensures result_value { step_told result ≡ step_call width edition table.old plan.now rule.now done total }
     ensures table_after { table.new ≡ step_call_table width edition table.old plan.now rule.now done total }
 {
-    let lent = check_rule(width, rule.len());
-    if let Check::Fail(cause, spot) = lent {
-        return StepAnswer::Refused(cause, spot);
-    }
+    check_rule(width, rule.len())?;
     step_at(table, plan, rule, edition, done, total, width)
 }
 
 // The same of document 01's rule struct, at two words, under 1.3.
-pub fn step_rule(table: &mut [u64], plan: &[u32], rule: Rule, done: u32, total: u32) -> StepAnswer
+pub fn step_rule(
+    table: &mut [u64],
+    plan: &[u32],
+    rule: Rule,
+    done: u32,
+    total: u32,
+) -> Result<Option<StepInfo>, Refusal>
     ensures result_value { step_told result ≡ step_answer 2 table.old plan.now (under13 rule) done total }
     ensures table_after { table.new ≡ step_table 2 table.old plan.now (under13 rule) done total }
 {

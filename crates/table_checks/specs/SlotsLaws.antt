@@ -4,7 +4,7 @@ use Rattle.records.specs.Order.{slots}
 use Rattle.records.specs.Checks.{slot_checks, check_records, table_checks}
 use Rattle.records.proofs.Laws.{slot_checks_law, table_checks_law}
 use Rattle.records.proofs.EntriesLaws.{shaped_slots}
-use Rattle.records.specs.declared.Check.TheVariants.{Pass}
+use Rattle.records.specs.Verdict.{Pass}
 
 -- after checks 1 and 2, and after 1 to 4
 pub few_slots : (w : ℕ) (t : List ℕ) → slot_checks w t ≡ Pass → slots w t ≤ 1024

@@ -2,6 +2,7 @@
 // A column of 32-bit words is compared several slots at a time; the records, a record's words apart, are not.
 // The column is read only where a map of the ids seen has the bit of this one: most ids stand once, and have a bit of their own.
 ghost use Rattle.std.specs.Prelude.{◌≡◌, ◌≤◌, ◌<◌, ◌%◌, length};
+ghost use Rattle.records.specs.Verdict.{checked};
 ghost use Rattle.records.specs.Record.{most_slots, slot_words, ident};
 ghost use Rattle.records.specs.Order.{slots};
 ghost use Rattle.records.specs.Checks.{check_twice, twice_at};
@@ -10,7 +11,7 @@ ghost use Rattle.table_checks.specs.Ids.{IdColumn, listed_twice, with_seen, Seen
 
 use bitmaps::bits::{has_bit, mark};
 use pairs::same_id;
-use records::{Cause, Check, NARROW, WIDE};
+use records::{Cause, NARROW, Refusal, WIDE};
 use slots::rules::upper_half;
 use slots::{named_word, slot_count, slot_empty};
 
@@ -28,10 +29,8 @@ fn fill_ids_by(table: &[u64], ids: &mut [u32], width: usize)
     ensures { IdColumn width table.now ids.new (slots width table.now) }
 {
     let slots = slot_count(table, width);
-    let mut slot = 0;
-    while slot < slots {
+    for slot in 0..slots {
         ids[slot] = short_id(table, slot, width);
-        slot += 1;
     }
 }
 
@@ -55,10 +54,8 @@ fn listed_before(ids: &[u32], slot: usize) -> bool
 {
     let id = ids[slot];
     let mut found = false;
-    let mut earlier = 0;
-    while earlier < slot {
+    for earlier in 0..slot {
         found = found | (ids[earlier] == id);
-        earlier += 1;
     }
     found
 }
@@ -68,12 +65,10 @@ fn id_before(table: &[u64], slot: usize, width: usize) -> bool
     requires { (Width width) × (slot < slots width table.now) }
     ensures { result ≡ twice_at width table.now slot }
 {
-    let mut earlier = 0;
-    while earlier < slot {
+    for earlier in 0..slot {
         if same_id(table, earlier, table, slot, width) {
             return true;
         }
-        earlier += 1;
     }
     false
 }
@@ -123,28 +118,39 @@ fn note_seen(seen: &mut [u64], id: u32)
 }
 
 // The lowest slot whose id stands in an earlier one too. What the map has at first does not count: a set bit costs a look, no more.
-fn lowest_twice_by(table: &[u64], ids: &[u32], seen: &mut [u64], width: usize) -> Check
+fn lowest_twice_by(
+    table: &[u64],
+    ids: &[u32],
+    seen: &mut [u64],
+    width: usize,
+) -> Result<(), Refusal>
     requires width { (Width width) × (slots width table.now ≤ most_slots) × (slots width table.now ≤ length ids.now) × (128 ≤ length seen.old) }
     requires id_column { IdColumn width table.now ids.now (slots width table.now) }
-    ensures { result ≡ check_twice width table.now }
+    ensures { checked result ≡ check_twice width table.now }
 {
     let slots = slot_count(table, width);
-    let mut slot = 0;
-    while slot < slots {
+    for slot in 0..slots {
         if seen_twice(table, ids, seen, slot, width) {
-            return Check::Fail(Cause::Twice, slot as u32);
+            return Err(Refusal {
+                cause: Cause::Twice,
+                spot: slot as u32,
+            });
         }
         note_seen(seen, ids[slot]);
-        slot += 1;
     }
-    Check::Pass
+    Ok(())
 }
 
 // The same, with the width a constant for the compiler: it makes a copy for each.
-pub fn lowest_twice(table: &[u64], ids: &[u32], seen: &mut [u64], width: usize) -> Check
+pub fn lowest_twice(
+    table: &[u64],
+    ids: &[u32],
+    seen: &mut [u64],
+    width: usize,
+) -> Result<(), Refusal>
     requires width { (Width width) × (slots width table.now ≤ most_slots) × (slots width table.now ≤ length ids.now) × (128 ≤ length seen.old) }
     requires id_column { IdColumn width table.now ids.now (slots width table.now) }
-    ensures { result ≡ check_twice width table.now }
+    ensures { checked result ≡ check_twice width table.now }
 {
     if width == NARROW {
         return lowest_twice_by(table, ids, seen, NARROW);

@@ -4,33 +4,38 @@
 
 pub mod ids;
 
-ghost use Rattle.std.specs.Prelude.{◌≡◌, ◌||◌, ◌+◌, ◌-◌, ◌*◌, ◌≤◌, ◌<◌, min, length};
+ghost use Rattle.std.specs.Prelude.{◌≡◌, ◌||◌, ◌+◌, ◌-◌, ◌*◌, ◌≤◌, ◌<◌, length};
 ghost use Rattle.search.specs.Search.{least, NoneFrom};
 ghost use Rattle.records.specs.Record.{most_slots, word};
 ghost use Rattle.records.specs.Order.{slots};
 ghost use Rattle.records.specs.Widths.{Width};
-ghost use Rattle.records.specs.declared.Check.TheVariants.{Pass};
+ghost use Rattle.records.specs.Verdict.{checked, Pass};
 ghost use Rattle.neighbour_lists.specs.Lists.{Listed};
 ghost use Rattle.records.specs.Checks.{or_else, check_shape, check_records, check_twice, check_order, slot_checks, table_checks, unsound_at, compared_at};
 ghost use Rattle.table_checks.specs.Screen.{may_match};
 
 use crate::ids::{fill_ids, lowest_twice};
 use neighbour_lists::passing::fill_near;
-use records::{Cause, Check, LIST_NUMBERS, MOST_SLOTS, Mode, NARROW, WIDE, record_words};
+use records::{
+    Cause, LIST_NUMBERS, MOST_SLOTS, Mode, NARROW, Refusal, WIDE, at_width, record_words,
+};
 use slots::{
     mask_word, named_word, slot_count, slot_matches, slot_plain, slot_unsound, value_word,
 };
 
 // Check 1: the table's words are a record's for each of 1 to 1,024 slots.
-pub fn check_shape(table: &[u64], width: usize) -> Check
+pub fn check_shape(table: &[u64], width: usize) -> Result<(), Refusal>
     requires { Width width }
-    ensures { result ≡ check_shape width table.now }
+    ensures { checked result ≡ check_shape width table.now }
 {
     let slots = slot_count(table, width);
     if (table.len() % record_words(width) == 0) & (1 <= slots) & (slots <= MOST_SLOTS) {
-        return Check::Pass;
+        return Ok(());
     }
-    Check::Fail(Cause::Shape, 0)
+    Err(Refusal {
+        cause: Cause::Shape,
+        spot: 0,
+    })
 }
 
 // Skips slots that are empty or hold sound rules whose ranks are priorities: the first of another kind, or the number of slots. A loop without the test for
@@ -40,12 +45,10 @@ fn skip_plain(table: &[u64], width: usize) -> usize
     ensures { NoneFrom (unsound_at width table.now) 0 (slots width table.now) result }
 {
     let slots = slot_count(table, width);
-    let mut slot = 0;
-    while slot < slots {
+    for slot in 0..slots {
         if !slot_plain(table, slot, width) {
             return slot;
         }
-        slot += 1;
     }
     slots
 }
@@ -56,12 +59,10 @@ fn first_unsound_by(table: &[u64], from: usize, width: usize) -> usize
     ensures { result ≡ least (unsound_at width table.now) (slots width table.now) 0 }
 {
     let slots = slot_count(table, width);
-    let mut slot = from;
-    while slot < slots {
+    for slot in from..slots {
         if slot_unsound(table, slot, width) {
             return slot;
         }
-        slot += 1;
     }
     slots
 }
@@ -71,6 +72,7 @@ fn first_unsound(table: &[u64], width: usize) -> usize
     requires { Width width }
     ensures { result ≡ least (unsound_at width table.now) (slots width table.now) 0 }
 {
+    // Not by `at_width`, which would keep one copy of this search and of the next: a third more instructions in this one at five words.
     if width == NARROW {
         return first_unsound_by(table, skip_plain(table, NARROW), NARROW);
     }
@@ -78,21 +80,24 @@ fn first_unsound(table: &[u64], width: usize) -> usize
 }
 
 // Check 2: each slot is empty or a sound rule.
-fn check_records(table: &[u64], width: usize) -> Check
+fn check_records(table: &[u64], width: usize) -> Result<(), Refusal>
     requires { (Width width) × (slots width table.now ≤ most_slots) }
-    ensures { result ≡ check_records width table.now }
+    ensures { checked result ≡ check_records width table.now }
 {
     let slot = first_unsound(table, width);
     if slot < slot_count(table, width) {
-        return Check::Fail(Cause::Record, slot as u32);
+        return Err(Refusal {
+            cause: Cause::Record,
+            spot: slot as u32,
+        });
     }
-    Check::Pass
+    Ok(())
 }
 
 // Check 3: no id stands in an earlier slot too.
-fn check_twice(table: &[u64], width: usize) -> Check
+fn check_twice(table: &[u64], width: usize) -> Result<(), Refusal>
     requires { (Width width) × (slots width table.now ≤ most_slots) }
-    ensures { result ≡ check_twice width table.now }
+    ensures { checked result ≡ check_twice width table.now }
 {
     let mut ids = [0u32; MOST_SLOTS];
     let mut seen = [0u64; 128];
@@ -102,17 +107,20 @@ fn check_twice(table: &[u64], width: usize) -> Check
 
 // Check 4: of two overlapping rules the earlier one has the strictly higher rank. Made where check 2 passes. The neighbour list
 // comes with it.
-fn check_order(table: &[u64], near: &mut [u16], mode: Mode) -> Check
+fn check_order(table: &[u64], near: &mut [u16], mode: Mode) -> Result<(), Refusal>
     requires width { (Width mode.width) × (slots mode.width table.now ≤ most_slots) × (2 * (slots mode.width table.now) ≤ length near.old) }
     requires table_value { check_records mode.width table.now ≡ Pass }
-    ensures value { result ≡ check_order mode.width mode.uncounted table.now }
+    ensures value { checked result ≡ check_order mode.width mode.uncounted table.now }
     ensures listed { Listed mode.width mode.uncounted table.now near.new }
 {
     let first = fill_near(table, near, mode);
     if first < slot_count(table, mode.width) {
-        return Check::Fail(Cause::Order, first as u32);
+        return Err(Refusal {
+            cause: Cause::Order,
+            spot: first as u32,
+        });
     }
-    Check::Pass
+    Ok(())
 }
 
 // Whether a slot has an id or an action, and the first two words of a key agree with its pattern: every width has these.
@@ -190,12 +198,10 @@ fn match_among_by(table: &[u64], from: usize, to: usize, key: &[u64], width: usi
     requires { (Width width) × (from ≤ to) × (to ≤ slots width table.now) × (length key.now ≡ width) }
     ensures { result ≡ least (compared_at width table.now (word key.now)) (to - from) from }
 {
-    let mut slot = from;
-    while slot < to {
+    for slot in from..to {
         if slot_matches(table, slot, key, width) {
             return slot;
         }
-        slot += 1;
     }
     to
 }
@@ -205,17 +211,7 @@ fn match_among(table: &[u64], from: usize, to: usize, key: &[u64], width: usize)
     requires { (Width width) × (from ≤ to) × (to ≤ slots width table.now) × (length key.now ≡ width) }
     ensures { result ≡ least (compared_at width table.now (word key.now)) (to - from) from }
 {
-    if width == NARROW {
-        return match_among_by(table, from, to, key, NARROW);
-    }
-    match_among_by(table, from, to, key, WIDE)
-}
-
-// The lesser of two numbers.
-fn least_of(one: usize, other: usize) -> usize
-    ensures { result ≡ min one other }
-{
-    if one < other { one } else { other }
+    at_width(width, |width| match_among_by(table, from, to, key, width))
 }
 
 // The lowest-numbered slot of which the comparison is true, or the number of slots where there is none: after check 2 that is `first_match`.
@@ -230,7 +226,7 @@ pub fn first_match(table: &[u64], key: &[u64], width: usize) -> usize
     let mut slot = 0;
     while slot < slots {
         let from = skip_unmatched(table, slot, first, second, width);
-        let to = least_of(from + 4, slots);
+        let to = slots.min(from + 4);
         slot = match_among(table, from, to, key, width);
         if slot < to {
             return slot;
@@ -240,53 +236,41 @@ pub fn first_match(table: &[u64], key: &[u64], width: usize) -> usize
 }
 
 // Checks 1 and 2.
-pub fn check_slots(table: &[u64], width: usize) -> Check
+pub fn check_slots(table: &[u64], width: usize) -> Result<(), Refusal>
     requires { Width width }
-    ensures { result ≡ slot_checks width table.now }
+    ensures { checked result ≡ slot_checks width table.now }
 {
-    let shape = check_shape(table, width);
-    if let Check::Fail(cause, spot) = shape {
-        return Check::Fail(cause, spot);
-    }
+    check_shape(table, width)?;
     check_records(table, width)
 }
 
 // Checks 3 and 4, which compare slots in pairs; where they pass, the table's neighbour list is in the front of the lent one.
-pub fn check_pairs(table: &[u64], near: &mut [u16], mode: Mode) -> Check
+pub fn check_pairs(table: &[u64], near: &mut [u16], mode: Mode) -> Result<(), Refusal>
     requires width { (Width mode.width) × (slots mode.width table.now ≤ most_slots) × (2 * (slots mode.width table.now) ≤ length near.old) }
     requires table_value { check_records mode.width table.now ≡ Pass }
-    ensures value { result ≡ or_else (check_twice mode.width table.now) (check_order mode.width mode.uncounted table.now) }
-    ensures listed { result ≡ Pass → Listed mode.width mode.uncounted table.now near.new }
+    ensures value { checked result ≡ or_else (check_twice mode.width table.now) (check_order mode.width mode.uncounted table.now) }
+    ensures listed { checked result ≡ Pass → Listed mode.width mode.uncounted table.now near.new }
 {
-    let twice = check_twice(table, mode.width);
-    if let Check::Fail(cause, spot) = twice {
-        return Check::Fail(cause, spot);
-    }
+    check_twice(table, mode.width)?;
     check_order(table, near, mode)
 }
 
 // Checks 1 to 4, with the list.
-pub fn check_listed(table: &[u64], near: &mut [u16], mode: Mode) -> Check
+pub fn check_listed(table: &[u64], near: &mut [u16], mode: Mode) -> Result<(), Refusal>
     requires { (Width mode.width) × (2 * most_slots ≤ length near.old) }
-    ensures value { result ≡ table_checks mode.width mode.uncounted table.now }
-    ensures listed { result ≡ Pass → Listed mode.width mode.uncounted table.now near.new }
+    ensures value { checked result ≡ table_checks mode.width mode.uncounted table.now }
+    ensures listed { checked result ≡ Pass → Listed mode.width mode.uncounted table.now near.new }
 {
-    let slots = check_slots(table, mode.width);
-    if let Check::Fail(cause, spot) = slots {
-        return Check::Fail(cause, spot);
-    }
+    check_slots(table, mode.width)?;
     // Not by `check_pairs`: so the ids of check 3 are off the stack when check 4 begins.
-    let twice = check_twice(table, mode.width);
-    if let Check::Fail(cause, spot) = twice {
-        return Check::Fail(cause, spot);
-    }
+    check_twice(table, mode.width)?;
     check_order(table, near, mode)
 }
 
 // Checks 1 to 4.
-pub fn check_table(table: &[u64], mode: Mode) -> Check
+pub fn check_table(table: &[u64], mode: Mode) -> Result<(), Refusal>
     requires { Width mode.width }
-    ensures { result ≡ table_checks mode.width mode.uncounted table.now }
+    ensures { checked result ≡ table_checks mode.width mode.uncounted table.now }
 {
     let mut near = [0u16; LIST_NUMBERS];
     check_listed(table, &mut near, mode)

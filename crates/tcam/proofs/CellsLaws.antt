@@ -12,8 +12,8 @@ use Rattle.records.specs.Editions.{lent_rule}
 use Rattle.records.proofs.Laws.{cause_not_zero}
 use Rattle.records.specs.declared.Cause.{Cause}
 use Rattle.records.specs.declared.Cause.TheVariants.{Shape}
-use Rattle.records.specs.declared.Check.{Check}
-use Rattle.records.specs.declared.Check.TheVariants.{Pass, Fail}
+use Rattle.records.specs.Verdict.{Check}
+use Rattle.records.specs.Verdict.{Pass, Fail}
 use Rattle.buffers.specs.Buffers.{flag_number}
 use Rattle.neighbour_lists.specs.Lists.{list_numbers, list_of, stale_list}
 use Rattle.lookups.specs.Lookup.{lookup_answer, lookup_call, hit_at, Case, refused_by, hit, miss}

@@ -3,7 +3,6 @@
 ghost use Rattle.marshalling.specs.Cells.{flag_of};
 ghost use Rattle.tcam.specs.Images.{SaveLeft, LoadLeft};
 
-use image::{LoadAnswer, SaveAnswer};
 use loads::load;
 use records::{Mode, cause_number};
 use saves::save;
@@ -27,13 +26,13 @@ pub fn tcam_save(
             uncounted: uncounted != 0,
         },
     ) {
-        SaveAnswer::Saved(info) => {
+        Ok(info) => {
             *bytes = info.bytes;
             0
         }
-        SaveAnswer::Refused(cause, at) => {
-            *spot = at;
-            cause_number(cause)
+        Err(refusal) => {
+            *spot = refusal.spot;
+            cause_number(refusal.cause)
         }
     }
 }
@@ -50,10 +49,10 @@ pub fn tcam_load(image: &[u8], table: &mut [u64], width: u32, uncounted: u32, sp
             uncounted: uncounted != 0,
         },
     ) {
-        LoadAnswer::Loaded => 0,
-        LoadAnswer::Refused(cause, place) => {
-            *spot = place;
-            cause_number(cause)
+        Ok(()) => 0,
+        Err(refused) => {
+            *spot = refused.spot;
+            cause_number(refused.cause)
         }
     }
 }

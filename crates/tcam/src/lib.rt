@@ -12,7 +12,6 @@ ghost use Rattle.tcam.specs.Cells.{LookupLeft, InsertLeft, CoverLeft, ListedInse
 
 use delete_plans::plan_delete;
 use insert_plans::{plan_insert, plan_insert_listed};
-use lookups::LookupAnswer;
 use lookups::lookup::{lookup, slot_record};
 use marshalling::{spread, spread_insert, spread_listed};
 use records::{Mode, cause_number};
@@ -30,21 +29,21 @@ pub fn tcam_lookup(
     ensures { LookupLeft width table.now key.now result slot.old slot.new id.old id.new action.old action.new spot.old spot.new }
 {
     match lookup(table, key, width as usize) {
-        LookupAnswer::Found(hit) => {
+        Ok(Some(hit)) => {
             *slot = hit.slot;
             *id = hit.id;
             *action = hit.action;
             0
         }
-        LookupAnswer::Miss => {
+        Ok(None) => {
             *slot = 0;
             *id = 0;
             *action = 0;
             0
         }
-        LookupAnswer::Refused(cause, place) => {
-            *spot = place;
-            cause_number(cause)
+        Err(refusal) => {
+            *spot = refusal.spot;
+            cause_number(refusal.cause)
         }
     }
 }

@@ -8,7 +8,7 @@ ghost use Rattle.tcam_script.specs.Streams.{ReadGave, Wrote};
 use std::io::{Read, Write};
 
 // What reading came to: how many bytes the last read gave (`None` before any, and where it failed), how many reads were made, and the checksum of all
-// their bytes.
+// their bytes. A count stays at its top.
 #[derive(Clone, Copy)]
 pub struct Got {
     number: Option<usize>,
@@ -24,27 +24,14 @@ pub struct Sent {
     well: bool,
 }
 
-// A count stays at its top.
-fn counted(count: u64, more: usize) -> u64
-    ensures { result ≡ min (count + more) 18446744073709551615 }
-{
-    let wide = more as u64;
-    if wide < u64::MAX - count {
-        return count + wide;
-    }
-    u64::MAX
-}
-
 // The checksum after more bytes, so many at the buffer's start.
 fn checksum_on(before: u64, bytes: &[u8], count: usize) -> u64
     requires { count ≤ length bytes.now }
     ensures { result ≡ checksum_on before (take count bytes.now) }
 {
     let mut sum = before;
-    let mut at = 0;
-    while at < count {
-        sum = sum % 72057594037927931 * 256 + bytes[at] as u64;
-        at += 1;
+    for at in 0..count {
+        sum = sum % 72057594037927931 * 256 + u64::from(bytes[at]);
     }
     sum
 }
@@ -66,7 +53,7 @@ pub fn receive<R: Read>(reader: &mut R, buffer: &mut [u8; 4096], before: Got) ->
     ensures checksum_value { result.checksum ≡ checksum_on before.checksum (block_of result.number buffer.new) }
     ensures gave { ReadGave result.number buffer.new (R.remaining reader.old) (R.remaining reader.new) }
 {
-    let reads = counted(before.reads, 1);
+    let reads = before.reads.saturating_add(1);
     match reader.read(buffer) {
         Ok(count) => Got {
             number: Some(count),
@@ -128,7 +115,7 @@ pub fn send<W: Write>(writer: &mut W, out: &[u8], count: usize, before: Sent) ->
 {
     let wrote = write_bytes(writer, &out[..count]);
     Sent {
-        bytes: counted(before.bytes, count),
+        bytes: before.bytes.saturating_add(count as u64),
         checksum: checksum_on(before.checksum, out, count),
         well: before.well && wrote,
     }

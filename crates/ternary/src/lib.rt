@@ -33,24 +33,14 @@ pub fn compare_masks(first: bool, second: bool) -> Comparison
 pub fn not_apart(comparison: Comparison) -> bool
     ensures { result ≡ not_apart comparison }
 {
-    match comparison {
-        Comparison::Apart => false,
-        Comparison::Overlapping => true,
-        Comparison::FirstCovers => true,
-        Comparison::SecondCovers => true,
-    }
+    !matches!(comparison, Comparison::Apart)
 }
 
 // Whether the first covers the second.
 pub fn first_covers(comparison: Comparison) -> bool
     ensures { result ≡ first_covers comparison }
 {
-    match comparison {
-        Comparison::Apart => false,
-        Comparison::Overlapping => false,
-        Comparison::FirstCovers => true,
-        Comparison::SecondCovers => false,
-    }
+    matches!(comparison, Comparison::FirstCovers)
 }
 
 // Whether a word of a key equals a word of a value at all bits cared for.

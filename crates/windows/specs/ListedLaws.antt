@@ -11,7 +11,7 @@ use Rattle.records.specs.Record.{slot_words}
 use Rattle.records.specs.Order.{slots, precedes, misordered}
 use Rattle.records.specs.Checks.{check_order, table_checks}
 use Rattle.records.proofs.Laws.{tied_law, order_law, slot_checks_law, table_checks_law}
-use Rattle.records.specs.declared.Check.TheVariants.{Pass}
+use Rattle.records.specs.Verdict.{Pass}
 use Rattle.records.proofs.EntriesLaws.{refuted, shaped_slots}
 use Rattle.records.proofs.InsertsLaws.{precedes_untied}
 use Rattle.neighbour_lists.specs.Lists.{Listed, precedes_slot, next_dependant, last_preceding, last_below}

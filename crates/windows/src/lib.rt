@@ -7,7 +7,7 @@ ghost use Rattle.records.specs.Record.{most_slots, listed};
 ghost use Rattle.records.specs.Order.{slots as slots_of};
 ghost use Rattle.records.specs.Checks.{table_checks};
 ghost use Rattle.records.specs.Widths.{Width};
-ghost use Rattle.records.specs.declared.Check.TheVariants.{Pass};
+ghost use Rattle.records.specs.Verdict.{Pass};
 ghost use Rattle.neighbour_lists.specs.Lists.{Listed};
 ghost use Rattle.windows.specs.Windows.{end_after, end_before, listed_end, end_at};
 
@@ -69,10 +69,8 @@ fn fill_ends_by(table: &[u64], near: &[u16], up: bool, ends: &mut [u16], mode: M
     ensures { ends.new ≡ listed (slots_of mode.width table.now) (end_at mode.width mode.uncounted table.now up) ++ drop (slots_of mode.width table.now) ends.old }
 {
     let slots = slot_count(table, mode.width);
-    let mut position = 0;
-    while position < slots {
+    for position in 0..slots {
         ends[position] = end_at(table, near, up, position, mode);
-        position += 1;
     }
 }
 

@@ -10,7 +10,7 @@ ghost use Rattle.records.specs.Order.{slots, equal_rule};
 ghost use Rattle.records.specs.Entries.{entry_at, vacant};
 ghost use Rattle.records.specs.Widths.{Width};
 ghost use Rattle.records.specs.Editions.{lent_rule, ranked, check_given};
-ghost use Rattle.records.specs.declared.Check.TheVariants.{Pass};
+ghost use Rattle.records.specs.Verdict.{Pass};
 ghost use Rattle.carrying.specs.Carrying.{put_checks, over_equal, fits_carried, written_slot, takes_rule, needs_no_room};
 ghost use Rattle.records.specs.Writes.{held_at, stands_elsewhere, free_at, fits_write, apply_word};
 
@@ -35,12 +35,10 @@ fn stands_elsewhere(table: &[u64], slot: usize, width: usize) -> bool
     ensures { result ≡ stands_elsewhere width table.now slot }
 {
     let slots = slot_count(table, width);
-    let mut other = 0;
-    while other < slots {
+    for other in 0..slots {
         if held_at(table, slot, other, width) {
             return true;
         }
-        other += 1;
     }
     false
 }

@@ -13,6 +13,3 @@ invariant-loop-position l = (l.position ≤ l.slots)
     × SolvedFrom l.ends l.slots l.position (cost_of l.costs)
     × (drop l.slots l.costs ≡ drop l.slots l.initial.costs)
     × (l.least ≡ minimum (cost_of l.costs) l.slots (l.slots - l.position) l.position)
-
-abbrev pub decreases-loop-position : goal.decreases-loop-position
-decreases-loop-position l = l.position

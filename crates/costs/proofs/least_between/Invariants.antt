@@ -8,6 +8,3 @@ use Rattle.costs.proofs.least_between.Given as goal
 
 abbrev pub invariant-loop-at : goal.invariant-loop-at
 invariant-loop-at l = (l.least ≤ l.top) × (min l.least (minimum (cost_of l.costs) l.top (l.to - l.at) l.at) ≡ minimum (cost_of l.costs) l.top (l.to - l.from) l.from)
-
-abbrev pub decreases-loop-at : goal.decreases-loop-at
-decreases-loop-at l = l.to - l.at

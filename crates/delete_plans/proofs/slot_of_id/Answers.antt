@@ -1,10 +1,9 @@
 -- `delete_plans::slot_of_id` meets its contract.
 -- No slot below the loop's has the id.
-use Prim.Native.Nat.{◌-◌}
 use mathlib.Core.Path.{sym, ◌∙◌}
 use native.Mathlib.Omega.{arith}
 use Rattle.search.specs.SearchLaws.{none_start, none_more, least_at, least_none}
-use Rattle.delete_plans.specs.Deletes.{has_id, slot_of_id}
+use Rattle.delete_plans.specs.Deletes.{slot_of_id}
 use Rattle.delete_plans.proofs.slot_of_id.Goals as goal
 
 pub loop-slot-init : goal.loop-slot-init

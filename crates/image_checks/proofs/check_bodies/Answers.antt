@@ -1,6 +1,9 @@
 -- `image_checks::check_bodies` meets its contract.
 -- Those below the loop's pass, in turn.
+use mathlib.Core.Path.{refl, ap, ◌∙◌}
 use native.Mathlib.Omega.{arith}
+use Rattle.records.specs.Verdict.{checked, Pass, Fail}
+use Rattle.records.proofs.Laws.{is_refusal}
 use Rattle.image.specs.Checks.{check_bodies}
 use Rattle.image.proofs.ChecksLaws.{pass_start, pass_more, turn_fails, turn_passes}
 use Rattle.image_checks.proofs.check_bodies.Goals as goal
@@ -8,17 +11,18 @@ use Rattle.image_checks.proofs.check_bodies.Goals as goal
 pub loop-entry-init : goal.loop-entry-init
 loop-entry-init c = pass_start _ _
 
-pub check_body-check-requires : goal.check_body-check-requires
-check_body-check-requires c =
+pub check_body-requires : goal.check_body-requires
+check_body-requires c =
     let pre = c.requires in
     (pre.0, pre.1, omega arith, pre.2, pre.3 _ (omega arith))
 
-pub returns-in-Fail : goal.returns-in-Fail
+pub returns-in_err-check_body : goal.returns-in_err-check_body
 unfolding check_bodies
-returns-in-Fail c = turn_fails _ _ _ c.loop-entry.invariant (omega arith) c.check_body-check.ensures c.in-Fail.is
+returns-in_err-check_body c =
+    ap checked (is_refusal _ c.from_residual.ensures.1) ∙ turn_fails _ {x = Fail _ _} _ _ c.loop-entry.invariant (omega arith) c.in_err-check_body.ensures refl
 
 pub loop-entry-preserved : goal.loop-entry-preserved
-loop-entry-preserved c = pass_more _ _ _ c.loop-entry.invariant (omega arith) c.check_body-check.ensures c.in_default.is
+loop-entry-preserved c = pass_more _ {x = Pass} _ _ c.loop-entry.invariant (omega arith) c.in_ok-check_body.ensures refl
 
 pub returns : goal.returns
 unfolding check_bodies

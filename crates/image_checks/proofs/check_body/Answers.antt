@@ -11,7 +11,7 @@ use borrow.Author.Rules.{rules}
 use Rattle.ternary.specs.Pattern.{within}
 use Rattle.records.specs.Record.{word, mask, rank_fits, sound, sound_parts}
 use Rattle.records.specs.declared.Cause.TheVariants.{Image}
-use Rattle.records.specs.declared.Check.TheVariants.{Fail}
+use Rattle.records.specs.Verdict.{Fail}
 use Rattle.image.specs.Bytes.{Bytes, number_at}
 use Rattle.image.specs.Format.{body_place, id_at, body_word, record_at}
 use Rattle.image.proofs.SaveLaws.{body_within, image_small}

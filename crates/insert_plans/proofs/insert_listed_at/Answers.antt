@@ -7,9 +7,12 @@ use native.Mathlib.Omega.{arith}
 use lib.Dec.{eqb}
 use lib.ListN.{take}
 use Rattle.records.specs.Checks.{Told}
-use Rattle.buffers.specs.Buffers.{insert_answer_told}
+use Rattle.buffers.specs.Buffers.{insert_answer_told, listed_answer_told}
 use Rattle.buffers.proofs.BuffersLaws.{refreshed_refused, refreshed_planned}
-use Rattle.buffers.specs.declared.InsertAnswer.{InsertAnswer}
+use Rattle.std.specs.Prelude.{Result}
+use Rattle.records.specs.declared.Refusal.{Refusal}
+use Rattle.records.proofs.Laws.{is_refusal}
+use Rattle.buffers.specs.declared.InsertInfo.{InsertInfo}
 use Rattle.neighbour_lists.specs.Lists.{list_of, stale_list, differing}
 use Rattle.neighbour_lists.proofs.LentLaws.{listed_front, differing_stale}
 use Rattle.table_checks.specs.SlotsLaws.{table_few}
@@ -19,11 +22,11 @@ use Rattle.insert_plans.proofs.insert_listed_at.Goals as goal
 pub store_list-requires : goal.store_list-requires
 store_list-requires c =
     let a = c.args in
-    let found = c.insert_near.ensures.table_value (ap (λ (x : InsertAnswer). (insert_answer_told x).number) c.in-Planned.is) in
+    let found = c.insert_near.ensures.table_value (ap (λ (x : Result InsertInfo Refusal). (insert_answer_told x).number) c.in_ok-info.was) in
     omega (arith, c.requires.2, table_few a.mode.width a.mode.uncounted a.table.now found.0, c.insert_near.auto.near)
 
-pub returns-in-Planned : goal.returns-in-Planned
-returns-in-Planned c =
+pub returns : goal.returns
+returns c =
     let a = c.args in
     let w = a.mode.width in
     let u = a.mode.uncounted in
@@ -31,8 +34,8 @@ returns-in-Planned c =
     let list = a.list.now in
     let size = c.requires.2 in
     let told = c.insert_near.ensures.result_value in
-    let planned = c.in-Planned.is in
-    let zero = ap (λ (x : InsertAnswer). (insert_answer_told x).number) planned in
+    let planned = c.in_ok-info.was in
+    let zero = ap (λ (x : Result InsertInfo Refusal). (insert_answer_told x).number) planned in
     let found = c.insert_near.ensures.table_value zero in
     let near = c.insert_near.new.near in
     let few = table_few w u t found.0 in
@@ -40,12 +43,15 @@ returns-in-Planned c =
     let stale = c.store_list.ensures.value ∙ (ap (differing near list) size ∙ differing_stale w u t near list found.1) in
     record { result_value = refreshed_planned planned told stale; plan_after = c.insert_near.ensures.plan_after; list_after = front ∙ ap (λ (n : ℕ). cond (eqb n 0) (list_of w u t) list) (sym zero ∙ ap (λ (x : Told). x.number) told) }
 
-pub returns-in-Refused : goal.returns-in-Refused
-returns-in-Refused c =
+pub returns-in_err-info : goal.returns-in_err-info
+returns-in_err-info c =
     let a = c.args in
     let w = a.mode.width in
     let u = a.mode.uncounted in
     let t = a.table.now in
     let list = a.list.now in
-    let refused = sym (ap insert_answer_told c.in-Refused.is) ∙ c.insert_near.ensures.result_value in
-    record { result_value = refreshed_refused c.in-Refused.cause c.in-Refused.spot (stale_list w u t list) refused; plan_after = c.insert_near.ensures.plan_after; list_after = refusal_keeps c.in-Refused.cause c.in-Refused.spot (list_of w u t) list refused }
+    let refused = c.in_err-info.ensures.result_value in record {
+      result_value = ap listed_answer_told (is_refusal _ c.from_residual.ensures.1) ∙ refreshed_refused _ _ (stale_list w u t list) refused;
+      plan_after = c.insert_near.ensures.plan_after;
+      list_after = refusal_keeps _ _ (list_of w u t) list refused;
+    }

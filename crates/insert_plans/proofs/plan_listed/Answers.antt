@@ -10,7 +10,7 @@ use lib.Seq.{take_at}
 use borrow.Author.Rules.{rules}
 use Rattle.records.specs.Record.{record_words, slot_words}
 use Rattle.records.specs.Checks.{check_records}
-use Rattle.records.specs.declared.Check.TheVariants.{Pass}
+use Rattle.records.specs.Verdict.{Pass}
 use Rattle.table_checks.specs.SlotsLaws.{table_few, table_records}
 use Rattle.neighbours.specs.Neighbours.{FoundIn}
 use Rattle.insert_plans.proofs.InsertsLaws.{lent_passes, lent_finite, lent_ranked, lent_found, lent_covered}

@@ -6,7 +6,7 @@ use mathlib.Core.List.{List}
 use Prim.Native.Nat.{ℕ}
 use native.Mathlib.Omega.{arith}
 use lib.ListN.{length}
-use Rattle.records.specs.declared.Check.TheVariants.{Pass}
+use Rattle.records.specs.Verdict.{Pass}
 use Rattle.buffers.specs.Buffers.{buffer_answer, buffer_after}
 use Rattle.table_checks.specs.SlotsLaws.{table_few}
 use Rattle.insert_plans.specs.Inserts.{choice_between, Joined}

@@ -1,6 +1,5 @@
 -- `list_updates::skip_unasked` meets its contract.
 use mathlib.Core.Path.{◌≡◌}
-use Prim.Native.Nat.{◌-◌}
 use Rattle.search.specs.Search.{NoneFrom}
 use Rattle.positions.specs.Positions.{slot_at}
 use Rattle.records.specs.Order.{slots as slots_of}
@@ -10,6 +9,3 @@ use Rattle.list_updates.proofs.skip_unasked.Given as goal
 abbrev pub invariant-loop-position : goal.invariant-loop-position
 invariant-loop-position l = (l.slots ≡ slots_of l.width l.table) × (l.end ≡ slot_at (slots_of l.width l.table) l.up l.written)
     × NoneFrom (asks_at l.width l.table l.list l.written l.vacant l.up) l.from (slot_at (slots_of l.width l.table) l.up l.written) l.position
-
-abbrev pub decreases-loop-position : goal.decreases-loop-position
-decreases-loop-position l = l.end - l.position

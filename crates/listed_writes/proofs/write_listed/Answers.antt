@@ -13,7 +13,7 @@ use Rattle.records.specs.Editions.{lent_rule, ranked}
 use Rattle.records.specs.Checks.{check_records}
 use Rattle.records.proofs.RulesLaws.{rule_action}
 use Rattle.records.proofs.WritesLaws.{apply_slots}
-use Rattle.records.specs.declared.Check.TheVariants.{Pass}
+use Rattle.records.specs.Verdict.{Pass}
 use Rattle.carrying.proofs.StepsLaws.{carried_below}
 use Rattle.list_updates.specs.Updates.{ListedBefore}
 use Rattle.listed_writes.specs.ListedWritesLaws.{written_below, write_before, write_records}

@@ -9,7 +9,7 @@ use Rattle.records.specs.Order.{slots}
 use Rattle.records.specs.Checks.{or_else, check_shape}
 use Rattle.records.proofs.Laws.{shape_length}
 use Rattle.records.specs.Widths.{Width}
-use Rattle.records.specs.declared.Check.TheVariants.{Pass}
+use Rattle.records.specs.Verdict.{Pass}
 use Rattle.image.specs.Checks.{image_checks}
 use Rattle.image.proofs.LoadLaws.{fields_shape}
 use Rattle.loads.proofs.+load_sized.Goals as goal
@@ -24,13 +24,13 @@ never w b t known pass more = omega (arith, long w b t pass)
 pub load_sized-requires : goal.load_sized-requires
 load_sized-requires t c = absurd (never _ _ _ c.requires.width c.requires.table_value c.if-table-gt-WIDE_TABLE.true)
 
-pub returns-in-Loaded-clause-result_value : goal.returns-in-Loaded-clause-result_value
-returns-in-Loaded-clause-result_value t c = absurd (never _ _ _ c.requires.width c.requires.table_value c.if-table-gt-WIDE_TABLE.true)
+pub returns-in-Ok-clause-result_value : goal.returns-in-Ok-clause-result_value
+returns-in-Ok-clause-result_value t c = absurd (never _ _ _ c.requires.width c.requires.table_value c.if-table-gt-WIDE_TABLE.true)
 
-pub returns-in-Refused-clause-result_value : goal.returns-in-Refused-clause-result_value
-returns-in-Refused-clause-result_value t c = absurd (never _ _ _ c.requires.width c.requires.table_value c.if-table-gt-WIDE_TABLE.true)
+pub returns-in-Err-clause-result_value : goal.returns-in-Err-clause-result_value
+returns-in-Err-clause-result_value t c = absurd (never _ _ _ c.requires.width c.requires.table_value c.if-table-gt-WIDE_TABLE.true)
 
-pub load_narrow-requires-clause-width : goal.load_narrow-requires-clause-width
-load_narrow-requires-clause-width t c =
+pub load_with-requires-clause-width : goal.load_with-requires-clause-width
+load_with-requires-clause-width t c =
     let a = c.args in
-    (c.requires.width, omega (arith, long a.mode.width a.image.now a.table.now c.requires.table_value))
+    (c.requires.width, omega (arith, long a.mode.width a.image.now a.table.now c.requires.table_value), omega arith)

@@ -1,7 +1,6 @@
 -- `pairs::compare_slots` meets its contract.
 -- The patterns overlap in each word below the loop's, and the flags tell of those words whether the one mask lies within the other.
-use mathlib.Core.Path.{◌≡◌, ap}
-use Prim.Native.Nat.{◌-◌}
+use mathlib.Core.Path.{◌≡◌}
 use Rattle.search.specs.Search.{all, AllBelow}
 use Rattle.records.specs.Record.{slot_words}
 use Rattle.records.specs.Order.{overlap_at, mask_within_at}
@@ -11,6 +10,3 @@ abbrev pub invariant-loop-index : goal.invariant-loop-index
 invariant-loop-index l = AllBelow (overlap_at l.width (slot_words l.width l.table l.slot) (slot_words l.width l.others l.other)) l.width l.index
     × (l.first ≡ all (mask_within_at l.width (slot_words l.width l.table l.slot) (slot_words l.width l.others l.other)) l.index)
     × (l.second ≡ all (mask_within_at l.width (slot_words l.width l.others l.other) (slot_words l.width l.table l.slot)) l.index)
-
-abbrev pub decreases-loop-index : goal.decreases-loop-index
-decreases-loop-index l = l.width - l.index

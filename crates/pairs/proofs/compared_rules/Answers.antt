@@ -2,7 +2,6 @@
 -- The ids differ, both slots hold rules, and then the actions tell.
 use mathlib.Core.Path.{sym, ◌∙◌}
 use borrow.Author.Tests.{not-true, not-false}
-use borrow.Author.Rules.{rules}
 use Rattle.records.specs.Record.{slot_words}
 use Rattle.records.proofs.OrderLaws.{distinct_empty, distinct_same, distinct_both, compared_not, compared_asked}
 use Rattle.pairs.proofs.compared_rules.Goals as goal

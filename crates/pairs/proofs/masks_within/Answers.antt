@@ -1,7 +1,6 @@
 -- `pairs::masks_within` meets its contract.
 -- The mask lies within the other's in each word below the loop's.
 use mathlib.Core.Path.{sym, ◌∙◌}
-use Prim.Native.Nat.{◌-◌}
 use native.Mathlib.Omega.{arith}
 use borrow.Author.Tests.{not-true, not-false}
 use Rattle.search.specs.SearchLaws.{all_start, all_more, all_end, all_out}

@@ -2,7 +2,6 @@
 -- Ranks first; then the patterns, and then whether the rules are compared.
 use mathlib.Core.Path.{sym, ◌∙◌}
 use borrow.Author.Tests.{lt-ltb, le-ltb, not-true, not-false}
-use borrow.Author.Rules.{rules}
 use Rattle.records.specs.Record.{slot_words}
 use Rattle.records.specs.Order.{precedes}
 use Rattle.records.proofs.OrderLaws.{pair_ranked, pair_apart, pair_both}

@@ -5,7 +5,6 @@ use borrow.Author.Tests.{not-true, not-false}
 use Rattle.records.specs.Record.{slot_words}
 use Rattle.records.specs.Order.{replaceable}
 use Rattle.records.proofs.OrderLaws.{replaced_unequal, replaced_asked, replaced_counted}
-use borrow.Author.Rules.{rules}
 use Rattle.pairs.proofs.replaceable_pair.Goals as goal
 
 pub returns-then-not-equal_rules : goal.returns-then-not-equal_rules

@@ -1,7 +1,6 @@
 -- `pairs::rules_overlap` meets its contract.
 -- The rules are compared where the patterns overlap.
 use borrow.Author.Tests.{not-true, not-false}
-use borrow.Author.Rules.{rules}
 use Rattle.search.specs.SearchLaws.{and_more, and_stop}
 use Rattle.pairs.proofs.rules_overlap.Goals as goal
 

@@ -1,7 +1,6 @@
 -- `pairs::same_pattern` meets its contract.
 -- The words below the loop's are the same.
 use mathlib.Core.Path.{sym, ap₂, ◌∙◌}
-use Prim.Native.Nat.{◌-◌}
 use native.Mathlib.Omega.{arith}
 use lib.Dec.{eqb}
 use borrow.Author.Tests.{eq-eqb, ne_eqb}

@@ -1,6 +1,6 @@
 -- `pairs::same_pattern` meets its contract.
 -- The words below the loop's are the same.
-use Prim.Native.Nat.{ℕ, ◌*◌, ◌-◌}
+use Prim.Native.Nat.{ℕ, ◌*◌}
 use lib.Dec.{eqb}
 use Rattle.search.specs.Search.{AllBelow}
 use Rattle.records.specs.Record.{slot_words}
@@ -8,6 +8,3 @@ use Rattle.pairs.proofs.same_pattern.Given as goal
 
 abbrev pub invariant-loop-place : goal.invariant-loop-place
 invariant-loop-place l = AllBelow (λ (j : ℕ). eqb (slot_words l.width l.table l.slot j) (slot_words l.width l.others l.other j)) (2 * l.width) l.place
-
-abbrev pub decreases-loop-place : goal.decreases-loop-place
-decreases-loop-place l = 2 * l.width - l.place

@@ -2,7 +2,6 @@
 -- Ranks first; then the patterns, and then whether the rules are compared.
 use mathlib.Core.Path.{sym, ◌∙◌}
 use borrow.Author.Tests.{eq-eqb, ne_eqb, not-true, not-false}
-use borrow.Author.Rules.{rules}
 use Rattle.records.specs.Record.{slot_words}
 use Rattle.records.specs.Order.{tied}
 use Rattle.records.proofs.OrderLaws.{pair_ranked, pair_apart, pair_both}

@@ -5,5 +5,5 @@ use Rattle.planner.proofs.choose.Goals as goal
 
 pub returns : goal.returns
 returns c =
-    choice_found _ _ _ _ _ _ _ _ _ _ _ c.lesser-end.ensures c.slots_from-start.ensures
-    c.slots_from-past.ensures c.best_between-best_down.ensures c.best_between-best_up.ensures c.prefer.ensures
+    choice_found _ _ _ _ _ _ _ _ _ _ _ c.min-end.ensures c.saturating_sub-start.ensures
+    c.saturating_sub-past.ensures c.best_between-best_down.ensures c.best_between-best_up.ensures c.prefer.ensures

@@ -9,6 +9,3 @@ use Rattle.planner.proofs.first_of_cost.Given as goal
 
 abbrev pub invariant-loop-at : goal.invariant-loop-at
 invariant-loop-at l = least (λ (j : ℕ). eqb (cost_of l.costs j) l.cost) (l.to - l.at) l.at ≡ least (λ (j : ℕ). eqb (cost_of l.costs j) l.cost) (l.to - l.from) l.from
-
-abbrev pub decreases-loop-at : goal.decreases-loop-at
-decreases-loop-at l = l.to - l.at

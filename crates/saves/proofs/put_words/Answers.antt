@@ -31,9 +31,6 @@ loop-word-init c =
       λ b h e. e,
     )
 
-pub overflow_mul-width : goal.overflow_mul-width
-overflow_mul-width c = omega (arith, c.requires.0.1)
-
 pub overflow_mul-word : goal.overflow_mul-word
 overflow_mul-word c =
     let asked = c.requires in
@@ -50,11 +47,6 @@ slot_word-requires-in-loop-word c =
 
 pub put_number-requires-in-loop-word : goal.put_number-requires-in-loop-word
 put_number-requires-in-loop-word c = omega (arith, c.loop-word.invariant.1)
-
-pub overflow_add-word : goal.overflow_add-word
-overflow_add-word c =
-    let asked = c.requires in
-    omega (arith, c.loop-word.invariant.0, asked.0.1)
 
 pub loop-word-preserved : goal.loop-word-preserved
 loop-word-preserved c =

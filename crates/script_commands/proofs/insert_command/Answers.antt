@@ -1,47 +1,29 @@
 -- `script_commands::insert_command` meets its contract.
--- The tests are the definition's in another order, and each number that fits is its field's.
-use native.Mathlib.Omega.{arith}
-use Rattle.script_commands.specs.LineLaws.{insert_fits, insert_good, insert_bad}
+-- Each return is one of the definition's cases, in another order.
+use mathlib.Core.Path.{sym, ◌∙◌}
+use Rattle.script_commands.specs.LineLaws.{id_none, priority_none, action_none, pattern_bad, insert_told}
 use Rattle.script_commands.proofs.insert_command.Goals as goal
 
-pub overflow_cast-result : goal.overflow_cast-result
-overflow_cast-result c =
-    let args = c.args in
-    let n1 = c.number_in-id_number in
-    let n2 = c.number_in-priority_number in
-    let n3 = c.number_in-action_number in
-    let good = c.is_symbol_field-good in
-    omega (arith, (insert_fits args.id.now args.priority.now args.pattern.now args.action.now _ _ _ _ n1.ensures n2.ensures n3.ensures good.ensures c.if-good-fits.true).0)
+pub returns-in_default : goal.returns-in_default
+returns-in_default c =
+    let a = c.args in id_none a.id.now a.priority.now a.pattern.now a.action.now c.in_default.ensures
 
-pub overflow_cast-result-then-good-fits : goal.overflow_cast-result-then-good-fits
-overflow_cast-result-then-good-fits c =
-    let args = c.args in
-    let n1 = c.number_in-id_number in
-    let n2 = c.number_in-priority_number in
-    let n3 = c.number_in-action_number in
-    let good = c.is_symbol_field-good in
-    omega (arith, (insert_fits args.id.now args.priority.now args.pattern.now args.action.now _ _ _ _ n1.ensures n2.ensures n3.ensures good.ensures c.if-good-fits.true).1)
+pub returns-in_default-number_in : goal.returns-in_default-number_in
+returns-in_default-number_in c =
+    let a = c.args in priority_none a.id.now a.priority.now a.pattern.now a.action.now c.in_default-number_in.ensures
 
-pub overflow_cast-result-then-good-fits-2 : goal.overflow_cast-result-then-good-fits-2
-overflow_cast-result-then-good-fits-2 c =
-    let args = c.args in
-    let n1 = c.number_in-id_number in
-    let n2 = c.number_in-priority_number in
-    let n3 = c.number_in-action_number in
-    let good = c.is_symbol_field-good in
-    omega (arith, (insert_fits args.id.now args.priority.now args.pattern.now args.action.now _ _ _ _ n1.ensures n2.ensures n3.ensures good.ensures c.if-good-fits.true).2)
+pub returns-in_default-number_in-2 : goal.returns-in_default-number_in-2
+returns-in_default-number_in-2 c =
+    let a = c.args in action_none a.id.now a.priority.now a.pattern.now a.action.now c.in_default-number_in-2.ensures
 
-pub returns-then-good-fits : goal.returns-then-good-fits
-returns-then-good-fits c =
-    let args = c.args in
-    let n1 = c.number_in-id_number in
-    let n2 = c.number_in-priority_number in
-    let n3 = c.number_in-action_number in
-    let good = c.is_symbol_field-good in
-    insert_good args.id.now args.priority.now args.pattern.now args.action.now _ _ _ _ n1.ensures n2.ensures n3.ensures good.ensures _ _ c.symbol_words-value.ensures c.symbol_words-mask.ensures c.if-good-fits.true
+pub returns-then-not-is_symbol_field : goal.returns-then-not-is_symbol_field
+returns-then-not-is_symbol_field c =
+    let a = c.args in
+    pattern_bad a.id.now a.priority.now a.pattern.now a.action.now (sym c.is_symbol_field.ensures ∙ c.if-not-is_symbol_field.true)
 
 pub returns : goal.returns
 returns c =
-    let args = c.args in
-    insert_bad args.id.now args.priority.now args.pattern.now args.action.now _ _ _ _
-    c.number_in-id_number.ensures c.number_in-priority_number.ensures c.number_in-action_number.ensures c.is_symbol_field-good.ensures c.if-good-fits.false
+    let a = c.args in
+    let good = sym c.is_symbol_field.ensures ∙ c.if-not-is_symbol_field.false in
+    insert_told a.id.now a.priority.now a.pattern.now a.action.now _ _ _ _ _
+    c.in-Some.ensures c.in-Some-number_in.ensures c.in-Some-number_in-2.ensures good c.symbol_words.ensures c.symbol_words-2.ensures

@@ -3,7 +3,7 @@
 use native.Mathlib.Omega.{arith}
 use mathlib.Core.Path.{sym, ◌∙◌}
 use lib.Seq.{length-take-le}
-use Rattle.script_commands.specs.LineLaws.{line_long, line_one, line_more}
+use Rattle.script_commands.specs.LineLaws.{line_long, line_one, line_letter, line_letterless}
 use Rattle.script_commands.proofs.parse.Goals as goal
 
 pub returns-then-line-gt256 : goal.returns-then-line-gt256
@@ -15,9 +15,12 @@ returns-then-line-end c = line_one c.args.line.now c.part_end-end.result c.part_
 pub slice_bounds-letter_of-end : goal.slice_bounds-letter_of-end
 slice_bounds-letter_of-end c = sym (length-take-le c.part_end-end.result c.args.line.now (omega (arith, c.if-line-end.false)))
 
-pub returns : goal.returns
-returns c =
-    let line = c.args.line.now in
+pub returns-in-Some : goal.returns-in-Some
+returns-in-Some c =
     let end = c.part_end-end in
-    c.after_letter.ensures
-    ∙ line_more line end.result c.letter_of.result end.ensures c.if-line-gt256.false c.if-line-end.false c.letter_of.ensures
+    c.after_letter.ensures ∙ line_letter c.args.line.now end.result c.in-Some.letter end.ensures c.if-line-gt256.false c.if-line-end.false c.in-Some.ensures
+
+pub returns-in-None : goal.returns-in-None
+returns-in-None c =
+    let end = c.part_end-end in
+    line_letterless c.args.line.now end.result end.ensures c.if-line-gt256.false c.if-line-end.false c.in-None.ensures

@@ -1,23 +1,19 @@
 -- `script_fields::all_symbols` meets its contract.
--- The answer for the bytes left is that for the field, until one fails.
-use mathlib.Core.Path.{refl, sym, ◌∙◌}
+-- What the iterator answers of a list is what the definition says of it.
+use Rattle.std.proofs.Common.{◌≡◌, ◌∙◌, Bool, ℕ, List, refl, ◌&&◌, rules, tests}
+use Rattle.std.specs.List.{list_all}
+use Rattle.std.proofs.lemmas.Iterator.{YieldsList-from_slice}
+use Rattle.std.proofs.lemmas.Iterator.Search.{all_from_yields_List}
+use Rattle.std.proofs.lemmas.List.Recursion.{same_from_clauses}
+use Rattle.script_text.specs.Decimal.{every}
 use Rattle.script_fields.specs.Fields.{symbol}
-use Rattle.script_fields.proofs.FieldsLaws.{every_on, every_stop, every_end}
 use Rattle.script_fields.proofs.all_symbols.Goals as goal
 
-pub loop-at-init : goal.loop-at-init
-loop-at-init c = refl
-
-pub returns-then-not-good : goal.returns-then-not-good
-returns-then-not-good c =
-    let turn = c.loop-at in
-    sym (every_stop (symbol c.args.last c.args.star) c.args.field.now turn.at c.loop-at-test.true (sym c.is_symbol-good.ensures ∙ c.if-not-good.true)) ∙ turn.invariant
-
-pub loop-at-preserved : goal.loop-at-preserved
-loop-at-preserved c =
-    let turn = c.loop-at in
-    sym (every_on (symbol c.args.last c.args.star) c.args.field.now turn.at c.loop-at-test.true (sym c.is_symbol-good.ensures ∙ c.if-not-good.false)) ∙ turn.invariant
+every_all : (p : ℕ → Bool) (x : List ℕ) → list_all p x ≡ every p x
+unfolding every
+every_all p x = same_from_clauses (list_all p) (every p) (λ (b : ℕ) (rest : Bool). p b && rest) refl (λ b y. refl) (λ b y. refl) x
 
 pub returns : goal.returns
 returns c =
-    sym (every_end (symbol c.args.last c.args.star) c.args.field.now c.loop-at.at c.loop-at-test.false) ∙ c.loop-at.invariant
+    let p = symbol c.args.last c.args.star in
+    all_from_yields_List p _ _ _ c.all.ensures.ran (YieldsList-from_slice c.args.field.now cc) (λ x b q k. search (rules, tests)) ∙ every_all p c.args.field.now

@@ -12,18 +12,18 @@ use Rattle.script_operations.proofs.carry_and_print.Goals as goal
 
 pub slice_bounds-print_plan-end : goal.slice_bounds-print_plan-end
 slice_bounds-print_plan-end c =
-    sym (length-take-le _ c.args.plan.now (subst (λ (x : Told). WithinRoom x (length c.args.plan.now)) (ap plan_told c.in-Planned.is) c.requires.0 refl))
+    sym (length-take-le _ c.args.plan.now (subst (λ (x : Told). WithinRoom x (length c.args.plan.now)) (ap plan_told c.in-Ok.is) c.requires.0 refl))
 
 pub print_plan-requires : goal.print_plan-requires
 print_plan-requires c =
-    omega (arith, length-take c.in-Planned.info.count c.args.plan.now, c.requires.1)
+    omega (arith, length-take c.in-Ok.info.count c.args.plan.now, c.requires.1)
 
-pub returns-in-Planned : goal.returns-in-Planned
-returns-in-Planned c =
+pub returns-in-Ok : goal.returns-in-Ok
+returns-in-Ok c =
     let a = c.args in
-    changed_planned a.table.now a.plan.now a.rule c.in-Planned.info.count (ap plan_told c.in-Planned.is) c.carry_whole.ensures.table_after c.print_plan.ensures
+    changed_planned a.table.now a.plan.now a.rule c.in-Ok.info.count (ap plan_told c.in-Ok.is) c.carry_whole.ensures.table_after c.print_plan.ensures
 
-pub returns-in-Refused : goal.returns-in-Refused
-returns-in-Refused c =
+pub returns-in-Err : goal.returns-in-Err
+returns-in-Err c =
     let a = c.args in
-    changed_refused a.table.now a.plan.now a.rule c.in-Refused.cause c.in-Refused.spot (ap plan_told c.in-Refused.is) c.refuse.ensures
+    changed_refused a.table.now a.plan.now a.rule _ _ (ap plan_told c.in-Err.is) c.refuse.ensures

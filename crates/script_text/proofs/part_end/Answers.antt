@@ -1,8 +1,10 @@
 -- `script_text::part_end` meets its contract.
 -- The loop's place and the rest of the part after it always make the same end.
 use native.Mathlib.Omega.{arith}
+use Prim.Native.Nat.{ℕ, ◌+◌, ◌≤◌}
 use mathlib.Core.Path.{◌≡◌, refl, ap}
-use mathlib.Core.List.{[]}
+use mathlib.Core.List.{List, []}
+use Rattle.std.proofs.Math.Decide.{dec_le}
 use lib.ListN.{length, drop, drop_of_length-le}
 use Rattle.script_text.specs.Parts.{first_part}
 use Rattle.script_text.proofs.PartsLaws.{first_here, first_on}
@@ -22,8 +24,18 @@ loop-at-preserved c =
 
 pub returns : goal.returns
 unfolding first_part
-returns c =
-    let x = c.args.text.now in
-    let at = c.loop-at.at in
-    let e : first_part c.args.separator (drop at x) ≡ [] = rw (drop_of_length-le x {i = at} (omega arith)) in
-    omega (arith, ap length e, c.loop-at.invariant)
+returns c = by (dec_le c.args.from (length x))
+  where
+    x : List ℕ
+    x = c.args.text.now
+
+    at : ℕ
+    at = c.loop-at.at
+
+    by : Dec (c.args.from ≤ length x) → c.max.result ≡ c.args.from + length (first_part c.args.separator (drop c.args.from x))
+    by (yes h) =
+        let e : first_part c.args.separator (drop at x) ≡ [] = rw (drop_of_length-le x {i = at} (omega arith)) in
+        omega (arith, ap length e, c.loop-at.invariant)
+    by (no h) =
+        let e : first_part c.args.separator (drop c.args.from x) ≡ [] = rw (drop_of_length-le x {i = c.args.from} (omega arith)) in
+        omega (arith, ap length e)

@@ -1,13 +1,11 @@
 -- `slots::mask_full` meets its contract.
 -- Each mask word below the loop's has every bit set.
 use mathlib.Core.Path.{sym, ap, ◌∙◌}
-use Prim.Native.Nat.{◌-◌}
 use native.Mathlib.Omega.{arith}
 use borrow.Author.Tests.{not-true, not-false}
 use Rattle.search.specs.SearchLaws.{all_start, all_more, all_end, all_out}
 use Rattle.ternary.specs.Word.{inside, ones}
 use Rattle.ternary.specs.Pattern.{full_mask}
-use Rattle.records.specs.Record.{mask}
 use Rattle.slots.proofs.mask_full.Goals as goal
 
 pub loop-index-init : goal.loop-index-init

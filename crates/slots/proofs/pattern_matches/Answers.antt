@@ -1,13 +1,10 @@
 -- `slots::pattern_matches` meets its contract.
 -- The key agrees in each word below the loop's.
 use mathlib.Core.Path.{sym, ◌∙◌}
-use Prim.Native.Nat.{◌-◌}
 use native.Mathlib.Omega.{arith}
 use borrow.Author.Tests.{not-true, not-false}
 use Rattle.search.specs.SearchLaws.{all_start, all_more, all_end, all_out}
-use Rattle.ternary.specs.Word.{agree}
 use Rattle.ternary.specs.Pattern.{matches}
-use Rattle.records.specs.Record.{word}
 use Rattle.slots.proofs.pattern_matches.Goals as goal
 
 pub loop-index-init : goal.loop-index-init

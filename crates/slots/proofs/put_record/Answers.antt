@@ -2,10 +2,10 @@
 -- The words below the loop's are copied into the slot, and the rest of the table is as it was.
 use mathlib.Core.Path.{◌≡◌, refl, sym, ap, ◌∙◌}
 use mathlib.Core.List.{List, ◌++◌}
-use Prim.Native.Nat.{ℕ, ◌+◌, ◌-◌, ◌*◌}
+use Prim.Native.Nat.{ℕ, ◌+◌, ◌*◌}
 use native.Mathlib.Omega.{arith}
 use native.Mathlib.Numerals.{add-one}
-use lib.ListN.{length, get_or, set, take, drop, length-set}
+use lib.ListN.{get_or, set, take, drop, length-set}
 use lib.Seq.{paste, paste-zero, paste-suc, take_all}
 use Rattle.records.specs.Record.{record_words, put_slot}
 use Rattle.records.proofs.Laws.{slot_within}

@@ -1,9 +1,9 @@
 -- `slots::read_record` meets its contract.
 -- The words below the loop's are the slot's.
 use mathlib.Core.Path.{◌≡◌, refl, sym, ◌∙◌}
-use Prim.Native.Nat.{ℕ, ◌-◌}
+use Prim.Native.Nat.{ℕ}
 use native.Mathlib.Omega.{arith}
-use lib.ListN.{length, get_or, set, length-set}
+use lib.ListN.{get_or, set, length-set}
 use lib.Seq.{get_or-set_same, get_or-set_other}
 use Rattle.search.specs.SearchLaws.{below_suc}
 use Rattle.records.specs.Record.{record_words, slot_words}

@@ -1,11 +1,9 @@
 -- `slots::slot_within` meets its contract.
 -- Each value word below the loop's lies within its mask.
 use mathlib.Core.Path.{sym, ◌∙◌}
-use Prim.Native.Nat.{◌-◌}
 use native.Mathlib.Omega.{arith}
 use borrow.Author.Tests.{not-true, not-false}
 use Rattle.search.specs.SearchLaws.{all_start, all_more, all_end, all_out}
-use Rattle.ternary.specs.Word.{inside}
 use Rattle.ternary.specs.Pattern.{within}
 use Rattle.slots.proofs.slot_within.Goals as goal
 

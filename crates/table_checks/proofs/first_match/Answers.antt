@@ -1,11 +1,9 @@
 -- `table_checks::first_match` meets its contract.
 -- No slot below the loop's matches: those passed over may not, and those compared do not.
-use Prim.Native.Nat.{◌-◌}
 use mathlib.Core.Path.{sym, ◌∙◌}
 use native.Mathlib.Omega.{arith}
 use Rattle.search.specs.SearchLaws.{none_from_start, least_none}
 use Rattle.records.specs.Record.{word}
-use Rattle.records.specs.Order.{slots}
 use Rattle.records.proofs.WidthsLaws.{slots_fit}
 use Rattle.table_checks.specs.ScreenLaws.{screened, none_among, first_among}
 use Rattle.table_checks.proofs.first_match.Goals as goal

@@ -1,6 +1,5 @@
 -- `table_checks::first_unsound_by` meets its contract.
 -- No slot below the loop's is neither empty nor sound.
-use Prim.Native.Nat.{◌-◌}
 use mathlib.Core.Path.{sym, ◌∙◌}
 use native.Mathlib.Omega.{arith}
 use Rattle.search.specs.SearchLaws.{none_more, least_at, least_none}

@@ -1,9 +1,7 @@
 -- `table_checks::match_among_by` meets its contract.
 -- The search from the loop's slot on finds what the search from the first does.
-use Prim.Native.Nat.{◌-◌}
 use mathlib.Core.Path.{refl, sym, ◌∙◌}
 use native.Mathlib.Omega.{arith}
-use Rattle.search.specs.Search.{least}
 use Rattle.search.specs.PartsLaws.{least_at_start, least_further, least_over}
 use Rattle.table_checks.proofs.match_among_by.Goals as goal
 

@@ -9,6 +9,3 @@ use Rattle.table_checks.proofs.match_among_by.Given as goal
 
 abbrev pub invariant-loop-slot : goal.invariant-loop-slot
 invariant-loop-slot l = (l.slot ≤ l.to) × (least (compared_at l.width l.table (word l.key)) (l.to - l.from) l.from ≡ least (compared_at l.width l.table (word l.key)) (l.to - l.slot) l.slot)
-
-abbrev pub decreases-loop-slot : goal.decreases-loop-slot
-decreases-loop-slot l = l.to - l.slot

@@ -1,7 +1,6 @@
 -- `table_checks::skip_plain` meets its contract.
 -- Each slot below the loop's is empty or holds a rule that is sound as one is given, and so a sound record.
 use mathlib.Core.Path.{sym, ◌∙◌}
-use Prim.Native.Nat.{◌-◌}
 use native.Mathlib.Omega.{arith}
 use borrow.Author.Tests.{not-false}
 use Rattle.search.specs.SearchLaws.{none_start, none_more}

@@ -1,12 +1,8 @@
 -- `table_checks::skip_plain` meets its contract.
 -- Each slot below the loop's is empty or holds a rule that is sound as one is given, and so a sound record.
-use Prim.Native.Nat.{◌-◌}
 use Rattle.search.specs.SearchLaws.{NoneBelow}
 use Rattle.records.specs.Checks.{unsound_at}
 use Rattle.table_checks.proofs.skip_plain.Given as goal
 
 abbrev pub invariant-loop-slot : goal.invariant-loop-slot
 invariant-loop-slot l = NoneBelow (unsound_at l.width l.table) l.slots l.slot
-
-abbrev pub decreases-loop-slot : goal.decreases-loop-slot
-decreases-loop-slot l = l.slots - l.slot

@@ -4,7 +4,6 @@ use mathlib.Core.Path.{sym, ◌∙◌}
 use native.Mathlib.Omega.{arith}
 use Rattle.search.specs.SearchLaws.{none_from_start}
 use Rattle.search.specs.PartsLaws.{none_from_four}
-use Rattle.table_checks.specs.Screen.{may_match}
 use Rattle.table_checks.proofs.skip_unmatched_by.Goals as goal
 
 pub loop-fours-init : goal.loop-fours-init

@@ -1,7 +1,8 @@
--- `bitmaps::maps::apart_in` meets its contract. The loop's invariant: the join of the first k rows. A turn joins two more.
+-- `bitmaps::maps::apart_in` meets its contract. The loop's invariant: the join of the first 2 k rows. A turn joins two more.
 use mathlib.Core.Path.{◌≡◌, refl}
-use Prim.Native.Nat.{◌+◌}
+use Prim.Native.Nat.{◌+◌, ◌-◌, ◌*◌}
 use native.Mathlib.Omega.{arith}
+use lib.ListN.{length}
 use Rattle.bitmaps.specs.Rows.{gathered}
 use Rattle.bitmaps.specs.RowsLaws.{gathered_more}
 use Rattle.bitmaps.proofs.maps.apart_in.Goals as goal
@@ -27,38 +28,39 @@ unfolding gathered
 loop-k-init c = (omega arith, refl)
 
 pub offset_bounds-words-rows : goal.offset_bounds-words-rows
-offset_bounds-words-rows c = omega (arith, c.requires.by_index c.loop-k.k (omega arith))
+offset_bounds-words-rows c = omega (arith, c.requires.by_index (2 * c.loop-k.k) (omega arith))
 
 pub bounds-words-rows : goal.bounds-words-rows
-bounds-words-rows c = omega (arith, c.requires.by_index c.loop-k.k (omega arith))
+bounds-words-rows c = omega (arith, c.requires.by_index (2 * c.loop-k.k) (omega arith))
 
 pub offset_bounds-words-rows-in-loop-k : goal.offset_bounds-words-rows-in-loop-k
-offset_bounds-words-rows-in-loop-k c = omega (arith, c.requires.by_index (c.loop-k.k + 1) c.loop-k-test.true)
+offset_bounds-words-rows-in-loop-k c = omega (arith, c.requires.by_index (2 * c.loop-k.k + 1) (omega arith))
 
 pub bounds-words-rows-in-loop-k : goal.bounds-words-rows-in-loop-k
-bounds-words-rows-in-loop-k c = omega (arith, c.requires.by_index (c.loop-k.k + 1) c.loop-k-test.true)
+bounds-words-rows-in-loop-k c = omega (arith, c.requires.by_index (2 * c.loop-k.k + 1) (omega arith))
 
 pub loop-k-preserved : goal.loop-k-preserved
 loop-k-preserved c =
     let l = c.loop-k in
     let a = c.args in
-    let e : l.k + 1 + 1 ≡ l.k + 2 = omega arith in
-    (omega arith, rw e at (gathered_more a.maps.now a.rows.now a.block (l.k + 1) _ (gathered_more a.maps.now a.rows.now a.block l.k _ l.invariant.1)))
+    let e : 2 * l.k + 1 + 1 ≡ 2 * (l.k + 1) = omega arith in
+    (omega arith, rw e at (gathered_more a.maps.now a.rows.now a.block (2 * l.k + 1) _ (gathered_more a.maps.now a.rows.now a.block (2 * l.k) _ l.invariant.1)))
 
-pub offset_bounds-words-rows-then-k-used : goal.offset_bounds-words-rows-then-k-used
-offset_bounds-words-rows-then-k-used c = omega (arith, c.requires.by_index c.loop-k.k c.if-k-used.true)
+pub offset_bounds-words-rows-then-used-eq1 : goal.offset_bounds-words-rows-then-used-eq1
+offset_bounds-words-rows-then-used-eq1 c = omega (arith, c.requires.by_index (length c.args.rows.now - 1) (omega arith))
 
-pub bounds-words-rows-then-k-used : goal.bounds-words-rows-then-k-used
-bounds-words-rows-then-k-used c = omega (arith, c.requires.by_index c.loop-k.k c.if-k-used.true)
+pub bounds-words-rows-then-used-eq1 : goal.bounds-words-rows-then-used-eq1
+bounds-words-rows-then-used-eq1 c = omega (arith, c.requires.by_index (length c.args.rows.now - 1) (omega arith))
 
-pub returns-then-k-used : goal.returns-then-k-used
-returns-then-k-used c =
+pub returns-then-used-eq1 : goal.returns-then-used-eq1
+returns-then-used-eq1 c =
     let l = c.loop-k in
     let a = c.args in
-    let k : a.used ≡ l.k + 1 = omega arith in
-    rw k (gathered_more a.maps.now a.rows.now a.block l.k _ l.invariant.1)
+    let k : 2 * l.k ≡ length a.rows.now - 1 = omega arith in
+    let e : length a.rows.now - 1 + 1 ≡ length a.rows.now = omega arith in
+    rw e at (gathered_more a.maps.now a.rows.now a.block (length a.rows.now - 1) _ (rw k at l.invariant.1))
 
-pub returns-else-k-used : goal.returns-else-k-used
-returns-else-k-used c =
-    let k : c.args.used ≡ c.loop-k.k = omega arith in
-    rw k c.loop-k.invariant.1
+pub returns-else-used-eq1 : goal.returns-else-used-eq1
+returns-else-used-eq1 c =
+    let k : 2 * c.loop-k.k ≡ length c.args.rows.now = omega arith in
+    rw k at c.loop-k.invariant.1

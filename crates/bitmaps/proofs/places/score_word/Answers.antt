@@ -8,10 +8,10 @@ use Rattle.bitmaps.specs.PlacesLaws.{below_more, product}
 use Rattle.bitmaps.proofs.places.score_word.Goals as goal
 
 pub count_word-requires : goal.count_word-requires
-count_word-requires c = let p = c.requires in (p.0, p.1, p.2, p.3, omega arith, omega arith)
+count_word-requires c = let p = c.requires in (p.0, p.1, p.2, omega arith, omega arith)
 
 pub loop-s-init : goal.loop-s-init
-loop-s-init c = (omega arith, refl, λ k h. c.requires.5 k (omega arith))
+loop-s-init c = (omega arith, refl, λ k h. c.requires.4 k (omega arith))
 
 pub count_at-requires : goal.count_at-requires
 count_at-requires c = (omega (arith), omega arith)

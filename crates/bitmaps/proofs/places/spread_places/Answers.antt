@@ -2,7 +2,7 @@
 use mathlib.Core.Path.{◌≡◌, refl}
 use Prim.Native.Nat.{◌*◌, ◌/◌, ◌%◌, ◌<◌}
 use native.Mathlib.Omega.{arith}
-use lib.ListN.{get_or, length-set}
+use lib.ListN.{length, get_or, length-set}
 use Rattle.bitmaps.specs.RowsLaws.{spread_more, spread_none, total_with, total_none}
 use Rattle.bitmaps.proofs.places.spread_places.Goals as goal
 
@@ -45,5 +45,5 @@ loop-k-preserved c =
 
 pub returns : goal.returns
 returns c =
-    let k : c.args.count ≡ c.loop-k.k = (let l = c.loop-k.invariant.0 in omega arith) in
+    let k : length c.args.places.now ≡ c.loop-k.k = (let l = c.loop-k.invariant.0 in omega arith) in
     (rw k c.loop-k.invariant.3, rw k c.loop-k.invariant.4)

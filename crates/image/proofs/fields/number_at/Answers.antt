@@ -10,13 +10,13 @@ use Rattle.image.specs.Bytes.{number_at}
 use Rattle.image.proofs.BytesLaws.{digit_room}
 use Rattle.image.proofs.fields.number_at.Goals as goal
 
-byte : (c : goal.After-wide-byte) → c.wide-byte.result < 256
+byte : (c : goal.After-from-byte) → c.from-byte.result < 256
 byte c =
     let turn = c.loop-read in
     omega arith
 
 -- one digit more fits
-room : (c : goal.After-wide-byte) → c.loop-read.number * 256 + c.wide-byte.result < 18446744073709551616
+room : (c : goal.After-from-byte) → c.loop-read.number * 256 + c.from-byte.result < 18446744073709551616
 room c = digit_room c.loop-read.invariant.2 (omega arith) (byte c)
 
 pub loop-read-init : goal.loop-read-init
@@ -34,7 +34,7 @@ unfolding number_at
 loop-read-preserved c =
     let turn = c.loop-read in (
       omega arith,
-      rw (add-one turn.read) (ap₂ (λ (n d : ℕ). n * 256 + d) turn.invariant.1 c.wide-byte.ensures),
+      rw (add-one turn.read) (ap₂ (λ (n d : ℕ). n * 256 + d) turn.invariant.1 c.from-byte.ensures),
       rw (add-one turn.read, pow-suc 256 turn.read) (digits_lt turn.invariant.2 (byte c)),
     )
 

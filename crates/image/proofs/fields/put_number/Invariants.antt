@@ -8,6 +8,3 @@ use Rattle.image.proofs.fields.put_number.Given as goal
 
 abbrev pub invariant-loop-left : goal.invariant-loop-left
 invariant-loop-left l = (l.left ≤ l.bytes) × (length l.image ≡ length l.initial.image) × (store l.image l.at (bytes_of l.left l.rest) ≡ store l.initial.image l.at (bytes_of l.bytes l.number))
-
-abbrev pub decreases-loop-left : goal.decreases-loop-left
-decreases-loop-left l = l.left

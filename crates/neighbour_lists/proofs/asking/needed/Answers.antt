@@ -7,10 +7,10 @@ pub returns-then-before : goal.returns-then-before
 unfolding needed_bits
 returns-then-before c = rw (eq-eqb _ _ c.if-before.true)
 
-pub returns-then-low-block : goal.returns-then-low-block
+pub returns-then-blocks-block : goal.returns-then-blocks-block
 unfolding needed_bits
-returns-then-low-block c = rw (ne_eqb _ _ c.if-before.false, le-leb _ _ c.if-low-block.true)
+returns-then-blocks-block c = rw (ne_eqb _ _ c.if-before.false, le-leb _ _ c.if-blocks-block.true)
 
 pub returns : goal.returns
 unfolding needed_bits
-returns c = rw (ne_eqb _ _ c.if-before.false, lt-leb _ _ c.if-low-block.false)
+returns c = rw (ne_eqb _ _ c.if-before.false, lt-leb _ _ c.if-blocks-block.false)

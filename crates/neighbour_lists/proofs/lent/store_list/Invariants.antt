@@ -1,7 +1,7 @@
 -- `neighbour_lists::lent::store_list` meets its contract.
 -- The numbers below the loop's index are stored, the others are as they were, and whether one of those below differed is told.
 use mathlib.Core.Path.{◌≡◌}
-use Prim.Native.Nat.{◌-◌, ◌≤◌}
+use Prim.Native.Nat.{◌≤◌}
 use lib.ListN.{length}
 use Rattle.neighbour_lists.specs.Lists.{differing}
 use Rattle.neighbour_lists.proofs.LentLaws.{Stored}
@@ -9,6 +9,3 @@ use Rattle.neighbour_lists.proofs.lent.store_list.Given as goal
 
 abbrev pub invariant-loop-index : goal.invariant-loop-index
 invariant-loop-index l = (l.index ≤ length l.initial.list) × (length l.list ≡ length l.initial.list) × Stored l.near l.initial.list l.index l.list × (l.changed ≡ differing l.near l.initial.list l.index)
-
-abbrev pub decreases-loop-index : goal.decreases-loop-index
-decreases-loop-index l = length l.initial.list - l.index

@@ -6,8 +6,5 @@ use Rattle.records.specs.Record.{slot_words}
 use Rattle.records.specs.Order.{slots, precedes}
 use Rattle.neighbours.proofs.checks.after_a_by.Given as goal
 
-abbrev pub invariant-loop-after : goal.invariant-loop-after
-invariant-loop-after l = NoneAbove (λ (i : ℕ). precedes l.mode.width l.mode.uncounted (slot_words l.mode.width l.table i) (slot_words l.mode.width l.new 0)) (slots l.mode.width l.table) l.after
-
-abbrev pub decreases-loop-after : goal.decreases-loop-after
-decreases-loop-after l = l.after
+abbrev pub invariant-loop-slot : goal.invariant-loop-slot
+invariant-loop-slot l = NoneAbove (λ (i : ℕ). precedes l.mode.width l.mode.uncounted (slot_words l.mode.width l.table i) (slot_words l.mode.width l.new 0)) (slots l.mode.width l.table) l.slot

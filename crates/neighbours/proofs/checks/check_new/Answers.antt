@@ -1,33 +1,30 @@
 -- `neighbours::checks::check_new` meets its contract.
 -- Where 8 or 9 would decline, and in a table without counters everywhere, the rule that is replaced decides.
-use mathlib.Core.Path.{sym, ◌∙◌}
-use Prim.{tt}
+use mathlib.Core.Path.{sym, ap, ◌∙◌}
 use Rattle.records.specs.Record.{slot_words}
-use Rattle.records.proofs.Laws.{failed}
-use Rattle.neighbours.specs.Neighbours.{new_checks}
-use Rattle.neighbours.proofs.NeighboursLaws.{new_passed, new_searched, new_adds}
+use Rattle.records.proofs.Laws.{checked_ok, is_refusal, stops}
+use Rattle.neighbours.specs.Neighbours.{found_check, new_checks}
+use Rattle.neighbours.proofs.NeighboursLaws.{neither, new_passed, new_searched, new_adds}
 use Rattle.neighbours.proofs.checks.check_new.Goals as goal
 
-pub returns-in-Fail : goal.returns-in-Fail
+pub returns-in_err-check_known-clause-result_value : goal.returns-in_err-check_known-clause-result_value
 unfolding new_checks
-returns-in-Fail c = record { result_value = failed _ c.check_known-known.ensures c.in-Fail.is; found_in = tt }
+returns-in_err-check_known-clause-result_value c = ap found_check (is_refusal _ c.from_residual.ensures.1) ∙ stops _ c.in_err-check_known.ensures
 
-pub returns-in-Fail-room : goal.returns-in-Fail-room
-returns-in-Fail-room c =
+pub returns-then-is_err-mode-clause-result_value : goal.returns-then-is_err-mode-clause-result_value
+returns-then-is_err-mode-clause-result_value c =
     let a = c.args in
-    let law = new_searched a.mode.width a.mode.uncounted a.table.now (slot_words a.mode.width a.new.now 0) (sym c.in-Fail-room.is ∙ c.check_tie_full-room.ensures)
-    (sym c.check_known-known.ensures ∙ c.in_default.is) in
-    record { result_value = c.found_with.ensures.result_value ∙ law; found_in = c.found_with.ensures.found_in }
-
-pub returns-then-mode : goal.returns-then-mode
-returns-then-mode c =
-    let a = c.args in
-    let law = new_searched a.mode.width a.mode.uncounted a.table.now (slot_words a.mode.width a.new.now 0) (sym c.in_default-room.is ∙ c.check_tie_full-room.ensures)
-    (sym c.check_known-known.ensures ∙ c.in_default.is) in
-    record { result_value = c.found_with-then-mode.ensures.result_value ∙ law; found_in = c.found_with-then-mode.ensures.found_in }
+    c.found_with.ensures.result_value
+    ∙ new_searched a.mode.width a.mode.uncounted a.table.now (slot_words a.mode.width a.new.now 0) c.check_tie_full-room.ensures (sym c.in_ok-check_known.ensures)
 
 pub returns : goal.returns
 returns c =
     let a = c.args in
     let new = slot_words a.mode.width a.new.now 0 in
-    let known = sym c.check_known-known.ensures ∙ c.in_default.is in record { result_value = new_passed a.mode.width a.mode.uncounted a.table.now new c.check_tie_full-room.ensures c.in_default-room.is known; found_in = new_adds a.mode.width a.mode.uncounted a.table.now new c.if-mode.false c.check_tie_full-room.ensures c.in_default-room.is known }
+    let not = neither _ _ c.if-is_err-mode.false in
+    let room = checked_ok _ (sym c.is_err.ensures.value ∙ not.0) in
+    let known = sym c.in_ok-check_known.ensures in
+    let tests = c.check_tie_full-room.ensures in record {
+      result_value = new_passed a.mode.width a.mode.uncounted a.table.now new tests room known;
+      found_in = new_adds a.mode.width a.mode.uncounted a.table.now new not.1 tests room known;
+    }

@@ -1,10 +1,12 @@
 -- `neighbours::checks::check_tie_full` meets its contract.
 -- 9 is tested where 8 passes.
-use Rattle.records.proofs.Laws.{failed, passed}
+use mathlib.Core.Path.{ap, ◌∙◌}
+use Rattle.records.specs.Verdict.{checked}
+use Rattle.records.proofs.Laws.{is_refusal, stops, goes_on}
 use Rattle.neighbours.proofs.checks.check_tie_full.Goals as goal
 
-pub returns-in-Fail : goal.returns-in-Fail
-returns-in-Fail c = failed _ c.check_tie-tie.ensures c.in-Fail.is
+pub returns-in_err-check_tie : goal.returns-in_err-check_tie
+returns-in_err-check_tie c = ap checked (is_refusal _ c.from_residual.ensures.1) ∙ stops _ c.in_err-check_tie.ensures
 
 pub returns : goal.returns
-returns c = passed c.check_tie-tie.ensures c.in_default.is c.check_full.ensures
+returns c = goes_on c.in_ok-check_tie.ensures c.check_full.ensures

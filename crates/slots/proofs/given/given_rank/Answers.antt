@@ -1,7 +1,6 @@
 -- `slots::given::given_rank` meets its contract.
 -- The mask is asked under 1.0 alone.
 use mathlib.Core.Path.{sym, ◌∙◌}
-use mathlib.Core.Logic.{⊎_elim}
 use mathlib.Core.Logic.◌⊎◌.{inl, inr}
 use borrow.Author.Tests.{eq-eqb}
 use Rattle.records.proofs.WidthsLaws.{lent_slot}

@@ -1,9 +1,8 @@
 -- `table_checks::ids::fill_ids_by` meets its contract.
 -- The column's entries below the loop's slot are those slots' ids.
 use mathlib.Core.Path.{refl, ◌∙◌}
-use Prim.Native.Nat.{◌-◌}
 use native.Mathlib.Omega.{arith}
-use lib.ListN.{length, length-set}
+use lib.ListN.{length-set}
 use Rattle.table_checks.specs.IdsLaws.{column_more}
 use Rattle.table_checks.proofs.ids.fill_ids_by.Goals as goal
 

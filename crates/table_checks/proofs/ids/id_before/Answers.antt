@@ -1,10 +1,8 @@
 -- `table_checks::ids::id_before` meets its contract.
 -- No slot below the loop's has the slot's id.
-use Prim.Native.Nat.{◌-◌}
 use mathlib.Core.Path.{sym, ◌∙◌}
 use native.Mathlib.Omega.{arith}
 use Rattle.search.specs.SearchLaws.{none_start, none_more, any_some, any_none}
-use Rattle.records.specs.Order.{same_id}
 use Rattle.records.specs.Checks.{twice_at}
 use Rattle.table_checks.proofs.ids.id_before.Goals as goal
 

@@ -1,6 +1,6 @@
 -- `table_checks::ids::id_before` meets its contract.
 -- No slot below the loop's has the slot's id.
-use Prim.Native.Nat.{◌-◌, ℕ}
+use Prim.Native.Nat.{ℕ}
 use Rattle.search.specs.SearchLaws.{NoneBelow}
 use Rattle.records.specs.Record.{slot_words}
 use Rattle.records.specs.Order.{same_id}
@@ -8,6 +8,3 @@ use Rattle.table_checks.proofs.ids.id_before.Given as goal
 
 abbrev pub invariant-loop-earlier : goal.invariant-loop-earlier
 invariant-loop-earlier l = NoneBelow (λ (i : ℕ). same_id l.width (slot_words l.width l.table i) (slot_words l.width l.table l.slot)) l.slot l.earlier
-
-abbrev pub decreases-loop-earlier : goal.decreases-loop-earlier
-decreases-loop-earlier l = l.slot - l.earlier

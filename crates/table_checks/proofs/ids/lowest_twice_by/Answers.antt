@@ -1,6 +1,5 @@
 -- `table_checks::ids::lowest_twice_by` meets its contract.
 -- No slot below the loop's has an id that an earlier one has, and the map has the bits of their ids.
-use Prim.Native.Nat.{◌-◌}
 use mathlib.Core.Path.{refl, sym, ◌∙◌}
 use native.Mathlib.Omega.{arith}
 use Rattle.search.specs.SearchLaws.{none_start, none_more}

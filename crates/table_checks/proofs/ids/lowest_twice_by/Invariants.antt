@@ -1,6 +1,5 @@
 -- `table_checks::ids::lowest_twice_by` meets its contract.
 -- No slot below the loop's has an id that an earlier one has, and the map has the bits of their ids.
-use Prim.Native.Nat.{◌-◌}
 use mathlib.Core.Path.{◌≡◌}
 use lib.ListN.{length}
 use Rattle.search.specs.SearchLaws.{NoneBelow}
@@ -10,6 +9,3 @@ use Rattle.table_checks.proofs.ids.lowest_twice_by.Given as goal
 
 abbrev pub invariant-loop-slot : goal.invariant-loop-slot
 invariant-loop-slot l = NoneBelow (twice_at l.width l.table) l.slots l.slot × (length l.seen ≡ length l.initial.seen) × SeenTo l.ids l.seen l.slot
-
-abbrev pub decreases-loop-slot : goal.decreases-loop-slot
-decreases-loop-slot l = l.slots - l.slot

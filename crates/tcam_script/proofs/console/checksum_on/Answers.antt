@@ -1,4 +1,4 @@
-use Rattle.std.proofs.Common.{arith, refl, ap, ◌∙◌, ◌+◌, ◌*◌, ◌%◌, ℕ, get_or}
+use Rattle.std.proofs.Common.{arith, refl, ap₂, ◌∙◌, ◌+◌, ◌*◌, ◌%◌, ℕ}
 use Rattle.tcam_script.specs.Checksum.{modulus, checksum_on}
 use Rattle.tcam_script.proofs.ChecksumLaws.{checksum_next}
 use Rattle.tcam_script.proofs.console.checksum_on.Goals as goal
@@ -11,4 +11,4 @@ pub loop-at-preserved : goal.loop-at-preserved
 loop-at-preserved c =
     let turn = c.loop-at in
     let next = checksum_next c.args.before c.args.bytes.now turn.at (omega (arith, c.requires)) in
-    (omega arith, ap (λ (sum : ℕ). sum % modulus * 256 + get_or c.args.bytes.now turn.at 0) turn.invariant.1 ∙ next)
+    (omega arith, ap₂ (λ (sum byte : ℕ). sum % modulus * 256 + byte) turn.invariant.1 c.from.ensures ∙ next)
