@@ -12,12 +12,6 @@ use slots::{mask_word, slot_count, value_word};
 // The bit places of a value at the larger width.
 pub const WIDE_PLACES: usize = 320;
 
-fn at_most(number: u32, top: u32) -> u32
-    ensures { result ≤ top }
-{
-    if number < top { number } else { top }
-}
-
 // The bits of a word added to the counts of its 64 places. Bit k of a count stands in plane k: 64 counts are added to at once.
 fn count_bits(planes: &mut [u64], word: u64)
     requires { 6 ≤ length planes.old }
@@ -40,7 +34,7 @@ fn count_at(planes: &[u64], s: usize) -> u32
     (low + 8 * high) as u32
 }
 
-// Of up to 32 slots that are as far apart, those that have a 1 at each place of a word of their values, and those that care there with a 0.
+// Of up to 32 slots, equally far apart, those that have a 1 at each place of a word of their values, and those that care there with a 0.
 fn count_word(table: &[u64], word: usize, ones: &mut [u64], zeros: &mut [u64], width: usize)
     requires { (Width width) × (slots width table.now ≤ most_slots) × (word < width) × (6 ≤ length ones.old) × (6 ≤ length zeros.old) }
 {
@@ -61,7 +55,7 @@ fn score_word(table: &[u64], scores: &mut [u16], word: usize, width: usize)
     let mut zeros = [0u64; 6];
     count_word(table, word, &mut ones, &mut zeros, width);
     for s in 0..64 {
-        scores[64 * word + s] = at_most(count_at(&ones, s) * count_at(&zeros, s), 256) as u16;
+        scores[64 * word + s] = (count_at(&ones, s) * count_at(&zeros, s)).min(256) as u16;
     }
 }
 

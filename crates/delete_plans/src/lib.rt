@@ -20,10 +20,7 @@ fn has_id(table: &[u64], slot: usize, id: u64, width: usize) -> bool
     requires { (Width width) × (slot < slots width table.now) }
     ensures { result ≡ has_id width table.now id slot }
 {
-    if slot_id(table, slot, width) == id {
-        return !slot_empty(table, slot, width);
-    }
-    false
+    slot_id(table, slot, width) == id && !slot_empty(table, slot, width)
 }
 
 // The lowest slot that holds the rule with this id, or the number of slots.

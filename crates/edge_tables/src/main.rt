@@ -179,10 +179,6 @@ fn ids(table: &mut [u64]) {
     show_lookup(table, [3, 0]);
 }
 
-fn wide(word: u32) -> u64 {
-    word as u64
-}
-
 // Prints a planning call's answer and the buffer's first two words, which keep their filler where nothing is written.
 fn show_plan(answer: Result<PlanInfo, Refusal>, plan: &[u32]) {
     match answer {
@@ -195,10 +191,10 @@ fn show_plan(answer: Result<PlanInfo, Refusal>, plan: &[u32]) {
     }
     io::write_all(1, b"B");
     if 0 < plan.len() {
-        number(wide(plan[0]));
+        number(u64::from(plan[0]));
     }
     if 1 < plan.len() {
-        number(wide(plan[1]));
+        number(u64::from(plan[1]));
     }
     io::write_all(1, b"\n");
 }

@@ -104,6 +104,7 @@ fn put_pattern_by(image: &[u8], at: usize, table: &mut [u64], first: usize, widt
 }
 
 // The same, with the width a constant for the compiler: it makes a copy for each.
+// Not by `at_width`: it does not say what its work leaves in the lent arrays.
 fn put_pattern(image: &[u8], at: usize, table: &mut [u64], first: usize, width: usize)
     requires { (Width width) × (at + 16 * width ≤ length image.now) × (first + 2 * width ≤ length table.old) }
     ensures { table.new ≡ store table.old first (listed (2 * width) (body_word image.now at)) }
@@ -201,14 +202,10 @@ fn body_ranked(image: &[u8], at: usize, width: usize) -> bool
     ensures { result ≡ rank_fits width (number_at image.now (at + 16 * width) 4) (mask width (body_word image.now at)) }
 {
     let upper = number_at(image, at + 16 * width, 2);
-    if upper == 0 {
-        return true;
-    }
-    let lower = number_at(image, at + 16 * width + 2, 2);
-    if (upper == 1) & (lower == 0) {
-        return body_full(image, at, width);
-    }
-    false
+    upper == 0
+        || (upper == 1
+            && number_at(image, at + 16 * width + 2, 2) == 0
+            && body_full(image, at, width))
 }
 
 // Whether the rank and value of a body, which starts at an offset, are a sound record's.
@@ -217,10 +214,7 @@ fn body_sound(image: &[u8], at: usize, width: usize) -> bool
     ensures { result ≡ (rank_fits width (number_at image.now (at + 16 * width) 4) (mask width (body_word image.now at))
         && within width (body_word image.now at) (mask width (body_word image.now at))) }
 {
-    if body_ranked(image, at, width) {
-        return body_within(image, at, width);
-    }
-    false
+    body_ranked(image, at, width) && body_within(image, at, width)
 }
 
 // A body: its value and rank are a sound record's. Its id, of the contents, has passed.

@@ -55,13 +55,6 @@ fn costs_along(
     fill_costs(ends, costs, slots);
 }
 
-// A, where there is one: the first slot of the range going up.
-fn slot_before(after: usize) -> usize
-    ensures { result ≡ after - 1 }
-{
-    if 0 < after { after - 1 } else { 0 }
-}
-
 // The choice within the ranges A + 1 to B going down and A to B − 1 going up, by A + 1 and B.
 fn choose_insert(
     slots: usize,
@@ -79,7 +72,8 @@ fn choose_insert(
         to: dependant + 1,
     };
     let above = SlotRange {
-        from: slot_before(after),
+        // A, where there is one.
+        from: after.saturating_sub(1),
         to: dependant,
     };
     choose(down, up, slots, below, above)

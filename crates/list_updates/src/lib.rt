@@ -23,10 +23,8 @@ fn rule_precedes(table: &[u64], slot: usize, other: usize, mode: Mode) -> bool
     requires { (Width mode.width) × (slot < slots mode.width table.now) × (other < slots mode.width table.now) × (check_records mode.width table.now ≡ Pass) }
     ensures { result ≡ precedes_slot mode.width mode.uncounted table.now slot other }
 {
-    if slot_rank(table, slot, mode.width) <= slot_rank(table, other, mode.width) {
-        return false;
-    }
-    rules_overlap(table, slot, table, other, mode)
+    slot_rank(table, slot, mode.width) > slot_rank(table, other, mode.width)
+        && rules_overlap(table, slot, table, other, mode)
 }
 
 // Whether the rule in another slot bounds a slot's along a direction: going down it depends on it, going up it precedes it.
@@ -45,10 +43,7 @@ fn bounded_at(table: &[u64], slot: usize, other: usize, up: bool, mode: Mode) ->
     requires { (Width mode.width) × (slot < slots mode.width table.now) × (other < slots mode.width table.now) × (check_records mode.width table.now ≡ Pass) }
     ensures { result ≡ bounded_by mode.width mode.uncounted table.now up slot other }
 {
-    if !may_overlap(table, other, table, slot, mode.width) {
-        return false;
-    }
-    bounded_by(table, slot, other, up, mode)
+    may_overlap(table, other, table, slot, mode.width) && bounded_by(table, slot, other, up, mode)
 }
 
 // The nearest slot from a position on whose rule bounds a slot's, or none.
@@ -71,7 +66,7 @@ fn reaches(number: u16, slot: usize, up: bool) -> bool
     requires { slot < most_slots }
     ensures { result ≡ reaches_slot up number slot }
 {
-    if up & (number != NO_NUMBER) {
+    if up && number != NO_NUMBER {
         return number as usize <= slot;
     }
     slot <= number as usize
@@ -121,19 +116,11 @@ fn asks(
     requires { (Width width) × (slots width table.now ≤ most_slots) × (slot < slots width table.now) × (written < slots width table.now) × (check_records width table.now ≡ Pass) }
     ensures { result ≡ asks_number width table.now number slot written vacant up }
 {
-    if number as usize == written {
-        return true;
-    }
-    if vacant {
-        return false;
-    }
-    if !reaches(number, written, up) {
-        return false;
-    }
-    if !may_overlap(table, slot, table, written, width) {
-        return false;
-    }
-    !slot_vacant(table, slot, width)
+    number as usize == written
+        || (!vacant
+            && reaches(number, written, up)
+            && may_overlap(table, slot, table, written, width)
+            && !slot_vacant(table, slot, width))
 }
 
 // Skips positions whose slots are not asked again, up to that of the written slot.

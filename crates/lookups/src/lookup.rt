@@ -58,22 +58,15 @@ fn shown_at(table: &[u64], slot: usize, width: usize) -> bool
     requires { Width width }
     ensures { result ≡ shown width table.now slot }
 {
-    if check_slots(table, width).is_err() {
-        return false;
-    }
-    if slot < slot_count(table, width) {
-        return !slot_empty(table, slot, width);
-    }
-    false
+    check_slots(table, width).is_ok()
+        && slot < slot_count(table, width)
+        && !slot_empty(table, slot, width)
 }
 
 fn slot_shown(table: &[u64], slot: usize, width: usize) -> bool
     ensures { result ≡ shown_call width table.now slot }
 {
-    if check_width(width).is_err() {
-        return false;
-    }
-    shown_at(table, slot, width)
+    check_width(width).is_ok() && shown_at(table, slot, width)
 }
 
 // A slot's record as that part of the table; the empty part at the table's start where it is not shown.

@@ -308,19 +308,22 @@ taken_listed w u t places near full free low maps small taken i h =
     (taken.nexts i h ∙ rw (sym (add-one i)) (seen_first (precedes_slot w u t i) (i + 1) (slots w t) (omega arith) small), taken.befores i h)
 
 -- room is kept with the lengths of the working arrays
-pub room_kept : (w n : ℕ) (near maps places : List ℕ) (count : ℕ) (chosen starts others own near' maps' others' own' : List ℕ)
-    → length near' ≡ length near → length maps' ≡ length maps
+pub room_kept : (w n : ℕ) (near full free low maps places : List ℕ) (count : ℕ) (chosen starts others own near' full' free' low' maps' others' own' : List ℕ)
+    → length near' ≡ length near → length full' ≡ length full → length free' ≡ length free → length low' ≡ length low → length maps' ≡ length maps
     → length others' ≡ length others → length own' ≡ length own
-    → Room w n near maps places count chosen starts others own
-    → Room w n near' maps' places count chosen starts others' own'
-room_kept w n near maps places count chosen starts others own near' maps' others' own' a b c d room = record {
+    → Room w n near full free low maps places count chosen starts others own
+    → Room w n near' full' free' low' maps' places count chosen starts others' own'
+room_kept w n near full free low maps places count chosen starts others own near' full' free' low' maps' others' own' a b c d e f g room = record {
   numbers = rw a room.numbers;
-  rows = rw b room.rows;
+  blocks = rw b room.blocks;
+  blocks_free = rw c room.blocks_free;
+  blocks_low = rw d room.blocks_low;
+  rows = rw e room.rows;
   few = room.few;
   words = room.words;
   by_place = room.by_place;
-  row_others = rw c room.row_others;
-  row_own = rw d room.row_own;
+  row_others = rw f room.row_others;
+  row_own = rw g room.row_own;
   inside = room.inside;
   bits = room.bits;
   spread = room.spread;

@@ -16,8 +16,11 @@ pub record Taken (w : ℕ) (u : Bool) (t places near full free low maps : List �
   pub screen : Screen w t places maps j
 
 -- working arrays long enough for n slots and a number of places; the places within a value of w words, and spread
-pub record Room (w n : ℕ) (near maps places : List ℕ) (count : ℕ) (chosen starts others own : List ℕ) : Type 0 where
+pub record Room (w n : ℕ) (near full free low maps places : List ℕ) (count : ℕ) (chosen starts others own : List ℕ) : Type 0 where
   pub numbers : 2 * n ≤ length near
+  pub blocks : 16 ≤ length full
+  pub blocks_free : 16 ≤ length free
+  pub blocks_low : 16 ≤ length low
   pub rows : 32 * count ≤ length maps
   pub few : count ≤ 64
   pub words : w ≤ length chosen

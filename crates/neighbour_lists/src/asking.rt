@@ -1,4 +1,5 @@
 // One slot against the earlier ones, in blocks of 64 going down, the highest slot of a block first.
+// full: the rules before the slot; free: those of them without a dependant yet; low: for each block a number that no rank of its rules is below.
 ghost use Rattle.std.specs.Prelude.{◌≡◌, true, false, ℕ, ◌+◌, ◌*◌, ◌/◌, ◌<◌, ◌≤◌, length, get_or};
 ghost use Rattle.records.specs.Record.{most_slots};
 ghost use Rattle.records.specs.Order.{slots};
@@ -14,28 +15,25 @@ use pairs::{rules_overlap, slots_overlap};
 use records::{Mode, NO_NUMBER};
 use slots::slot_rank;
 
-// For each block the rules before the slot, those of them without a dependant yet, and a number that no rank of its rules is below.
-#[derive(Drop)]
-pub struct Blocks {
-    pub full: [u64; 16],
-    pub free: [u64; 16],
-    pub low: [u64; 16],
-}
-
 // The slots of a block that are to be asked. Once the later slot has its preceding rule, a block of higher ranks has nothing to
 // tell but to the rules that have no dependant.
-fn needed(near: &[u16], blocks: &Blocks, block: usize, later: usize, rank: u64) -> u64
-    requires { (2 * later + 1 < length near.now) × (block < 16) }
-    ensures { result ≡ needed_bits near.now blocks.now.full blocks.now.free blocks.now.low block later rank }
+fn needed(
+    near: &[u16],
+    full: &[u64],
+    free: &[u64],
+    low: &[u64],
+    block: usize,
+    later: usize,
+    rank: u64,
+) -> u64
+    requires { (2 * later + 1 < length near.now) × (block < length full.now) × (block < length free.now) × (block < length low.now) }
+    ensures { result ≡ needed_bits near.now full.now free.now low.now block later rank }
 {
     let before = near[2 * later + 1];
-    if before == NO_NUMBER {
-        return blocks.full[block];
+    if before == NO_NUMBER || low[block] <= rank {
+        return full[block];
     }
-    if blocks.low[block] <= rank {
-        return blocks.full[block];
-    }
-    blocks.free[block]
+    free[block]
 }
 
 // Whether nothing is left to learn from a pair: the later slot has its preceding rule, the earlier one its dependant, and their ranks fall.
@@ -43,13 +41,9 @@ fn settled(table: &[u64], near: &[u16], slot: usize, later: usize, rank: u64, mo
     requires { (Width mode.width) × (slot < later) × (later < slots mode.width table.now) × (2 * later + 1 < length near.now) }
     ensures { result ≡ settled_pair near.now slot later (rank_at mode.width table.now slot) rank }
 {
-    if near[2 * later + 1] == NO_NUMBER {
-        return false;
-    }
-    if slot_rank(table, slot, mode.width) <= rank {
-        return false;
-    }
-    near[2 * slot] != NO_NUMBER
+    near[2 * later + 1] != NO_NUMBER
+        && slot_rank(table, slot, mode.width) > rank
+        && near[2 * slot] != NO_NUMBER
 }
 
 // A pair whose first rule precedes the second: each number is kept where there was none.
@@ -100,10 +94,8 @@ fn quiet(table: &[u64], near: &[u16], slot: usize, later: usize, rank: u64, mode
     requires rank_value { rank ≡ rank_at mode.width table.now later }
     ensures { result ≡ true → Quiet (precedes_slot mode.width mode.uncounted table.now) (misordered_slots mode.width mode.uncounted table.now) near.now later slot }
 {
-    if settled(table, near, slot, later, rank, mode) {
-        return true;
-    }
-    !slots_overlap(table, slot, table, later, mode.width)
+    settled(table, near, slot, later, rank, mode)
+        || !slots_overlap(table, slot, table, later, mode.width)
 }
 
 // The bits of a block left once quiet pairs are dropped, from the highest on, up to the first that is to be asked.
@@ -136,7 +128,9 @@ fn skip_quiet(
 fn ask_block(
     table: &[u64],
     near: &mut [u16],
-    blocks: &mut Blocks,
+    full: &[u64],
+    free: &mut [u64],
+    low: &[u64],
     block: usize,
     some: u64,
     later: usize,
@@ -144,28 +138,19 @@ fn ask_block(
     before: bool,
     mode: Mode,
 ) -> bool
-    requires width { (Width mode.width) × (later < slots mode.width table.now) × (later < most_slots) × (2 * later + 1 < length near.old) × (block < 16) }
+    requires width { (Width mode.width) × (later < slots mode.width table.now) × (later < most_slots) × (2 * later + 1 < length near.old) × (16 ≤ length full.now) × (16 ≤ length free.old) × (16 ≤ length low.now) × (block < 16) }
     requires table_value { (check_records mode.width table.now ≡ Pass) × (rank ≡ rank_at mode.width table.now later) × Inside later block some }
     requires in_row { InRow (precedes_slot mode.width mode.uncounted table.now) (misordered_slots mode.width mode.uncounted table.now) near.old later block some before }
-    requires marks { Marks (rank_at mode.width table.now) (occupied_at mode.width table.now) near.old blocks.old.full blocks.old.free blocks.old.low later }
+    requires marks { Marks (rank_at mode.width table.now) (occupied_at mode.width table.now) near.old full.now free.old low.now later }
     ensures in_row_2 { InRow (precedes_slot mode.width mode.uncounted table.now) (misordered_slots mode.width mode.uncounted table.now) near.new later block 0 result }
-    ensures marks_2 { Marks (rank_at mode.width table.now) (occupied_at mode.width table.now) near.new blocks.new.full blocks.new.free blocks.new.low later }
-    ensures kept { (blocks.new.full ≡ blocks.old.full) × (blocks.new.low ≡ blocks.old.low) × (length blocks.new.free ≡ length blocks.old.free) }
+    ensures marks_2 { Marks (rank_at mode.width table.now) (occupied_at mode.width table.now) near.new full.now free.new low.now later }
 {
     let mut left = some;
     let mut bad = before;
     while left != 0 {
         let t = top(left);
-        bad = ask_pair(
-            table,
-            near,
-            &mut blocks.free,
-            64 * block + t,
-            later,
-            rank,
-            mode,
-        ) | bad;
-        let rest = drop_bit(left, t) & needed(near, blocks, block, later, rank);
+        bad = ask_pair(table, near, free, 64 * block + t, later, rank, mode) | bad;
+        let rest = drop_bit(left, t) & needed(near, full, free, low, block, later, rank);
         left = skip_quiet(table, near, block, rest, later, rank, mode);
     }
     bad
@@ -175,7 +160,9 @@ fn ask_block(
 fn ask_some(
     table: &[u64],
     near: &mut [u16],
-    blocks: &mut Blocks,
+    full: &[u64],
+    free: &mut [u64],
+    low: &[u64],
     maps: &[u64],
     rows: &[usize],
     block: usize,
@@ -184,17 +171,16 @@ fn ask_some(
     before: bool,
     mode: Mode,
 ) -> bool
-    requires width { (Width mode.width) × (later < slots mode.width table.now) × (later < most_slots) × (2 * later + 1 < length near.old) × (block < 16) }
+    requires width { (Width mode.width) × (later < slots mode.width table.now) × (later < most_slots) × (2 * later + 1 < length near.old) × (16 ≤ length full.now) × (16 ≤ length free.old) × (16 ≤ length low.now) × (block < 16) }
     requires table_value { (check_records mode.width table.now ≡ Pass) × (rank ≡ rank_at mode.width table.now later) }
     requires in_row { InRow (precedes_slot mode.width mode.uncounted table.now) (misordered_slots mode.width mode.uncounted table.now) near.old later (block + 1) 0 before }
-    requires marks { Marks (rank_at mode.width table.now) (occupied_at mode.width table.now) near.old blocks.old.full blocks.old.free blocks.old.low later }
+    requires marks { Marks (rank_at mode.width table.now) (occupied_at mode.width table.now) near.old full.now free.old low.now later }
     requires by_index { (m : ℕ) → m < length rows.now → get_or rows.now m 0 + 16 ≤ length maps.now }
     requires tells { Tells (precedes_slot mode.width mode.uncounted table.now) (misordered_slots mode.width mode.uncounted table.now) maps.now rows.now (length rows.now) later }
     ensures in_row_2 { InRow (precedes_slot mode.width mode.uncounted table.now) (misordered_slots mode.width mode.uncounted table.now) near.new later block 0 result }
-    ensures marks_2 { Marks (rank_at mode.width table.now) (occupied_at mode.width table.now) near.new blocks.new.full blocks.new.free blocks.new.low later }
-    ensures kept { (blocks.new.full ≡ blocks.old.full) × (blocks.new.low ≡ blocks.old.low) × (length blocks.new.free ≡ length blocks.old.free) }
+    ensures marks_2 { Marks (rank_at mode.width table.now) (occupied_at mode.width table.now) near.new full.now free.new low.now later }
 {
-    let some = needed(near, blocks, block, later, rank);
+    let some = needed(near, full, free, low, block, later, rank);
     if some == 0 {
         return before;
     }
@@ -202,7 +188,9 @@ fn ask_some(
     ask_block(
         table,
         near,
-        blocks,
+        full,
+        free,
+        low,
         block,
         lacking(some, apart),
         later,
@@ -216,27 +204,28 @@ fn ask_some(
 pub fn ask_row(
     table: &[u64],
     near: &mut [u16],
-    blocks: &mut Blocks,
+    full: &[u64],
+    free: &mut [u64],
+    low: &[u64],
     maps: &[u64],
     rows: &[usize],
     later: usize,
     mode: Mode,
 ) -> bool
-    requires width { (Width mode.width) × (later < slots mode.width table.now) × (later < most_slots) × (2 * later + 1 < length near.old) }
+    requires width { (Width mode.width) × (later < slots mode.width table.now) × (later < most_slots) × (2 * later + 1 < length near.old) × (16 ≤ length full.now) × (16 ≤ length free.old) × (16 ≤ length low.now) }
     requires table_value { check_records mode.width table.now ≡ Pass }
     requires in_row { InRow (precedes_slot mode.width mode.uncounted table.now) (misordered_slots mode.width mode.uncounted table.now) near.old later (later / 64 + 1) 0 false }
-    requires marks { Marks (rank_at mode.width table.now) (occupied_at mode.width table.now) near.old blocks.old.full blocks.old.free blocks.old.low later }
+    requires marks { Marks (rank_at mode.width table.now) (occupied_at mode.width table.now) near.old full.now free.old low.now later }
     requires by_index { (m : ℕ) → m < length rows.now → get_or rows.now m 0 + 16 ≤ length maps.now }
     requires tells { Tells (precedes_slot mode.width mode.uncounted table.now) (misordered_slots mode.width mode.uncounted table.now) maps.now rows.now (length rows.now) later }
     ensures in_row_2 { InRow (precedes_slot mode.width mode.uncounted table.now) (misordered_slots mode.width mode.uncounted table.now) near.new later 0 0 result }
-    ensures marks_2 { Marks (rank_at mode.width table.now) (occupied_at mode.width table.now) near.new blocks.new.full blocks.new.free blocks.new.low later }
-    ensures kept { (blocks.new.full ≡ blocks.old.full) × (blocks.new.low ≡ blocks.old.low) × (length blocks.new.free ≡ length blocks.old.free) }
+    ensures marks_2 { Marks (rank_at mode.width table.now) (occupied_at mode.width table.now) near.new full.now free.new low.now later }
 {
     let rank = slot_rank(table, later, mode.width);
     let mut bad = false;
     for block in (0..later / 64 + 1).rev() {
         bad = ask_some(
-            table, near, blocks, maps, rows, block, later, rank, bad, mode,
+            table, near, full, free, low, maps, rows, block, later, rank, bad, mode,
         );
     }
     bad

@@ -11,7 +11,7 @@ ghost use Rattle.bitmaps.specs.Flags.{marked};
 ghost use Rattle.neighbour_lists.specs.Lists.{Listed};
 ghost use Rattle.neighbour_lists.specs.Pass.{lowered, Taken, Room};
 
-use crate::asking::{Blocks, ask_row};
+use crate::asking::ask_row;
 use bitmaps::bits::mark;
 use bitmaps::maps::{fill_rows, note_rows};
 use bitmaps::places::{WIDE_PLACES, choose_places, spread_places};
@@ -19,17 +19,17 @@ use records::{Mode, NO_NUMBER, WIDE};
 use slots::{slot_count, slot_rank, slot_vacant};
 
 // A rule noted for the slots after it.
-fn note_rule(blocks: &mut Blocks, slot: usize, rank: u64)
-    requires { slot < most_slots }
-    ensures full_after { blocks.new.full ≡ marked blocks.old.full slot }
-    ensures free_after { blocks.new.free ≡ marked blocks.old.free slot }
-    ensures low_after { blocks.new.low ≡ lowered blocks.old.low slot rank }
+fn note_rule(full: &mut [u64], free: &mut [u64], low: &mut [u64], slot: usize, rank: u64)
+    requires { (slot < most_slots) × (16 ≤ length full.old) × (16 ≤ length free.old) × (16 ≤ length low.old) }
+    ensures full_after { full.new ≡ marked full.old slot }
+    ensures free_after { free.new ≡ marked free.old slot }
+    ensures low_after { low.new ≡ lowered low.old slot rank }
 {
-    mark(&mut blocks.full, slot);
-    mark(&mut blocks.free, slot);
+    mark(full, slot);
+    mark(free, slot);
     let block = slot / 64;
-    if rank < blocks.low[block] {
-        blocks.low[block] = rank;
+    if rank < low[block] {
+        low[block] = rank;
     }
 }
 
@@ -37,7 +37,9 @@ fn note_rule(blocks: &mut Blocks, slot: usize, rank: u64)
 fn take_rule(
     table: &[u64],
     near: &mut [u16],
-    blocks: &mut Blocks,
+    full: &mut [u64],
+    free: &mut [u64],
+    low: &mut [u64],
     maps: &mut [u64],
     places: &[usize],
     chosen: &[u64],
@@ -48,10 +50,10 @@ fn take_rule(
     mode: Mode,
 ) -> bool
     requires width { (Width mode.width) × (slots mode.width table.now ≤ most_slots) × (slot < slots mode.width table.now) × (check_records mode.width table.now ≡ Pass) }
-    requires room { Room mode.width (slots mode.width table.now) near.old maps.old places.now (length places.now) chosen.now starts.now others.old own.old }
-    requires taken { Taken mode.width mode.uncounted table.now places.now near.old blocks.old.full blocks.old.free blocks.old.low maps.old slot }
+    requires room { Room mode.width (slots mode.width table.now) near.old full.old free.old low.old maps.old places.now (length places.now) chosen.now starts.now others.old own.old }
+    requires taken { Taken mode.width mode.uncounted table.now places.now near.old full.old free.old low.old maps.old slot }
     ensures value { result ≡ disorder_at mode.width mode.uncounted table.now slot }
-    ensures taken_2 { Taken mode.width mode.uncounted table.now places.now near.new blocks.new.full blocks.new.free blocks.new.low maps.new (slot + 1) }
+    ensures taken_2 { Taken mode.width mode.uncounted table.now places.now near.new full.new free.new low.new maps.new (slot + 1) }
 {
     near[2 * slot + 1] = NO_NUMBER;
     let used = fill_rows(
@@ -65,11 +67,21 @@ fn take_rule(
         own,
         mode.width,
     );
-    let bad = ask_row(table, near, blocks, maps, &others[..used], slot, mode);
+    let bad = ask_row(
+        table,
+        near,
+        full,
+        free,
+        low,
+        maps,
+        &others[..used],
+        slot,
+        mode,
+    );
     // Stored after the row, which promises nothing of this number.
     near[2 * slot] = NO_NUMBER;
     note_rows(maps, &own[..used], slot);
-    note_rule(blocks, slot, slot_rank(table, slot, mode.width));
+    note_rule(full, free, low, slot, slot_rank(table, slot, mode.width));
     bad
 }
 
@@ -77,7 +89,9 @@ fn take_rule(
 fn take_slot(
     table: &[u64],
     near: &mut [u16],
-    blocks: &mut Blocks,
+    full: &mut [u64],
+    free: &mut [u64],
+    low: &mut [u64],
     maps: &mut [u64],
     places: &[usize],
     chosen: &[u64],
@@ -88,10 +102,10 @@ fn take_slot(
     mode: Mode,
 ) -> bool
     requires width { (Width mode.width) × (slots mode.width table.now ≤ most_slots) × (slot < slots mode.width table.now) × (check_records mode.width table.now ≡ Pass) }
-    requires room { Room mode.width (slots mode.width table.now) near.old maps.old places.now (length places.now) chosen.now starts.now others.old own.old }
-    requires taken { Taken mode.width mode.uncounted table.now places.now near.old blocks.old.full blocks.old.free blocks.old.low maps.old slot }
+    requires room { Room mode.width (slots mode.width table.now) near.old full.old free.old low.old maps.old places.now (length places.now) chosen.now starts.now others.old own.old }
+    requires taken { Taken mode.width mode.uncounted table.now places.now near.old full.old free.old low.old maps.old slot }
     ensures value { result ≡ disorder_at mode.width mode.uncounted table.now slot }
-    ensures taken_2 { Taken mode.width mode.uncounted table.now places.now near.new blocks.new.full blocks.new.free blocks.new.low maps.new (slot + 1) }
+    ensures taken_2 { Taken mode.width mode.uncounted table.now places.now near.new full.new free.new low.new maps.new (slot + 1) }
 {
     if slot_vacant(table, slot, mode.width) {
         near[2 * slot + 1] = NO_NUMBER;
@@ -99,7 +113,7 @@ fn take_slot(
         return false;
     }
     take_rule(
-        table, near, blocks, maps, places, chosen, starts, others, own, slot, mode,
+        table, near, full, free, low, maps, places, chosen, starts, others, own, slot, mode,
     )
 }
 
@@ -107,7 +121,9 @@ fn take_slot(
 fn take_slots(
     table: &[u64],
     near: &mut [u16],
-    blocks: &mut Blocks,
+    full: &mut [u64],
+    free: &mut [u64],
+    low: &mut [u64],
     maps: &mut [u64],
     places: &[usize],
     chosen: &[u64],
@@ -117,8 +133,8 @@ fn take_slots(
     mode: Mode,
 ) -> usize
     requires width { (Width mode.width) × (slots mode.width table.now ≤ most_slots) × (check_records mode.width table.now ≡ Pass) }
-    requires room { Room mode.width (slots mode.width table.now) near.old maps.old places.now (length places.now) chosen.now starts.now others.old own.old }
-    requires taken { Taken mode.width mode.uncounted table.now places.now near.old blocks.old.full blocks.old.free blocks.old.low maps.old 0 }
+    requires room { Room mode.width (slots mode.width table.now) near.old full.old free.old low.old maps.old places.now (length places.now) chosen.now starts.now others.old own.old }
+    requires taken { Taken mode.width mode.uncounted table.now places.now near.old full.old free.old low.old maps.old 0 }
     ensures value { result ≡ least (disorder_at mode.width mode.uncounted table.now) (slots mode.width table.now) 0 }
     ensures listed { Listed mode.width mode.uncounted table.now near.new }
 {
@@ -126,7 +142,7 @@ fn take_slots(
     let mut first = 0;
     for slot in 0..slots {
         let bad = take_slot(
-            table, near, blocks, maps, places, chosen, starts, others, own, slot, mode,
+            table, near, full, free, low, maps, places, chosen, starts, others, own, slot, mode,
         );
         if (first == slot) & !bad {
             first += 1;
@@ -152,19 +168,18 @@ fn pass_with(
     ensures value { result ≡ least (disorder_at mode.width mode.uncounted table.now) (slots mode.width table.now) 0 }
     ensures listed { Listed mode.width mode.uncounted table.now near.new }
 {
-    // No rank is higher than 65536: a block without rules has none below it.
-    let mut blocks = Blocks {
-        full: [0u64; 16],
-        free: [0u64; 16],
-        low: [65536u64; 16],
-    };
-    // Two arrays, not a struct of both: with that one the pass takes up to 1.5 % more instructions.
+    let mut full = [0u64; 16];
+    let mut free = [0u64; 16];
+    // no rank is higher: a block without rules has none below it
+    let mut low = [65536u64; 16];
     let mut others = [0usize; 64];
     let mut own = [0usize; 64];
     take_slots(
         table,
         near,
-        &mut blocks,
+        &mut full,
+        &mut free,
+        &mut low,
         maps,
         places,
         chosen,

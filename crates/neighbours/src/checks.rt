@@ -70,7 +70,7 @@ pub fn check_tie(table: &[u64], new: &[u64], mode: Mode) -> Result<(), Refusal>
             new,
             Mode {
                 width: NARROW,
-                uncounted: mode.uncounted,
+                ..mode
             },
         );
     }
@@ -79,7 +79,7 @@ pub fn check_tie(table: &[u64], new: &[u64], mode: Mode) -> Result<(), Refusal>
         new,
         Mode {
             width: WIDE,
-            uncounted: mode.uncounted,
+            ..mode
         },
     )
 }
@@ -115,7 +115,7 @@ fn after_a_by(table: &[u64], new: &[u64], mode: Mode) -> usize
     0
 }
 
-// The same, with the width a constant for the compiler, which may make a copy for each.
+// The same, with the width a constant for the compiler, which may make a copy for each; not by `at_width`, as for check 8.
 pub fn after_a(table: &[u64], new: &[u64], mode: Mode) -> usize
     requires { (Width mode.width) × (length new.now ≡ record_words mode.width) × (check_records mode.width table.now ≡ Pass) × (check_records mode.width new.now ≡ Pass) }
     ensures { result ≡ after_a mode.width mode.uncounted table.now (slot_words mode.width new.now 0) }
@@ -126,7 +126,7 @@ pub fn after_a(table: &[u64], new: &[u64], mode: Mode) -> usize
             new,
             Mode {
                 width: NARROW,
-                uncounted: mode.uncounted,
+                ..mode
             },
         );
     }
@@ -135,7 +135,7 @@ pub fn after_a(table: &[u64], new: &[u64], mode: Mode) -> usize
         new,
         Mode {
             width: WIDE,
-            uncounted: mode.uncounted,
+            ..mode
         },
     )
 }
@@ -154,7 +154,7 @@ fn slot_b_by(table: &[u64], new: &[u64], mode: Mode) -> usize
     slots
 }
 
-// The same, with the width a constant for the compiler, which may make a copy for each.
+// The same, with the width a constant for the compiler, which may make a copy for each; not by `at_width`, as for check 8.
 pub fn slot_b(table: &[u64], new: &[u64], mode: Mode) -> usize
     requires { (Width mode.width) × (length new.now ≡ record_words mode.width) × (check_records mode.width table.now ≡ Pass) × (check_records mode.width new.now ≡ Pass) }
     ensures { result ≡ slot_b mode.width mode.uncounted table.now (slot_words mode.width new.now 0) }
@@ -165,7 +165,7 @@ pub fn slot_b(table: &[u64], new: &[u64], mode: Mode) -> usize
             new,
             Mode {
                 width: NARROW,
-                uncounted: mode.uncounted,
+                ..mode
             },
         );
     }
@@ -174,7 +174,7 @@ pub fn slot_b(table: &[u64], new: &[u64], mode: Mode) -> usize
         new,
         Mode {
             width: WIDE,
-            uncounted: mode.uncounted,
+            ..mode
         },
     )
 }
@@ -207,7 +207,7 @@ fn replaced_slot_by(table: &[u64], new: &[u64], mode: Mode) -> usize
     slots
 }
 
-// The same, with the width a constant for the compiler: it makes a copy for each.
+// The same, with the width a constant for the compiler, which may make a copy for each; not by `at_width`, as for check 8.
 fn replaced_slot(table: &[u64], new: &[u64], mode: Mode) -> usize
     requires { (Width mode.width) × (length new.now ≡ record_words mode.width) }
     ensures { result ≡ replaced_slot mode.width mode.uncounted table.now (slot_words mode.width new.now 0) }
@@ -218,7 +218,7 @@ fn replaced_slot(table: &[u64], new: &[u64], mode: Mode) -> usize
             new,
             Mode {
                 width: NARROW,
-                uncounted: mode.uncounted,
+                ..mode
             },
         );
     }
@@ -227,7 +227,7 @@ fn replaced_slot(table: &[u64], new: &[u64], mode: Mode) -> usize
         new,
         Mode {
             width: WIDE,
-            uncounted: mode.uncounted,
+            ..mode
         },
     )
 }

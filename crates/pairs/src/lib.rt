@@ -42,10 +42,8 @@ pub fn may_overlap(table: &[u64], slot: usize, others: &[u64], other: usize, wid
     requires { (Width width) × (slot < slots width table.now) × (other < slots width others.now) }
     ensures { result ≡ (overlap_at width (slot_words width table.now slot) (slot_words width others.now other) 0 && overlap_at width (slot_words width table.now slot) (slot_words width others.now other) 1) }
 {
-    if word_overlaps(table, slot, others, other, 0, width) {
-        return word_overlaps(table, slot, others, other, 1, width);
-    }
-    false
+    word_overlaps(table, slot, others, other, 0, width)
+        && word_overlaps(table, slot, others, other, 1, width)
 }
 
 // Whether a slot's mask has no bit in one word that another's has not.
@@ -117,11 +115,7 @@ pub fn both_occupied(table: &[u64], slot: usize, others: &[u64], other: usize, w
     requires { (Width width) × (slot < slots width table.now) × (other < slots width others.now) }
     ensures { result ≡ (occupied width (slot_words width table.now slot) && occupied width (slot_words width others.now other)) }
 {
-    if slot_empty(table, slot, width) {
-        return false;
-    }
-    let vacant = slot_empty(others, other, width);
-    !vacant
+    !slot_empty(table, slot, width) && !slot_empty(others, other, width)
 }
 
 // Whether one id stands in both slots.
@@ -129,10 +123,8 @@ pub fn same_id(table: &[u64], slot: usize, others: &[u64], other: usize, width: 
     requires { (Width width) × (slot < slots width table.now) × (other < slots width others.now) }
     ensures { result ≡ same_id width (slot_words width table.now slot) (slot_words width others.now other) }
 {
-    if slot_id(table, slot, width) == slot_id(others, other, width) {
-        return both_occupied(table, slot, others, other, width);
-    }
-    false
+    slot_id(table, slot, width) == slot_id(others, other, width)
+        && both_occupied(table, slot, others, other, width)
 }
 
 // Whether two slots have one action.
@@ -148,10 +140,7 @@ fn actions_compared(table: &[u64], slot: usize, others: &[u64], other: usize, mo
     requires { (Width mode.width) × (slot < slots mode.width table.now) × (other < slots mode.width others.now) }
     ensures { result ≡ actions_compared mode.width mode.uncounted (slot_words mode.width table.now slot) (slot_words mode.width others.now other) }
 {
-    if mode.uncounted {
-        return !same_action(table, slot, others, other, mode.width);
-    }
-    true
+    !mode.uncounted || !same_action(table, slot, others, other, mode.width)
 }
 
 // Whether both slots are occupied, where check 2 passes.
@@ -160,10 +149,7 @@ fn both_hold_rules(table: &[u64], slot: usize, others: &[u64], other: usize, wid
     requires table_value { (check_records width table.now ≡ Pass) × (check_records width others.now ≡ Pass) }
     ensures { result ≡ (occupied width (slot_words width table.now slot) && occupied width (slot_words width others.now other)) }
 {
-    if slot_vacant(table, slot, width) {
-        return false;
-    }
-    !slot_vacant(others, other, width)
+    !slot_vacant(table, slot, width) && !slot_vacant(others, other, width)
 }
 
 // Whether the slots hold two rules that are compared with each other, where check 2 passes.
@@ -172,13 +158,9 @@ fn compared_rules(table: &[u64], slot: usize, others: &[u64], other: usize, mode
     requires table_value { (check_records mode.width table.now ≡ Pass) × (check_records mode.width others.now ≡ Pass) }
     ensures { result ≡ compared mode.width mode.uncounted (slot_words mode.width table.now slot) (slot_words mode.width others.now other) }
 {
-    if slot_id(table, slot, mode.width) == slot_id(others, other, mode.width) {
-        return false;
-    }
-    if !both_hold_rules(table, slot, others, other, mode.width) {
-        return false;
-    }
-    actions_compared(table, slot, others, other, mode)
+    slot_id(table, slot, mode.width) != slot_id(others, other, mode.width)
+        && both_hold_rules(table, slot, others, other, mode.width)
+        && actions_compared(table, slot, others, other, mode)
 }
 
 // Whether the slots hold two rules that are compared and overlap. Patterns first: they tell most pairs apart.
@@ -187,10 +169,8 @@ pub fn rules_overlap(table: &[u64], slot: usize, others: &[u64], other: usize, m
     requires table_value { (check_records mode.width table.now ≡ Pass) × (check_records mode.width others.now ≡ Pass) }
     ensures { result ≡ (overlapping mode.width (slot_words mode.width table.now slot) (slot_words mode.width others.now other) && compared mode.width mode.uncounted (slot_words mode.width table.now slot) (slot_words mode.width others.now other)) }
 {
-    if !slots_overlap(table, slot, others, other, mode.width) {
-        return false;
-    }
-    compared_rules(table, slot, others, other, mode)
+    slots_overlap(table, slot, others, other, mode.width)
+        && compared_rules(table, slot, others, other, mode)
 }
 
 // Whether two rules overlap at equal rank. The width is a constant for the compiler where this is called.
@@ -199,13 +179,9 @@ pub fn tied_pair(table: &[u64], slot: usize, others: &[u64], other: usize, mode:
     requires table_value { (check_records mode.width table.now ≡ Pass) × (check_records mode.width others.now ≡ Pass) }
     ensures { result ≡ tied mode.width mode.uncounted (slot_words mode.width table.now slot) (slot_words mode.width others.now other) }
 {
-    if slot_rank(table, slot, mode.width) != slot_rank(others, other, mode.width) {
-        return false;
-    }
-    if !slots_overlap_by(table, slot, others, other, mode.width) {
-        return false;
-    }
-    compared_rules(table, slot, others, other, mode)
+    slot_rank(table, slot, mode.width) == slot_rank(others, other, mode.width)
+        && slots_overlap_by(table, slot, others, other, mode.width)
+        && compared_rules(table, slot, others, other, mode)
 }
 
 // Whether two slots have the same value and mask, the first words of their records.
@@ -226,13 +202,9 @@ fn equal_rules(table: &[u64], slot: usize, others: &[u64], other: usize, width: 
     requires { (Width width) × (slot < slots width table.now) × (other < slots width others.now) }
     ensures { result ≡ equal_rule width (slot_words width table.now slot) (slot_words width others.now other) }
 {
-    if slot_rank(table, slot, width) != slot_rank(others, other, width) {
-        return false;
-    }
-    if same_pattern(table, slot, others, other, width) {
-        return both_occupied(table, slot, others, other, width);
-    }
-    false
+    slot_rank(table, slot, width) == slot_rank(others, other, width)
+        && same_pattern(table, slot, others, other, width)
+        && both_occupied(table, slot, others, other, width)
 }
 
 // Whether of two rules the one replaces the other: they are equal, and in a table without counters have one action.
@@ -246,13 +218,8 @@ pub fn replaceable_pair(
     requires { (Width mode.width) × (slot < slots mode.width table.now) × (other < slots mode.width others.now) }
     ensures { result ≡ replaceable mode.width mode.uncounted (slot_words mode.width table.now slot) (slot_words mode.width others.now other) }
 {
-    if !equal_rules(table, slot, others, other, mode.width) {
-        return false;
-    }
-    if mode.uncounted {
-        return same_action(table, slot, others, other, mode.width);
-    }
-    true
+    equal_rules(table, slot, others, other, mode.width)
+        && (!mode.uncounted || same_action(table, slot, others, other, mode.width))
 }
 
 // Whether a rule precedes another: they overlap, and its rank is the higher one.
@@ -262,13 +229,9 @@ pub fn precedes_pair(table: &[u64], slot: usize, others: &[u64], other: usize, m
     ensures { result ≡ precedes mode.width mode.uncounted (slot_words mode.width table.now slot) (slot_words mode.width others.now other) }
 {
     let width = mode.width;
-    if slot_rank(table, slot, width) <= slot_rank(others, other, width) {
-        return false;
-    }
-    if !slots_overlap_by(table, slot, others, other, width) {
-        return false;
-    }
-    compared_rules(table, slot, others, other, mode)
+    slot_rank(table, slot, width) > slot_rank(others, other, width)
+        && slots_overlap_by(table, slot, others, other, width)
+        && compared_rules(table, slot, others, other, mode)
 }
 
 // Whether a slot's mask has no bit that another's has not. It ends at the first word that has one.
@@ -290,13 +253,9 @@ fn obscures_by(table: &[u64], slot: usize, others: &[u64], other: usize, width: 
     requires { (Width width) × (slot < slots width table.now) × (other < slots width others.now) }
     ensures { result ≡ obscures width (slot_words width table.now slot) (slot_words width others.now other) }
 {
-    if slot_rank(table, slot, width) <= slot_rank(others, other, width) {
-        return false;
-    }
-    if !masks_within(table, slot, others, other, width) {
-        return false;
-    }
-    first_covers(compare_slots(table, slot, others, other, width))
+    slot_rank(table, slot, width) > slot_rank(others, other, width)
+        && masks_within(table, slot, others, other, width)
+        && first_covers(compare_slots(table, slot, others, other, width))
 }
 
 // The same, with the width a constant for the compiler: it makes a copy for each.

@@ -9,7 +9,7 @@ ghost use Rattle.records.specs.Verdict.{checked};
 ghost use Rattle.records.specs.Widths.{Width, check_width, check_words, check_key, check_rule};
 ghost use Rattle.records.specs.Editions.{check_edition};
 
-// How many words a value has, and a mask: document 01's two, or document 02's five.
+// How many words a value has, and a mask: document 01's two, or document 02's five. A number and no enum, since calls from C name it, and 1 refuses another.
 pub const NARROW: usize = 2;
 
 pub const WIDE: usize = 5;
@@ -29,6 +29,7 @@ pub const NARROW_RECORD: usize = 6;
 pub const WIDE_RECORD: usize = 12;
 
 // The editions of OpenFlow that a call may name with a rule: 1.0, in which a rule without wildcards stands above all that have them, and 1.3.
+// Numbers and no enum, since calls from C name one, and 18 refuses another.
 pub const EDITION_10: u32 = 10;
 
 pub const EDITION_13: u32 = 13;
@@ -38,7 +39,7 @@ pub const MOST_PRIORITY: u64 = 65535;
 
 pub const EXACT_RANK: u64 = 65536;
 
-// What an answer has in place of a slot where there is none, and what a neighbour list has.
+// What an answer has in place of a slot where there is none, and what a neighbour list has. Numbers and no `Option`, since they cross to C and back.
 pub const NO_SLOT: u32 = 65535;
 
 pub const NO_NUMBER: u16 = 65535;

@@ -131,10 +131,7 @@ fn run_command(
 pub fn slots_present(slots: usize) -> usize
     ensures { result ≡ min slots most_slots }
 {
-    if slots < MOST_SLOTS {
-        return slots;
-    }
-    MOST_SLOTS
+    slots.min(MOST_SLOTS)
 }
 
 // One line, without its newline, of this number: what it does to the table in the memory, and what it prints.

@@ -23,7 +23,7 @@ pub struct Deletion {
     pub id: u32,
 }
 
-// What an I line tells: the rule to insert, in numbers, since no enum may hold an array.
+// What an I line tells: the rule to insert, in numbers.
 #[derive(Clone, Copy)]
 pub struct Insertion {
     pub id: u32,

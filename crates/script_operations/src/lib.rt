@@ -22,7 +22,8 @@ use script_answers::{print_hit, print_miss, print_plan, print_refusal};
 use script_commands::NewTable;
 use steps::whole::carry_whole;
 
-// What a line is answered: the slots of the new table, a plan's count, a hit or a miss, or a refusal.
+// What a line is answered: the slots of the new table, a plan's count, a hit or a miss, or a refusal. A refusal is a variant and no `Err`, since it is printed
+// like the others, with 64 bits for its spot, the number of a line.
 #[derive(Clone, Copy)]
 pub enum LineAnswer {
     Made(NewTable),

@@ -104,10 +104,7 @@ pub fn slot_empty(table: &[u64], slot: usize, width: usize) -> bool
     requires { (Width width) × (slot < slots width table.now) }
     ensures { result ≡ empty width (slot_words width table.now slot) }
 {
-    if named_word(table, slot, width) == 0 {
-        return slot_zero(table, slot, width);
-    }
-    false
+    named_word(table, slot, width) == 0 && slot_zero(table, slot, width)
 }
 
 // Whether a slot's word of id and action is 0.
@@ -172,13 +169,7 @@ fn slot_ranked(table: &[u64], slot: usize, width: usize) -> bool
     ensures { result ≡ rank_fits width (rank width (slot_words width table.now slot)) (mask width (slot_words width table.now slot)) }
 {
     let rank = slot_rank(table, slot, width);
-    if rank <= MOST_PRIORITY {
-        return true;
-    }
-    if rank == EXACT_RANK {
-        return mask_full(table, slot, width);
-    }
-    false
+    rank <= MOST_PRIORITY || (rank == EXACT_RANK && mask_full(table, slot, width))
 }
 
 // Whether a slot's rank and value are those of a sound record, each word read where it is asked for.
@@ -187,10 +178,7 @@ fn slot_bounded(table: &[u64], slot: usize, width: usize) -> bool
     ensures { result ≡ (rank_fits width (rank width (slot_words width table.now slot)) (mask width (slot_words width table.now slot))
         && within width (value (slot_words width table.now slot)) (mask width (slot_words width table.now slot))) }
 {
-    if slot_ranked(table, slot, width) {
-        return slot_within(table, slot, width);
-    }
-    false
+    slot_ranked(table, slot, width) && slot_within(table, slot, width)
 }
 
 // Whether a slot is neither empty nor a sound rule: one without an id is no rule, and one with an id is not empty.
@@ -213,13 +201,9 @@ pub fn slot_given(table: &[u64], slot: usize, width: usize) -> bool
     requires { (Width width) × (slot < slots width table.now) }
     ensures { result ≡ sound_lent width (slot_words width table.now slot) }
 {
-    if slot_id(table, slot, width) == 0 {
-        return false;
-    }
-    if slot_rank(table, slot, width) <= MOST_PRIORITY {
-        return slot_within(table, slot, width);
-    }
-    false
+    slot_id(table, slot, width) != 0
+        && slot_rank(table, slot, width) <= MOST_PRIORITY
+        && slot_within(table, slot, width)
 }
 
 // Whether a slot is empty or holds such a rule: a screen for check 2, which does not ask for a full mask.
@@ -264,10 +248,7 @@ pub fn slot_matches(table: &[u64], slot: usize, key: &[u64], width: usize) -> bo
     requires { (Width width) × (slot < slots width table.now) × (length key.now ≡ width) }
     ensures { result ≡ compared_at width table.now (word key.now) slot }
 {
-    if pattern_matches(table, slot, key, width) {
-        return !slot_unnamed(table, slot, width);
-    }
-    false
+    pattern_matches(table, slot, key, width) && !slot_unnamed(table, slot, width)
 }
 
 // A slot's words, into a lent record.

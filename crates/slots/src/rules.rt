@@ -6,12 +6,6 @@ ghost use Rattle.records.specs.Record.{word, record_of, rule_of, sound_rule};
 use crate::slot_given;
 use records::{NARROW, NARROW_RECORD, Rule};
 
-fn wide(number: u32) -> u64
-    ensures { result ≡ number }
-{
-    number as u64
-}
-
 // The upper half of a word: a record's id in the word that holds id and action.
 pub fn upper_half(word: u64) -> u32
     ensures { result ≡ word / 4294967296 }
@@ -30,10 +24,7 @@ pub fn lower_half(word: u64) -> u32
 fn priority_of(word: u64) -> u32
     ensures { result ≡ min word 4294967295 }
 {
-    if word < 4294967295 {
-        return word as u32;
-    }
-    4294967295
+    word.min(4294967295) as u32
 }
 
 // The slot record of a rule.
@@ -42,14 +33,14 @@ pub fn record_of(rule: Rule) -> [u64; NARROW_RECORD]
 {
     let value = rule.value;
     let mask = rule.mask;
-    let id_action = wide(rule.id) * 4294967296 + wide(rule.action);
+    let id_action = u64::from(rule.id) * 4294967296 + u64::from(rule.action);
     [
         value[0],
         value[1],
         mask[0],
         mask[1],
         id_action,
-        wide(rule.priority),
+        u64::from(rule.priority),
     ]
 }
 

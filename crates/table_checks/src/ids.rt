@@ -39,6 +39,7 @@ pub fn fill_ids(table: &[u64], ids: &mut [u32], width: usize)
     requires { (Width width) × (slots width table.now ≤ length ids.old) }
     ensures { IdColumn width table.now ids.new (slots width table.now) }
 {
+    // Not by `at_width`: it does not say what its work leaves in the lent arrays.
     if width == NARROW {
         fill_ids_by(table, ids, NARROW);
     } else {
@@ -80,13 +81,7 @@ fn id_twice(table: &[u64], ids: &[u32], slot: usize, width: usize) -> bool
     requires id_column { IdColumn width table.now ids.now (slots width table.now) }
     ensures { result ≡ twice_at width table.now slot }
 {
-    if slot_empty(table, slot, width) {
-        return false;
-    }
-    if listed_before(ids, slot) {
-        return id_before(table, slot, width);
-    }
-    false
+    !slot_empty(table, slot, width) && listed_before(ids, slot) && id_before(table, slot, width)
 }
 
 // The place of an id among 8,192: its last 13 bits.
@@ -103,10 +98,7 @@ fn seen_twice(table: &[u64], ids: &[u32], seen: &[u64], slot: usize, width: usiz
     ensures { result ≡ twice_at width table.now slot }
 {
     let place = seen_place(ids[slot]);
-    if has_bit(seen[place / 64], place % 64) {
-        return id_twice(table, ids, slot, width);
-    }
-    false
+    has_bit(seen[place / 64], place % 64) && id_twice(table, ids, slot, width)
 }
 
 // An id's place noted.
@@ -152,6 +144,7 @@ pub fn lowest_twice(
     requires id_column { IdColumn width table.now ids.now (slots width table.now) }
     ensures { checked result ≡ check_twice width table.now }
 {
+    // Not by `at_width`: it does not say what its work leaves in the lent arrays.
     if width == NARROW {
         return lowest_twice_by(table, ids, seen, NARROW);
     }

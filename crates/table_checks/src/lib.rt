@@ -128,21 +128,15 @@ fn may_match(table: &[u64], slot: usize, first: u64, second: u64, width: usize) 
     requires { (Width width) × (slot < slots width table.now) }
     ensures { result ≡ may_match width table.now first second slot }
 {
-    if !ternary::word_matches(
+    ternary::word_matches(
         first,
         value_word(table, slot, 0, width),
         mask_word(table, slot, 0, width),
-    ) {
-        return false;
-    }
-    if !ternary::word_matches(
+    ) && ternary::word_matches(
         second,
         value_word(table, slot, 1, width),
         mask_word(table, slot, 1, width),
-    ) {
-        return false;
-    }
-    named_word(table, slot, width) != 0
+    ) && named_word(table, slot, width) != 0
 }
 
 // Whether one of four slots may match.
@@ -153,16 +147,10 @@ fn one_may_match(table: &[u64], from: usize, first: u64, second: u64, width: usi
         || may_match width table.now first second (from + 2)
         || may_match width table.now first second (from + 3)) }
 {
-    if may_match(table, from, first, second, width) {
-        return true;
-    }
-    if may_match(table, from + 1, first, second, width) {
-        return true;
-    }
-    if may_match(table, from + 2, first, second, width) {
-        return true;
-    }
-    may_match(table, from + 3, first, second, width)
+    may_match(table, from, first, second, width)
+        || may_match(table, from + 1, first, second, width)
+        || may_match(table, from + 2, first, second, width)
+        || may_match(table, from + 3, first, second, width)
 }
 
 // From a slot on, one below which none may match: of most slots the first two words tell, and four at a time are passed over sooner than one by one.
@@ -171,13 +159,11 @@ fn skip_unmatched_by(table: &[u64], from: usize, first: u64, second: u64, width:
     ensures { NoneFrom (may_match width table.now first second) from (slots width table.now) result }
 {
     let mut at = from;
-    let mut fours = (slot_count(table, width) - from) / 4;
-    while 0 < fours {
+    for _four in 0..(slot_count(table, width) - from) / 4 {
         if one_may_match(table, at, first, second, width) {
             return at;
         }
         at += 4;
-        fours -= 1;
     }
     at
 }
@@ -187,6 +173,7 @@ fn skip_unmatched(table: &[u64], from: usize, first: u64, second: u64, width: us
     requires { (Width width) × (from ≤ slots width table.now) }
     ensures { NoneFrom (may_match width table.now first second) from (slots width table.now) result }
 {
+    // Not by `at_width`, which would keep one copy.
     if width == NARROW {
         return skip_unmatched_by(table, from, first, second, NARROW);
     }

@@ -24,14 +24,13 @@ pub struct Sent {
     well: bool,
 }
 
-// The checksum after more bytes, so many at the buffer's start.
-fn checksum_on(before: u64, bytes: &[u8], count: usize) -> u64
-    requires { count ≤ length bytes.now }
-    ensures { result ≡ checksum_on before (take count bytes.now) }
+// The checksum after more bytes.
+fn checksum_on(before: u64, bytes: &[u8]) -> u64
+    ensures { result ≡ checksum_on before bytes.now }
 {
     let mut sum = before;
-    for at in 0..count {
-        sum = sum % 72057594037927931 * 256 + u64::from(bytes[at]);
+    for byte in bytes {
+        sum = sum % 72057594037927931 * 256 + u64::from(*byte);
     }
     sum
 }
@@ -58,7 +57,7 @@ pub fn receive<R: Read>(reader: &mut R, buffer: &mut [u8; 4096], before: Got) ->
         Ok(count) => Got {
             number: Some(count),
             reads,
-            checksum: checksum_on(before.checksum, buffer, count),
+            checksum: checksum_on(before.checksum, &buffer[..count]),
         },
         Err(_) => Got {
             number: None,
@@ -116,7 +115,7 @@ pub fn send<W: Write>(writer: &mut W, out: &[u8], count: usize, before: Sent) ->
     let wrote = write_bytes(writer, &out[..count]);
     Sent {
         bytes: before.bytes.saturating_add(count as u64),
-        checksum: checksum_on(before.checksum, out, count),
+        checksum: checksum_on(before.checksum, &out[..count]),
         well: before.well && wrote,
     }
 }

@@ -137,6 +137,7 @@ fn read_blocks<R: Read, W: Write>(
 ) -> Went
     ensures { ReadAll (opening memory.old line.old) (known (R.remaining reader.old) (W.contents writer.old)) result (keeping memory.new line.new result.place) (known (R.remaining reader.new) (W.contents writer.new)) }
 {
+    // Counted down by hand: the input ends the loop and no range does; the number proves that it ends.
     let mut turns = u64::MAX;
     let mut went = Went {
         place: Place {

@@ -75,6 +75,7 @@ fn fill_ends_by(table: &[u64], near: &[u16], up: bool, ends: &mut [u16], mode: M
 }
 
 // The same, with the width a constant for the compiler: it makes a copy for each.
+// Not by `at_width`: it does not say what its work leaves in the lent arrays.
 pub fn fill_ends(table: &[u64], near: &[u16], up: bool, ends: &mut [u16], mode: Mode)
     requires width { (Width mode.width) × (slots_of mode.width table.now ≤ most_slots) × (slots_of mode.width table.now ≤ length ends.old) × (2 * (slots_of mode.width table.now) ≤ length near.now) }
     requires table_value { (table_checks mode.width mode.uncounted table.now ≡ Pass) × Listed mode.width mode.uncounted table.now near.now }
@@ -88,7 +89,7 @@ pub fn fill_ends(table: &[u64], near: &[u16], up: bool, ends: &mut [u16], mode: 
             ends,
             Mode {
                 width: NARROW,
-                uncounted: mode.uncounted,
+                ..mode
             },
         );
     } else {
@@ -99,7 +100,7 @@ pub fn fill_ends(table: &[u64], near: &[u16], up: bool, ends: &mut [u16], mode: 
             ends,
             Mode {
                 width: WIDE,
-                uncounted: mode.uncounted,
+                ..mode
             },
         );
     }

@@ -25,8 +25,7 @@ fn held_at(table: &[u64], slot: usize, other: usize, width: usize) -> bool
     requires { (Width width) × (slot < slots width table.now) × (other < slots width table.now) }
     ensures { result ≡ held_at width table.now slot other }
 {
-    let same = same_id(table, other, table, slot, width);
-    (other != slot) & same
+    same_id(table, other, table, slot, width) && other != slot
 }
 
 // Whether a slot's id stands in another slot too.
@@ -48,10 +47,7 @@ fn slot_free(table: &[u64], slot: usize, width: usize) -> bool
     requires { (Width width) × (slot < slots width table.now) }
     ensures { result ≡ free_at width table.now slot }
 {
-    if slot_empty(table, slot, width) {
-        return true;
-    }
-    stands_elsewhere(table, slot, width)
+    slot_empty(table, slot, width) || stands_elsewhere(table, slot, width)
 }
 
 // Whether a rule may be written to a slot, and none is lost.
@@ -59,10 +55,7 @@ fn put_fits(table: &[u64], to: usize, width: usize) -> bool
     requires { Width width }
     ensures { result ≡ fits_write width table.now (put to) }
 {
-    if to < slot_count(table, width) {
-        return slot_free(table, to, width);
-    }
-    false
+    to < slot_count(table, width) && slot_free(table, to, width)
 }
 
 // Whether there is a rule in a slot.
@@ -70,10 +63,7 @@ fn rule_in(table: &[u64], slot: usize, width: usize) -> bool
     requires { Width width }
     ensures { result ≡ fits_write width table.now (clear slot) }
 {
-    if slot < slot_count(table, width) {
-        return !slot_empty(table, slot, width);
-    }
-    false
+    slot < slot_count(table, width) && !slot_empty(table, slot, width)
 }
 
 // Whether a slot holds a rule of the same value, mask and rank as the rule given. Ranks first, as they tell most pairs apart.
@@ -81,13 +71,9 @@ fn equal_to_given(table: &[u64], to: usize, rule: &[u64], edition: u32, width: u
     requires { (Width width) × (to < slots width table.now) × (length rule.now ≡ record_words width) × (check_given width (lent_rule width edition rule.now) ≡ Pass) }
     ensures { result ≡ equal_rule width (slot_words width table.now to) (word (record_of width (ranked width (lent_rule width edition rule.now)))) }
 {
-    if slot_rank(table, to, width) != given_rank(rule, edition, width) {
-        return false;
-    }
-    if same_pattern(table, to, rule, 0, width) {
-        return !slot_empty(table, to, width);
-    }
-    false
+    slot_rank(table, to, width) == given_rank(rule, edition, width)
+        && same_pattern(table, to, rule, 0, width)
+        && !slot_empty(table, to, width)
 }
 
 // Whether a put-in would overwrite such a rule: the slot exists, and holds one.
@@ -95,10 +81,7 @@ fn over_equal(table: &[u64], to: usize, rule: &[u64], edition: u32, width: usize
     requires { (Width width) × (length rule.now ≡ record_words width) × (check_given width (lent_rule width edition rule.now) ≡ Pass) }
     ensures { result ≡ over_equal width table.now (ranked width (lent_rule width edition rule.now)) to }
 {
-    if to < slot_count(table, width) {
-        return equal_to_given(table, to, rule, edition, width);
-    }
-    false
+    to < slot_count(table, width) && equal_to_given(table, to, rule, edition, width)
 }
 
 // Whether what a plan word takes a rule from holds one: a copy's slot, another than it goes to, and the slot that is emptied.
@@ -107,7 +90,7 @@ fn takes_rule(table: &[u64], word: u32, width: usize) -> bool
     ensures { result ≡ takes_rule width table.now (write_of word) }
 {
     match write_of(word) {
-        PlanWrite::Copy(from, to) => (from != to) & rule_in(table, from as usize, width),
+        PlanWrite::Copy(from, to) => from != to && rule_in(table, from as usize, width),
         PlanWrite::PutIn(_) => true,
         PlanWrite::Clear(slot) => rule_in(table, slot as usize, width),
     }
@@ -141,13 +124,9 @@ pub fn word_fits(table: &[u64], rule: &[u64], edition: u32, word: u32, width: us
     requires { (Width width) × (length rule.now ≡ record_words width) × (put_checks width (lent_rule width edition rule.now) (write_of word) ≡ Pass) }
     ensures { result ≡ fits_carried width table.now (ranked width (lent_rule width edition rule.now)) (write_of word) }
 {
-    if !takes_rule(table, word, width) {
-        return false;
-    }
-    if needs_no_room(table, rule, edition, word, width) {
-        return true;
-    }
-    put_fits(table, written_slot(word), width)
+    takes_rule(table, word, width)
+        && (needs_no_room(table, rule, edition, word, width)
+            || put_fits(table, written_slot(word), width))
 }
 
 // Copies a slot's record to another slot, by way of a record of its own.

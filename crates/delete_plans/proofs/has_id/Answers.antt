@@ -9,6 +9,6 @@ pub returns-then-slot_id-id : goal.returns-then-slot_id-id
 unfolding has_id
 returns-then-slot_id-id c = rw (c.slot_empty.ensures, eq-eqb _ _ (sym c.slot_id.ensures ∙ c.if-slot_id-id.true))
 
-pub returns : goal.returns
+pub returns-else-slot_id-id : goal.returns-else-slot_id-id
 unfolding has_id
-returns c = rw (ne_eqb _ _ (λ e. c.if-slot_id-id.false (c.slot_id.ensures ∙ e)))
+returns-else-slot_id-id c = ne_eqb _ _ c.if-slot_id-id.false ∙ rw (ne_eqb _ _ (λ e. c.if-slot_id-id.false (c.slot_id.ensures ∙ e)))

@@ -7,12 +7,11 @@ use mathlib.Core.List.{List}
 use Prim.Native.Nat.{ℕ, ◌+◌, ◌*◌, ◌≤◌, ◌<◌}
 use native.Mathlib.Omega.{arith}
 use borrow.Author.Rules.{rules}
-use lib.Dec.{eqb}
-use borrow.Author.Tests.{eqb-true, eq-eqb}
-use Rattle.search.specs.SearchLaws.{and_left, and_right, and_both}
+use borrow.Author.Tests.{eqb-true, eq-eqb, ne_eqb}
 use Rattle.records.proofs.Laws.{rank_low, rank_exact, rank_past}
 use Rattle.image.specs.Bytes.{Bytes, number_at}
 use Rattle.image.proofs.BytesLaws.{number_quarters, number_small}
+use Rattle.image_checks.proofs.body_ranked.Goals.{then-upper-eq1, else-upper-eq1}
 use Rattle.image_checks.proofs.body_ranked.Goals as goal
 
 upper-none : (b : List ℕ) (at : ℕ) → Bytes b → number_at b at 2 ≡ 0 → number_at b at 4 ≤ 65535
@@ -32,21 +31,27 @@ exact-is b at bytes e =
 
 pub returns-then-upper-eq0 : goal.returns-then-upper-eq0
 returns-then-upper-eq0 c =
-    sym (rank_low _ _ _ (upper-none c.args.image.now _ (λ i. search rules) (sym c.number_at-upper.ensures ∙ c.if-upper-eq0.true)))
+    eq-eqb _ _ c.if-upper-eq0.true
+    ∙ sym (rank_low _ _ _ (upper-none c.args.image.now _ (λ i. search rules) (sym c.number_at-upper.ensures ∙ c.if-upper-eq0.true)))
 
-pub returns-then-upper-lower : goal.returns-then-upper-lower
-returns-then-upper-lower c =
-    let upper = eqb c.number_at-upper.result 1 in
-    let lower = eqb c.number_at-lower.result 0 in
-    let both = c.if-upper-lower.true in
-    c.body_full.ensures
-    ∙ sym (rank_exact _ _ _ (is-exact c.args.image.now (c.args.at + 16 * c.args.width)
-    (sym c.number_at-upper.ensures ∙ eqb-true _ 1 (and_left upper lower both))
-    (sym c.number_at-lower.ensures ∙ eqb-true _ 0 (and_right upper lower both))))
+pub returns-then-number_at-eq0 : goal.returns-then-number_at-eq0
+returns-then-number_at-eq0 c =
+    elim c.if-upper-eq1.branch [
+      | then-upper-eq1 w ↦
+          c.body_full.ensures
+          ∙ sym (rank_exact _ _ _ (is-exact c.args.image.now (c.args.at + 16 * c.args.width)
+          (sym c.number_at-upper.ensures ∙ w.if-upper-eq1.true)
+          (sym w.number_at.ensures ∙ eqb-true _ 0 (sym w.value-is ∙ c.if-number_at-eq0.true))))
+      | else-upper-eq1 w ↦ absurd (true≢false (sym c.if-number_at-eq0.true ∙ w.value-is ∙ ne_eqb _ _ w.if-upper-eq1.false))
+    ]
 
-pub returns : goal.returns
-returns c =
-    sym (rank_past _ _ _
+pub returns-else-number_at-eq0 : goal.returns-else-number_at-eq0
+returns-else-number_at-eq0 c =
+    c.if-number_at-eq0.false
+    ∙ sym (rank_past _ _ _
     (upper-some c.args.image.now _ (λ z. c.if-upper-eq0.false (c.number_at-upper.ensures ∙ z)))
     (λ e. let is = exact-is c.args.image.now _ (λ i. search rules) e in
-    true≢false (sym (and_both _ _ (eq-eqb _ 1 (c.number_at-upper.ensures ∙ is.0)) (eq-eqb _ 0 (c.number_at-lower.ensures ∙ is.1))) ∙ c.if-upper-lower.false)))
+    elim c.if-upper-eq1.branch [
+      | then-upper-eq1 w ↦ true≢false (sym (eq-eqb _ 0 (w.number_at.ensures ∙ is.1)) ∙ sym w.value-is ∙ c.if-number_at-eq0.false)
+      | else-upper-eq1 w ↦ w.if-upper-eq1.false (c.number_at-upper.ensures ∙ is.0)
+    ]))

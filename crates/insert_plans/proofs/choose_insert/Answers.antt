@@ -4,4 +4,4 @@ use mathlib.Core.Path.{◌∙◌}
 use Rattle.insert_plans.proofs.choose_insert.Goals as goal
 
 pub returns : goal.returns
-returns c = c.choose.ensures ∙ rw c.slot_before.ensures
+returns c = c.choose.ensures ∙ rw c.saturating_sub.ensures

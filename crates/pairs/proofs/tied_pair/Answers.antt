@@ -1,31 +1,31 @@
 -- `pairs::tied_pair` meets its contract.
 -- Ranks first; then the patterns, and then whether the rules are compared.
-use mathlib.Core.Path.{sym, ◌∙◌}
-use borrow.Author.Tests.{eq-eqb, ne_eqb, not-true, not-false}
-use Rattle.records.specs.Record.{slot_words}
-use Rattle.records.specs.Order.{tied}
-use Rattle.records.proofs.OrderLaws.{pair_ranked, pair_apart, pair_both}
+use mathlib.Core.Path.{◌≡◌, ◌∙◌}
+use mathlib.Core.Bool.{◌&&◌, and-true, and-false}
+use lib.Dec.{eqb}
+use borrow.Author.Tests.{eq-eqb, ne_eqb}
+use Rattle.search.specs.SearchLaws.{and_more, and_stop}
+use Rattle.records.specs.Record.{slot_words, rank}
+use Rattle.records.specs.Order.{overlapping, tied}
+use Rattle.pairs.proofs.tied_pair.Goals.{Joined-slot_rank, then-slot_rank, else-slot_rank}
 use Rattle.pairs.proofs.tied_pair.Goals as goal
 
-pub returns-then-slot_rank : goal.returns-then-slot_rank
-unfolding tied
-returns-then-slot_rank c =
-    let a = c.args in
-    rw (← c.slot_rank-2.ensures, ← c.slot_rank.ensures)
-    (pair_ranked a.mode.width a.mode.uncounted (slot_words a.mode.width a.table.now a.slot) (slot_words a.mode.width a.others.now a.other) (ne_eqb _ _ c.if-slot_rank.true))
+-- what the first two tests come to
+overlap_tied : (c : Joined-slot_rank)
+    → c.if-slot_rank.value
+    ≡ overlapping c.args.mode.width (slot_words c.args.mode.width c.args.table.now c.args.slot) (slot_words c.args.mode.width c.args.others.now c.args.other)
+    && eqb (rank c.args.mode.width (slot_words c.args.mode.width c.args.table.now c.args.slot)) (rank c.args.mode.width (slot_words c.args.mode.width c.args.others.now c.args.other))
+overlap_tied c = elim c.if-slot_rank.branch [
+  | then-slot_rank w ↦ rw (← c.slot_rank-2.ensures, ← c.slot_rank.ensures, eq-eqb _ _ w.if-slot_rank.true, and-true) (w.value-is ∙ w.slots_overlap_by.ensures)
+  | else-slot_rank w ↦ (let no = ne_eqb _ _ w.if-slot_rank.false in rw (← c.slot_rank-2.ensures, ← c.slot_rank.ensures, no, and-false) (w.value-is ∙ no))
+]
 
-pub returns-then-not-slots_overlap_by : goal.returns-then-not-slots_overlap_by
+pub returns-then-slots_overlap_by : goal.returns-then-slots_overlap_by
 unfolding tied
-returns-then-not-slots_overlap_by c =
-    let a = c.args in
-    pair_apart a.mode.width a.mode.uncounted (slot_words a.mode.width a.table.now a.slot) (slot_words a.mode.width a.others.now a.other) _
-    (sym c.slots_overlap_by.ensures ∙ not-true _ c.if-not-slots_overlap_by.true-raw)
+returns-then-slots_overlap_by c = and_more (overlap_tied (goal.at.returns-then-slots_overlap_by c).Joined-slot_rank) c.if-slots_overlap_by.true c.compared_rules.ensures
 
-pub returns : goal.returns
+pub returns-else-slots_overlap_by : goal.returns-else-slots_overlap_by
 unfolding tied
-returns c =
-    let a = c.args in
-    c.compared_rules.ensures
-    ∙ pair_both a.mode.width a.mode.uncounted (slot_words a.mode.width a.table.now a.slot) (slot_words a.mode.width a.others.now a.other)
-    (sym c.slots_overlap_by.ensures ∙ not-false _ c.if-not-slots_overlap_by.false-raw)
-    (rw (← c.slot_rank-2.ensures, ← c.slot_rank.ensures) (eq-eqb _ _ c.if-slot_rank.false))
+returns-else-slots_overlap_by c =
+    let no = c.if-slots_overlap_by.false in
+    no ∙ and_stop _ (overlap_tied (goal.at.returns-else-slots_overlap_by c).Joined-slot_rank) no

@@ -9,6 +9,8 @@ use Rattle.search.specs.SearchLaws.{all_not}
 use Rattle.records.specs.Record.{empty}
 use Rattle.slots.proofs.slot_empty.Goals as goal
 
-pub returns : goal.returns
+pub returns-else-named_word-eq0 : goal.returns-else-named_word-eq0
 unfolding empty
-returns c = sym (all_not _ _ _ (omega arith) (ap (λ (x : ℕ). eqb x 0) (sym c.named_word.ensures) ∙ ne_eqb _ 0 c.if-named_word-eq0.false))
+returns-else-named_word-eq0 c =
+    let named = ne_eqb _ 0 c.if-named_word-eq0.false in
+    named ∙ sym (all_not _ _ _ (omega arith) (ap (λ (x : ℕ). eqb x 0) (sym c.named_word.ensures) ∙ named))

@@ -1,8 +1,14 @@
 -- `writes::held_at` meets its contract.
--- The ids are compared whatever the other slot is.
+-- The ids first, as they tell most slots apart.
+use mathlib.Core.Path.{sym, ◌∙◌}
+use mathlib.Core.Bool.{and-true, and-false}
 use Rattle.records.specs.Writes.{held_at}
 use Rattle.writes.proofs.held_at.Goals as goal
 
-pub returns : goal.returns
+pub returns-then-same_id : goal.returns-then-same_id
 unfolding held_at
-returns c = rw c.same_id-same.ensures
+returns-then-same_id c = rw (sym c.same_id.ensures ∙ c.if-same_id.true, and-true)
+
+pub returns-else-same_id : goal.returns-else-same_id
+unfolding held_at
+returns-else-same_id c = c.if-same_id.false ∙ rw (sym c.same_id.ensures ∙ c.if-same_id.false, and-false)

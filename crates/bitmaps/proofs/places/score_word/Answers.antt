@@ -23,16 +23,16 @@ pub overflow_mul-count_at : goal.overflow_mul-count_at
 overflow_mul-count_at c = omega (arith, product c.count_at.result c.count_at-in-loop-s.result c.count_at.ensures c.count_at-in-loop-s.ensures)
 
 pub overflow_cast-scores : goal.overflow_cast-scores
-overflow_cast-scores c = omega (arith, c.at_most.ensures)
+overflow_cast-scores c = omega (arith, c.min.ensures)
 
 pub loop-s-preserved : goal.loop-s-preserved
 loop-s-preserved c =
     let turn = c.loop-s in
     let at = 64 * c.args.word + turn.s in
-    let score = c.at_most.result in (
+    let score = c.min.result in (
       omega arith,
       length-set turn.scores at score ∙ turn.invariant.1,
-      λ k h. below_more turn.scores at 257 score (omega arith) (omega (arith, c.at_most.ensures)) turn.invariant.2 k (omega arith),
+      λ k h. below_more turn.scores at 257 score (omega arith) (omega (arith, c.min.ensures)) turn.invariant.2 k (omega arith),
     )
 
 pub returns : goal.returns

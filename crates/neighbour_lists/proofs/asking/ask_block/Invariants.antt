@@ -6,8 +6,8 @@ use Rattle.neighbour_lists.specs.Row.{InRow, Marks, Inside}
 use Rattle.neighbour_lists.proofs.asking.ask_block.Given as goal
 
 abbrev pub invariant-loop-left : goal.invariant-loop-left
-invariant-loop-left l = (length l.near ≡ length l.initial.near) × (l.blocks.full ≡ l.initial.blocks.full) × (l.blocks.low ≡ l.initial.blocks.low) × InRow (precedes_slot l.mode.width l.mode.uncounted l.table) (misordered_slots l.mode.width l.mode.uncounted l.table) l.near l.later l.block l.left l.bad
-    × Marks (rank_at l.mode.width l.table) (occupied_at l.mode.width l.table) l.near l.blocks.full l.blocks.free l.blocks.low l.later × Inside l.later l.block l.left × (length l.blocks.free ≡ length l.initial.blocks.free)
+invariant-loop-left l = (length l.near ≡ length l.initial.near) × (length l.free ≡ length l.initial.free) × InRow (precedes_slot l.mode.width l.mode.uncounted l.table) (misordered_slots l.mode.width l.mode.uncounted l.table) l.near l.later l.block l.left l.bad
+    × Marks (rank_at l.mode.width l.table) (occupied_at l.mode.width l.table) l.near l.full l.free l.low l.later × Inside l.later l.block l.left
 
 abbrev pub decreases-loop-left : goal.decreases-loop-left
 decreases-loop-left l = l.left

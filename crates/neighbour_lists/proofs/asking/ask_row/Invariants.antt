@@ -7,5 +7,5 @@ use Rattle.neighbour_lists.specs.Row.{InRow, Marks}
 use Rattle.neighbour_lists.proofs.asking.ask_row.Given as goal
 
 abbrev pub invariant-loop-block : goal.invariant-loop-block
-invariant-loop-block l = (length l.near ≡ length l.initial.near) × (l.blocks.full ≡ l.initial.blocks.full) × (l.blocks.low ≡ l.initial.blocks.low) × (length l.blocks.free ≡ length l.initial.blocks.free) × (l.block ≤ 16) × InRow (precedes_slot l.mode.width l.mode.uncounted l.table) (misordered_slots l.mode.width l.mode.uncounted l.table) l.near l.later l.block 0 l.bad
-    × Marks (rank_at l.mode.width l.table) (occupied_at l.mode.width l.table) l.near l.blocks.full l.blocks.free l.blocks.low l.later
+invariant-loop-block l = (length l.near ≡ length l.initial.near) × (length l.free ≡ length l.initial.free) × (l.block ≤ 16) × InRow (precedes_slot l.mode.width l.mode.uncounted l.table) (misordered_slots l.mode.width l.mode.uncounted l.table) l.near l.later l.block 0 l.bad
+    × Marks (rank_at l.mode.width l.table) (occupied_at l.mode.width l.table) l.near l.full l.free l.low l.later

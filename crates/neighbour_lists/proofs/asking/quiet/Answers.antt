@@ -11,7 +11,7 @@ returns-then-settled c =
     let a = c.args in
     λ _. settled_quiet (precedes_slot a.mode.width a.mode.uncounted a.table.now) (misordered_slots a.mode.width a.mode.uncounted a.table.now) (rank_at a.mode.width a.table.now) (occupied_at a.mode.width a.table.now) a.near.now a.slot a.later a.rank (pairing_at a.mode.width a.mode.uncounted a.table.now) c.settled.ensures c.requires.rank_value c.if-settled.true
 
-pub returns : goal.returns
-returns c =
+pub returns-else-settled : goal.returns-else-settled
+returns-else-settled c =
     let a = c.args in
     λ e. apart_quiet a.mode.width a.mode.uncounted a.table.now a.near.now a.slot a.later (sym c.slots_overlap.ensures ∙ not-true _ e)

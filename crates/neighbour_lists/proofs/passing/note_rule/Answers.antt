@@ -4,10 +4,10 @@ use borrow.Author.Tests.{lt-ltb, le-ltb}
 use Rattle.neighbour_lists.specs.Pass.{lowered}
 use Rattle.neighbour_lists.proofs.passing.note_rule.Goals as goal
 
-pub returns-then-rank-blocks : goal.returns-then-rank-blocks
+pub returns-then-rank-low : goal.returns-then-rank-low
 unfolding lowered
-returns-then-rank-blocks c = record { full_after = search rules; free_after = search rules; low_after = rw (lt-ltb _ _ c.if-rank-blocks.true) }
+returns-then-rank-low c = record { full_after = search rules; free_after = search rules; low_after = rw (lt-ltb _ _ c.if-rank-low.true) }
 
-pub returns-else-rank-blocks : goal.returns-else-rank-blocks
+pub returns-else-rank-low : goal.returns-else-rank-low
 unfolding lowered
-returns-else-rank-blocks c = record { full_after = search rules; free_after = search rules; low_after = rw (le-ltb _ _ c.if-rank-blocks.false) }
+returns-else-rank-low c = record { full_after = search rules; free_after = search rules; low_after = rw (le-ltb _ _ c.if-rank-low.false) }

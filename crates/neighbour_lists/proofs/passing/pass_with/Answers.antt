@@ -1,5 +1,6 @@
 -- `neighbour_lists::passing::pass_with` meets its contract: in words that are all zero no slot is taken.
 use lib.ListN.{replicate}
+use native.Mathlib.Omega.{arith}
 use Rattle.records.proofs.RulesLaws.{zero_word}
 use Rattle.neighbour_lists.proofs.PassLaws.{taken_start}
 use Rattle.neighbour_lists.proofs.passing.pass_with.Goals as goal
@@ -12,6 +13,9 @@ take_slots-requires c =
       width = (c.requires.width.0, c.requires.width.1, c.requires.width.2);
       room = record {
         numbers = c.requires.width.3;
+        blocks = omega arith;
+        blocks_free = omega arith;
+        blocks_low = omega arith;
         rows = maps.0;
         few = maps.1;
         words = places.0;

@@ -1,6 +1,5 @@
 -- `neighbour_lists::passing::take_rule` meets its contract: the row is asked from its start to its end, then the slot is noted.
 use mathlib.Core.Path.{ap, ◌∙◌}
-use mathlib.Core.List.{List}
 use Prim.Native.Nat.{ℕ, ◌+◌, ◌*◌, ◌<◌}
 use native.Mathlib.Omega.{arith}
 use lib.ListN.{length, take, length-set}
@@ -18,7 +17,7 @@ ask_row-bad-requires c =
     let used = c.fill_rows-used.result in
     let front = length-take-le used c.fill_rows-used.new.others (omega (arith, c.fill_rows-used.ensures.0, c.fill_rows-used.auto.others, room.row_others)) in
     let rows = rows_front a.mode.width a.table.now a.places.now c.fill_rows-used.new.others c.fill_rows-used.new.own (length a.places.now) a.slot used c.fill_rows-used.ensures.1 in
-    record { width = (c.requires.width.0, c.requires.width.2, omega (arith, c.requires.width.1, c.requires.width.2), simp length-set near); table_value = c.requires.width.3; in_row = row_begun a.mode.width a.mode.uncounted a.table.now a.places.now a.near.now a.blocks.now.full a.blocks.now.free a.blocks.now.low a.maps.now a.slot near taken; marks = marks_begun a.mode.width a.mode.uncounted a.table.now a.places.now a.near.now a.blocks.now.full a.blocks.now.free a.blocks.now.low a.maps.now a.slot near taken; by_index = λ m h. row_fits _ (length a.places.now) _ (rows m (omega (arith, h, front))).other.start (rows m (omega (arith, h, front))).other.known room.rows; tells = tells_screen a.mode.width a.mode.uncounted a.table.now a.places.now a.maps.now (take used c.fill_rows-used.new.others) (length a.places.now) a.slot (length (take used c.fill_rows-used.new.others)) taken.screen room.inside (λ m h. (rows m (omega (arith, h, front))).other) }
+    record { width = (c.requires.width.0, c.requires.width.2, omega (arith, c.requires.width.1, c.requires.width.2), simp length-set near, room.blocks, room.blocks_free, room.blocks_low); table_value = c.requires.width.3; in_row = row_begun a.mode.width a.mode.uncounted a.table.now a.places.now a.near.now a.full.now a.free.now a.low.now a.maps.now a.slot near taken; marks = marks_begun a.mode.width a.mode.uncounted a.table.now a.places.now a.near.now a.full.now a.free.now a.low.now a.maps.now a.slot near taken; by_index = λ m h. row_fits _ (length a.places.now) _ (rows m (omega (arith, h, front))).other.start (rows m (omega (arith, h, front))).other.known room.rows; tells = tells_screen a.mode.width a.mode.uncounted a.table.now a.places.now a.maps.now (take used c.fill_rows-used.new.others) (length a.places.now) a.slot (length (take used c.fill_rows-used.new.others)) taken.screen room.inside (λ m h. (rows m (omega (arith, h, front))).other) }
 
 pub overflow_mul-near-2 : goal.overflow_mul-near-2
 overflow_mul-near-2 c = omega (arith, c.requires.width.1, c.requires.width.2)
@@ -46,7 +45,9 @@ pub slot_rank-requires : goal.slot_rank-requires
 slot_rank-requires c = let p = c.requires.width in (p.0, p.2)
 
 pub note_rule-requires : goal.note_rule-requires
-note_rule-requires c = omega (arith, c.requires.width.1, c.requires.width.2)
+note_rule-requires c =
+    let room = c.requires.room in
+    (omega (arith, c.requires.width.1, c.requires.width.2), room.blocks, omega (arith, c.ask_row-bad.auto.free, room.blocks_free), room.blocks_low)
 
 pub returns : goal.returns
 returns c =
@@ -61,9 +62,9 @@ returns c =
     let kept = c.ask_row-bad.auto.near ∙ length-set a.near.now (2 * a.slot + 1) 65535 in
     let near : 2 * a.slot < length c.ask_row-bad.new.near = omega (arith, room.numbers, c.requires.width.2, kept) in record {
       value = row_told a.mode.width a.mode.uncounted a.table.now c.ask_row-bad.new.near a.slot c.ask_row-bad.result c.ask_row-bad.ensures.in_row_2;
-      taken_2 = taken_rule a.mode.width a.mode.uncounted a.table.now a.places.now c.ask_row-bad.new.near c.ask_row-bad.new.blocks.full c.ask_row-bad.new.blocks.free c.ask_row-bad.new.blocks.low a.maps.now (take used c.fill_rows-used.new.others) (take used c.fill_rows-used.new.own)
-          (length a.places.now) a.slot used c.ask_row-bad.result near (omega (arith, ap (λ (x : List ℕ). length x) c.ask_row-bad.ensures.kept.0)) (omega (arith, c.ask_row-bad.ensures.kept.2)) (omega (arith, ap (λ (x : List ℕ). length x) c.ask_row-bad.ensures.kept.1)) room.rows small
+      taken_2 = taken_rule a.mode.width a.mode.uncounted a.table.now a.places.now c.ask_row-bad.new.near a.full.now c.ask_row-bad.new.free a.low.now a.maps.now (take used c.fill_rows-used.new.others) (take used c.fill_rows-used.new.own)
+          (length a.places.now) a.slot used c.ask_row-bad.result near (omega (arith, room.blocks)) (omega (arith, c.ask_row-bad.auto.free, room.blocks_free)) (omega (arith, room.blocks_low)) room.rows small
           c.ask_row-bad.ensures.in_row_2 c.ask_row-bad.ensures.marks_2 taken.screen rows
-          c.note_rule.new.blocks.full c.note_rule.new.blocks.free c.note_rule.new.blocks.low c.note_rows.new.maps c.note_rule.ensures.full_after c.note_rule.ensures.free_after
-          (c.note_rule.ensures.low_after ∙ ap (λ (x : ℕ). lowered c.ask_row-bad.new.blocks.low a.slot x) word.ensures) (rw front at c.note_rows.ensures);
+          c.note_rule.new.full c.note_rule.new.free c.note_rule.new.low c.note_rows.new.maps c.note_rule.ensures.full_after c.note_rule.ensures.free_after
+          (c.note_rule.ensures.low_after ∙ ap (λ (x : ℕ). lowered a.low.now a.slot x) word.ensures) (rw front at c.note_rows.ensures);
     }

@@ -20,6 +20,6 @@ returns-then-slot_vacant c =
     let vacant : empty a.mode.width (slot_words a.mode.width a.table.now a.slot) ≡ true
     = sym c.slot_vacant.ensures ∙ c.if-slot_vacant.true in record {
       value = row_told a.mode.width a.mode.uncounted a.table.now (set a.near.now (2 * a.slot + 1) 65535) a.slot false
-          (row_empty a.mode.width a.mode.uncounted a.table.now a.places.now a.near.now a.blocks.now.full a.blocks.now.free a.blocks.now.low a.maps.now a.slot near taken vacant);
-      taken_2 = taken_empty a.mode.width a.mode.uncounted a.table.now a.places.now a.near.now a.blocks.now.full a.blocks.now.free a.blocks.now.low a.maps.now a.slot near taken vacant;
+          (row_empty a.mode.width a.mode.uncounted a.table.now a.places.now a.near.now a.full.now a.free.now a.low.now a.maps.now a.slot near taken vacant);
+      taken_2 = taken_empty a.mode.width a.mode.uncounted a.table.now a.places.now a.near.now a.full.now a.free.now a.low.now a.maps.now a.slot near taken vacant;
     }

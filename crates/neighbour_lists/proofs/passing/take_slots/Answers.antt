@@ -17,7 +17,7 @@ slot_count-slots-requires c = c.requires.width.0
 
 pub loop-slot-init : goal.loop-slot-init
 unfolding least
-loop-slot-init c = (omega arith, refl, refl, refl, refl, refl, c.requires.taken)
+loop-slot-init c = (omega arith, refl, refl, refl, refl, refl, refl, refl, refl, c.requires.taken)
 
 pub take_slot-bad-requires : goal.take_slot-bad-requires
 take_slot-bad-requires c =
@@ -25,9 +25,9 @@ take_slot-bad-requires c =
     let turn = c.loop-slot in
     let i = turn.invariant in record {
       width = (c.requires.width.0, c.requires.width.1, omega (arith, c.loop-slot-test.true, c.slot_count-slots.ensures), c.requires.width.2);
-      room = room_kept a.mode.width (slots a.mode.width a.table.now) a.near.now a.maps.now a.places.now (length a.places.now) a.chosen.now a.starts.now a.others.now a.own.now
-          turn.near turn.maps turn.others turn.own i.2 i.3 i.4 i.5 c.requires.room;
-      taken = i.6;
+      room = room_kept a.mode.width (slots a.mode.width a.table.now) a.near.now a.full.now a.free.now a.low.now a.maps.now a.places.now (length a.places.now) a.chosen.now a.starts.now a.others.now a.own.now
+          turn.near turn.full turn.free turn.low turn.maps turn.others turn.own i.2 i.3 i.4 i.5 i.6 i.7 i.8 c.requires.room;
+      taken = i.9;
     }
 
 pub overflow_add-first : goal.overflow_add-first
@@ -46,9 +46,12 @@ loop-slot-preserved c =
         | else-first-slot w ↦ w.first-is ∙ least_stays (disorder_at a.mode.width a.mode.uncounted a.table.now) turn.slot turn.first c.take_slot-bad.result i.1 c.take_slot-bad.ensures.value w.if-first-slot.false
       ],
       c.take_slot-bad.auto.near ∙ i.2,
-      c.take_slot-bad.auto.maps ∙ i.3,
-      c.take_slot-bad.auto.others ∙ i.4,
-      c.take_slot-bad.auto.own ∙ i.5,
+      c.take_slot-bad.auto.full ∙ i.3,
+      c.take_slot-bad.auto.free ∙ i.4,
+      c.take_slot-bad.auto.low ∙ i.5,
+      c.take_slot-bad.auto.maps ∙ i.6,
+      c.take_slot-bad.auto.others ∙ i.7,
+      c.take_slot-bad.auto.own ∙ i.8,
       c.take_slot-bad.ensures.taken_2,
     )
 
@@ -56,4 +59,4 @@ pub returns : goal.returns
 returns c =
     let a = c.args in
     let turn = c.loop-slot in
-    let done : turn.slot ≡ slots a.mode.width a.table.now = omega (arith, c.slot_count-slots.ensures) in record { value = rw done at turn.invariant.1; listed = taken_listed a.mode.width a.mode.uncounted a.table.now a.places.now turn.near turn.blocks.full turn.blocks.free turn.blocks.low turn.maps (omega (arith, c.requires.width.1)) (rw done at turn.invariant.6) }
+    let done : turn.slot ≡ slots a.mode.width a.table.now = omega (arith, c.slot_count-slots.ensures) in record { value = rw done at turn.invariant.1; listed = taken_listed a.mode.width a.mode.uncounted a.table.now a.places.now turn.near turn.full turn.free turn.low turn.maps (omega (arith, c.requires.width.1)) (rw done at turn.invariant.9) }

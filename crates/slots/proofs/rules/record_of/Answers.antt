@@ -5,4 +5,4 @@ use Rattle.slots.proofs.rules.record_of.Goals as goal
 
 pub returns : goal.returns
 unfolding record_of listed
-returns c = rw (c.wide-3.ensures, c.wide-2.ensures, c.wide.ensures)
+returns c = rw (c.from-3.ensures, c.from-2.ensures, c.from.ensures)
