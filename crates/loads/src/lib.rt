@@ -40,6 +40,16 @@ fn check_meant(table: &[u64], mode: Mode) -> Result<(), Refusal>
     check_pairs(table, &mut near, mode)
 }
 
+// Writes a table's words over another's, a store for each. Not by `copy_from_slice`, which calls memmove: a load is to need memset alone of a program.
+fn copy_words(from: &[u64], to: &mut [u64])
+    requires { length from.now ≡ length to.old }
+    ensures { to.new ≡ from.now }
+{
+    for word in 0..from.len() {
+        to[word] = from[word];
+    }
+}
+
 // The table meant by an image that passes its checks: built in a working table of zeros, checked there, then written.
 fn load_through(
     image: &[u8],
@@ -55,7 +65,7 @@ fn load_through(
     let rules = number_at(image, 2, 2) as usize;
     fill(image, rules, working, mode.width);
     check_meant(working, mode)?;
-    table.copy_from_slice(working);
+    copy_words(working, table);
     Ok(())
 }
 
@@ -103,7 +113,14 @@ fn load_at(image: &[u8], table: &mut [u64], mode: Mode) -> Result<(), Refusal>
     ensures table_after { table.new ≡ load_table mode.width mode.uncounted image.now table.old }
 {
     check_fields(image, table, mode.width)?;
-    load_sized(image, table, mode)
+    // Put together anew: a refusal that is handed on as it lies in memory is read back before its parts are there as one word.
+    match load_sized(image, table, mode) {
+        Ok(()) => Ok(()),
+        Err(refusal) => Err(Refusal {
+            cause: refusal.cause,
+            spot: refusal.spot,
+        }),
+    }
 }
 
 // The table of an image, into the lent table, or a refusal that leaves it as it was.

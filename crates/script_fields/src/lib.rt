@@ -22,11 +22,15 @@ fn is_symbol(byte: u8, last: u8, star: bool) -> bool
     (star & (byte == b'*')) | (low & high)
 }
 
-// Whether each byte of a field is such a symbol.
+// Whether each byte of a field is such a symbol. Each is asked, with no way out at the first that is none, so that several are compared at a time.
 fn all_symbols(field: &[u8], last: u8, star: bool) -> bool
     ensures { result ≡ every (symbol last star) field.now }
 {
-    field.iter().all(|byte| is_symbol(*byte, last, star))
+    let mut good = true;
+    for byte in field {
+        good = good & is_symbol(*byte, last, star);
+    }
+    good
 }
 
 // The number that up to ten digits mean.

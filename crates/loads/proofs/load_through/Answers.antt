@@ -54,8 +54,8 @@ returns-in_err-check_meant c =
     let both = load_unsound w u a.image.now a.table.now {x = Fail _ _} asked.0 (c.in_err-check_meant.ensures ∙ ap (λ (m : List ℕ). or_else (check_twice w m) (check_order w u m)) built) refl in
     record { result_value = ap load_told (is_refusal _ c.from_residual.ensures.1) ∙ both.0; table_after = both.1 }
 
-pub copy_from_slice-requires : goal.copy_from_slice-requires
-copy_from_slice-requires c =
+pub copy_words-requires : goal.copy_words-requires
+copy_words-requires c =
     omega (arith, c.fill.auto.table, ap length c.requires.table_value.1 ∙ length-replicate (length c.args.table.now) 0)
 
 pub returns : goal.returns
@@ -66,4 +66,4 @@ returns c =
     let asked = c.requires.table_value in
     let built = meant_built w a.image.now (length a.table.now) c.number_at-rules.ensures asked.1 c.fill.ensures in
     let p = load_written w u a.image.now a.table.now {x = Pass} asked.0 (c.in_ok-check_meant.ensures ∙ ap (λ (m : List ℕ). or_else (check_twice w m) (check_order w u m)) built) refl in
-    record { result_value = p.0; table_after = c.copy_from_slice.ensures.after ∙ (built ∙ p.1) }
+    record { result_value = p.0; table_after = c.copy_words.ensures ∙ (built ∙ p.1) }
