@@ -4,7 +4,7 @@
 
 ghost use Rattle.std.specs.Prelude.{◌≡◌, ◌&&◌, [], ◌∷◌, ℕ, ◌+◌, ◌*◌, ◌≤◌, ◌<◌, length};
 ghost use Rattle.ternary.specs.Pattern.{within, full_mask};
-ghost use Rattle.records.specs.Verdict.{checked};
+ghost use Rattle.records.specs.Verdict.{checked, Pass};
 ghost use Rattle.records.specs.Record.{most_slots, listed, mask, rank_fits, put_slot};
 ghost use Rattle.records.specs.Order.{slots as slots_of};
 ghost use Rattle.records.specs.Checks.{or_else, check_shape};
@@ -91,6 +91,31 @@ fn check_entry(
         });
     }
     Ok(())
+}
+
+// How many entries pass, from the first on: all, or those below one to look at. A screen for `check_entry`, which tells which field is wrong: a loop that
+// makes no refusal keeps what it needs in registers, and it reads each slot once.
+fn skip_passing(image: &[u8], slots: usize, rules: usize, width: usize) -> usize
+    requires { (Width width) × (rules ≤ most_slots) × (image_bytes width rules ≤ length image.now) }
+    ensures { (result ≤ rules) × ((k : ℕ) → k < result → check_entry width image.now slots rules k ≡ Pass) }
+{
+    let mut lowest = 0;
+    for entry in 0..rules {
+        let at = entry_place(entry);
+        if number_at(image, at, 4) == 0 {
+            return entry;
+        }
+        let slot = number_at(image, at + 4, 2);
+        if !((lowest <= slot) & (slot < slots as u64)) {
+            return entry;
+        }
+        let offset = number_at(image, at + 6, 4) as usize;
+        if offset != body_place(width, rules, entry) {
+            return entry;
+        }
+        lowest = slot + 1;
+    }
+    rules
 }
 
 // Puts the value and mask words of a body into a table, from a word on.
@@ -232,12 +257,12 @@ fn check_body(image: &[u8], rules: usize, entry: usize, width: usize) -> Result<
     })
 }
 
-// Each contents entry in turn.
+// Each contents entry in turn, from the first that does not pass the screen.
 fn check_contents(image: &[u8], slots: usize, rules: usize, width: usize) -> Result<(), Refusal>
     requires { (Width width) × (rules ≤ most_slots) × (image_bytes width rules ≤ length image.now) }
     ensures { checked result ≡ check_contents width image.now slots rules }
 {
-    for entry in 0..rules {
+    for entry in skip_passing(image, slots, rules, width)..rules {
         check_entry(image, slots, rules, entry, width)?;
     }
     Ok(())

@@ -5,11 +5,11 @@ use native.Mathlib.Omega.{arith}
 use Rattle.records.specs.Verdict.{checked, Pass, Fail}
 use Rattle.records.proofs.Laws.{is_refusal}
 use Rattle.image.specs.Checks.{check_contents}
-use Rattle.image.proofs.ChecksLaws.{pass_start, pass_more, turn_fails, turn_passes}
+use Rattle.image.proofs.ChecksLaws.{pass_more, turn_fails, turn_passes}
 use Rattle.image_checks.proofs.check_contents.Goals as goal
 
 pub loop-entry-init : goal.loop-entry-init
-loop-entry-init c = pass_start _ _
+loop-entry-init c = c.skip_passing-entry.ensures
 
 pub returns-in_err-check_entry : goal.returns-in_err-check_entry
 unfolding check_contents
