@@ -111,25 +111,19 @@ fn lookup_command(key: &[u8]) -> Command
     Command::Malformed
 }
 
-// All four fields are asked before any is told apart: behind a way out after each the compiler keeps the counters of the loops in memory, which takes half
-// as long again.
 fn insert_command(id: &[u8], priority: &[u8], pattern: &[u8], action: &[u8]) -> Command
     ensures { result ≡ insert_command id.now priority.now pattern.now action.now }
 {
-    let id_number = number_in(id);
-    let priority_number = number_in(priority);
-    let action_number = number_in(action);
-    let good = is_symbol_field(pattern, true);
-    let Some(id) = id_number else {
+    let Some(id) = number_in(id) else {
         return Command::Malformed;
     };
-    let Some(priority) = priority_number else {
+    let Some(priority) = number_in(priority) else {
         return Command::Malformed;
     };
-    let Some(action) = action_number else {
+    let Some(action) = number_in(action) else {
         return Command::Malformed;
     };
-    if !good {
+    if !is_symbol_field(pattern, true) {
         return Command::Malformed;
     }
     Command::Insert(Insertion {

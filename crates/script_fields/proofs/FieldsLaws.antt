@@ -1,6 +1,6 @@
 -- Laws on fields, one byte more, and how large the numbers read can get.
 -- For loops over a field, and for the tests of a number.
-use Rattle.std.specs.Prelude.{◌≡◌, Bool, true, false, ◌&&◌, List, [], ◌∷◌, ℕ, zero, suc, ◌+◌, ◌-◌, ◌*◌, ◌^◌, ◌≤◌, ◌<◌, ltb, length, get_or, drop, None, Some, Result, Ok, Err, OkIff}
+use Rattle.std.specs.Prelude.{◌≡◌, Bool, true, false, List, [], ◌∷◌, ℕ, zero, suc, ◌+◌, ◌-◌, ◌*◌, ◌^◌, ◌≤◌, ◌<◌, ltb, length, get_or, drop, None, Some, Result, Ok, Err, OkIff}
 use Rattle.std.specs.Result.{result_ok}
 use Rattle.std.proofs.Common.{sym, ap, ◌∙◌, ⊎_elim, arith, add-one, pow-suc, drop_of_length-le, pow_mono, drop-cons}
 use Rattle.std.proofs.Math.Decide.{dec_lt}
@@ -20,10 +20,6 @@ module _ (p : ℕ → Bool) (x : List ℕ) where
   pub every_stop : (at : ℕ) → at < length x → p (get_or x at 0) ≡ false → every p (drop at x) ≡ false
   unfolding every
   every_stop at h e = rw (drop-cons x at 0 h, e)
-
-  pub every_next : (at : ℕ) → at < length x → every p (drop at x) ≡ (p (get_or x at 0) && every p (drop (at + 1) x))
-  unfolding every
-  every_next at h = rw (drop-cons x at 0 h, add-one)
 
   pub every_end : (at : ℕ) → length x ≤ at → every p (drop at x) ≡ true
   unfolding every

@@ -22,15 +22,11 @@ fn is_symbol(byte: u8, last: u8, star: bool) -> bool
     (star & (byte == b'*')) | (low & high)
 }
 
-// Whether each byte of a field is such a symbol. Each is asked, with no way out at the first that is none, so that several are compared at a time.
+// Whether each byte of a field is such a symbol.
 fn all_symbols(field: &[u8], last: u8, star: bool) -> bool
     ensures { result ≡ every (symbol last star) field.now }
 {
-    let mut good = true;
-    for byte in field {
-        good = good & is_symbol(*byte, last, star);
-    }
-    good
+    field.iter().all(|byte| is_symbol(*byte, last, star))
 }
 
 // The number that up to ten digits mean.
@@ -47,6 +43,8 @@ fn decimal_of(field: &[u8]) -> u64
 }
 
 // The number in a field of 1 to 10 decimal digits, where it fits 32 bits.
+// Not inlined, as `part_end` (script_text): its loops keep their counters in registers.
+#[inline(never)]
 pub fn number_in(field: &[u8]) -> Option<u32>
     ensures { result ≡ number_option field.now }
 {
@@ -65,6 +63,8 @@ pub fn number_in(field: &[u8]) -> Option<u32>
 }
 
 // Whether a field has 1 to 128 symbols, stars among them where they are allowed.
+// Not inlined, as `number_in`.
+#[inline(never)]
 pub fn is_symbol_field(field: &[u8], star: bool) -> bool
     ensures { result ≡ symbol_field star field.now }
 {
@@ -104,6 +104,8 @@ fn symbol_word(field: &[u8], from: usize, zeros: bool) -> u64
 }
 
 // The bits of 128 symbols.
+// Not inlined, as `number_in`.
+#[inline(never)]
 pub fn symbol_words(field: &[u8], zeros: bool) -> TwoWords
     ensures { result ≡ symbol_words (bit_of zeros) field.now }
 {

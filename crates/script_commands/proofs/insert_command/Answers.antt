@@ -6,28 +6,24 @@ use Rattle.script_commands.proofs.insert_command.Goals as goal
 
 pub returns-in_default : goal.returns-in_default
 returns-in_default c =
-    let a = c.args in
-    id_none a.id.now a.priority.now a.pattern.now a.action.now (sym c.in_default.is ∙ c.number_in-id_number.ensures)
+    let a = c.args in id_none a.id.now a.priority.now a.pattern.now a.action.now c.in_default.ensures
 
-pub returns-in_default-priority_number : goal.returns-in_default-priority_number
-returns-in_default-priority_number c =
-    let a = c.args in
-    priority_none a.id.now a.priority.now a.pattern.now a.action.now (sym c.in_default-priority_number.is ∙ c.number_in-priority_number.ensures)
+pub returns-in_default-number_in : goal.returns-in_default-number_in
+returns-in_default-number_in c =
+    let a = c.args in priority_none a.id.now a.priority.now a.pattern.now a.action.now c.in_default-number_in.ensures
 
-pub returns-in_default-action_number : goal.returns-in_default-action_number
-returns-in_default-action_number c =
-    let a = c.args in
-    action_none a.id.now a.priority.now a.pattern.now a.action.now (sym c.in_default-action_number.is ∙ c.number_in-action_number.ensures)
+pub returns-in_default-number_in-2 : goal.returns-in_default-number_in-2
+returns-in_default-number_in-2 c =
+    let a = c.args in action_none a.id.now a.priority.now a.pattern.now a.action.now c.in_default-number_in-2.ensures
 
-pub returns-then-not-good : goal.returns-then-not-good
-returns-then-not-good c =
+pub returns-then-not-is_symbol_field : goal.returns-then-not-is_symbol_field
+returns-then-not-is_symbol_field c =
     let a = c.args in
-    pattern_bad a.id.now a.priority.now a.pattern.now a.action.now (sym c.is_symbol_field-good.ensures ∙ c.if-not-good.true)
+    pattern_bad a.id.now a.priority.now a.pattern.now a.action.now (sym c.is_symbol_field.ensures ∙ c.if-not-is_symbol_field.true)
 
 pub returns : goal.returns
 returns c =
     let a = c.args in
-    let good = sym c.is_symbol_field-good.ensures ∙ c.if-not-good.false in
+    let good = sym c.is_symbol_field.ensures ∙ c.if-not-is_symbol_field.false in
     insert_told a.id.now a.priority.now a.pattern.now a.action.now _ _ _ _ _
-    (sym c.in-Some.is ∙ c.number_in-id_number.ensures) (sym c.in-Some-priority_number.is ∙ c.number_in-priority_number.ensures)
-    (sym c.in-Some-action_number.is ∙ c.number_in-action_number.ensures) good c.symbol_words.ensures c.symbol_words-2.ensures
+    c.in-Some.ensures c.in-Some-number_in.ensures c.in-Some-number_in-2.ensures good c.symbol_words.ensures c.symbol_words-2.ensures
